@@ -1,0 +1,305 @@
+//! The aliases of all programs.
+ghost use Rattle.std.specs.Prelude.{◌≡◌, ℕ, ◌≤◌, ◌<◌, ◌+◌, ◌-◌, ◌||◌, ◌==◌, ◌↔◌, List, [], ◌∷◌, Bool, not, false, true, is_some, Some, None, length, position, slice_index_or, option_copied, unwrap_or, IfOk, IfErr, IsErr, IsOk, OnErr, OnOk, IsTrue, MatchOption, if◌then◌else◌, nat_lt, vec_len, vec_capacity};
+ghost use Rattle.std.specs.List.{list_any};
+ghost use Rattle.std.specs.Bool.{OnFalse};
+ghost use Rattle.con_units.specs.Stored.{is_control};
+ghost use Rattle.con_alias.specs.Aliases.{AliasTable, AliasList, Entry, Prepared, same_units, entry_of, find_entry, entries_in, is_known, is_text, has_control, is_bad, is_no_source, room_for, place_of, changed_in, added, add_answer, alias_at, removed, remove_answer, with_room};
+ghost use Rattle.con_alias.specs.Expansion.{expansion};
+
+use crate::alias::Alias;
+use crate::expand::{append, behind_word, fits, spell, word};
+use crate::program::ProgramAliases;
+use crate::room::AliasRoom;
+use con_units::{Code, OutOfMemory, Units};
+use std::alloc::Global;
+use std::marker::Model;
+
+const SOURCE_UNITS: usize = 255;
+
+const TARGET_UNITS: usize = 1024;
+
+/// An alias: its source as it was written first, and its target.
+#[derive(Drop)]
+pub struct Pair<'a> {
+    pub source: &'a Units,
+    pub target: &'a Units,
+}
+
+/// The aliases of all programs.
+#[derive(Drop)]
+pub struct Aliases {
+    programs: Vec<ProgramAliases>,
+    spare: usize,
+}
+
+impl Model for Aliases {
+    ghost use Rattle.std.specs.Prelude.{◌≤◌, ◌+◌, vec_len, vec_capacity};
+    ghost use Rattle.con_alias.specs.Aliases.{AliasTable};
+
+    ghost Value = { AliasTable };
+
+    ghost view = { λ a. record { programs = a.programs.items; spare = a.spare } };
+
+    ghost invariant = { λ a. vec_len a.programs + a.spare ≤ vec_capacity a.programs };
+}
+
+// The place of a program's list.
+fn position(programs: &[ProgramAliases], program: &Units) -> Option<usize>
+    ensures { result ≡ position (λ l. same_units l.program program.now) programs.now }
+{
+    programs.iter().position(|list| list.is_of(program))
+}
+
+// Where a program's list stands, or how many there are.
+fn place(programs: &[ProgramAliases], program: &Units) -> usize
+    ensures place { result ≡ place_of program.now programs.now }
+    ensures within { result ≤ length programs.now }
+{
+    match position(programs, program) {
+        Some(k) => k,
+        None => programs.len(),
+    }
+}
+
+fn is_length(text: &Units, most: usize) -> bool
+    ensures { result ≡ is_text 1 most text.now }
+{
+    1 <= text.len() && text.len() <= most
+}
+
+fn is_any_control(text: &[u16]) -> bool
+    ensures { result ≡ has_control text.now }
+{
+    text.iter()
+        .any(|unit| *unit < 0x20 || (0x7F <= *unit && *unit <= 0x9F))
+}
+
+fn is_any_space(text: &[u16]) -> bool
+    ensures { result ≡ list_any (λ u. u == 32) text.now }
+{
+    text.iter().any(|unit| *unit == 32)
+}
+
+// Whether texts are refused.
+fn refused(program: &Units, source: &Units, target: &Units) -> bool
+    ensures refused { result ≡ is_bad program.now source.now target.now }
+    ensures source { OnFalse result (length source.now ≤ 255) }
+    ensures target { OnFalse result (length target.now ≤ 1024) }
+{
+    !is_length(program, SOURCE_UNITS)
+        || !is_length(source, SOURCE_UNITS)
+        || !is_length(target, TARGET_UNITS)
+        || is_any_space(source.as_slice())
+        || is_any_control(source.as_slice())
+        || is_any_control(target.as_slice())
+}
+
+// Whether a source is one that no alias can have.
+fn is_no_source(source: &[u16]) -> bool
+    ensures { result ≡ is_no_source source.now }
+{
+    source.is_empty() || SOURCE_UNITS < source.len()
+}
+
+// Ok, or else this code.
+fn answer(ok: bool, code: Code) -> Result<(), Code>
+    ensures { result ≡ (if ok then Ok tt else Err code) }
+{
+    if ok { Ok(()) } else { Err(code) }
+}
+
+// The program's list.
+fn list_of<'a>(programs: &'a [ProgramAliases], program: &Units) -> Option<&'a ProgramAliases>
+    ensures { MatchOption result (entries_in programs.now program.now ≡ []) (λ l. l.now.entries ≡ entries_in programs.now program.now) }
+{
+    let known = place(programs, program);
+    if known < programs.len() {
+        Some(&programs[known])
+    } else {
+        None
+    }
+}
+
+// The alias in memory of its own.
+fn copied(source: &Units, target: &Units) -> Result<Alias, OutOfMemory>
+    requires { length target.now ≤ 1024 }
+    ensures { IfOk result (λ e. e ≡ entry_of source.now target.now) }
+{
+    let source = source.copied()?;
+    let target = target.copied()?;
+    Ok(Alias::new(source, target))
+}
+
+impl Aliases {
+    /// No alias.
+    pub fn new(alloc: Global) -> Aliases
+        ensures { result ≡ record { programs = []; spare = 0 } }
+    {
+        Aliases {
+            programs: Vec::new(alloc),
+            spare: 0,
+        }
+    }
+
+    /// Makes room for [`add`](Aliases::add) of these texts, and changes nothing that is shown.
+    pub fn add_room(
+        &mut self,
+        program: &Units,
+        source: &Units,
+        target: &Units,
+    ) -> Result<AliasRoom, OutOfMemory>
+        ensures room { IfOk result (λ room. room ≡ room_for self.old program.now source.now target.now) }
+        ensures ok { OnOk result (self.new ≡ with_room self.old) }
+        ensures err { OnErr result (self.new.programs ≡ self.old.programs) }
+    {
+        let alloc = *self.programs.allocator();
+        if self.spare == 0 {
+            if self.programs.reserve(1).is_err() {
+                return Err(OutOfMemory);
+            }
+            self.spare = 1;
+        }
+        if refused(program, source, target) {
+            return Ok(AliasRoom {
+                new: None,
+                list: None,
+            });
+        }
+        let new = copied(source, target)?;
+        if place(&self.programs, program) < self.programs.len() {
+            return Ok(AliasRoom {
+                new: Some(new),
+                list: None,
+            });
+        }
+        let list = ProgramAliases::new(alloc, program)?;
+        Ok(AliasRoom {
+            new: Some(new),
+            list: Some(list),
+        })
+    }
+
+    /// Adds an alias for a program; a present source keeps its place and its first spelling and takes the new target.
+    /// Refused as a bad argument: a program or source not of 1 to 255 units, a target not of 1 to 1,024, a space in the
+    /// source, a control in source or target. Refused at the limit: 256 are there and this one is new.
+    pub fn add(
+        &mut self,
+        program: &Units,
+        source: &Units,
+        target: &Units,
+        room: AliasRoom,
+    ) -> Result<(), Code>
+        requires room { room ≡ room_for self.old program.now source.now target.now }
+        requires spare { 0 < self.old.spare }
+        ensures aliases { self.new ≡ added self.old program.now source.now target.now }
+        ensures refused { result ≡ add_answer self.old program.now source.now target.now }
+    {
+        if refused(program, source, target) {
+            return Err(Code::BadArgument);
+        }
+        let AliasRoom { new, list } = room;
+        let Some(new) = new else { unreachable!() };
+        let known = place(&self.programs, program);
+        if known < self.programs.len() {
+            return answer(self.programs[known].add(new), Code::Limit);
+        }
+        let Some(mut list) = list else { unreachable!() };
+        list.add(new);
+        self.programs.push_reserved(list);
+        self.spare -= 1;
+        Ok(())
+    }
+
+    /// Removes a program's alias. Refused where it has no such alias.
+    pub fn remove(&mut self, program: &Units, source: &Units) -> Result<(), Code>
+        ensures aliases { self.new ≡ removed self.old program.now source.now }
+        ensures answer { result ≡ remove_answer self.old program.now source.now }
+    {
+        let units = source.as_slice();
+        if is_no_source(units) {
+            return Err(Code::NoAlias);
+        }
+        let known = place(&self.programs, program);
+        if known < self.programs.len() {
+            return answer(self.programs[known].remove(units), Code::NoAlias);
+        }
+        Err(Code::NoAlias)
+    }
+
+    // The alias that a source names.
+    fn find(&self, program: &Units, source: &[u16]) -> Option<&Alias>
+        ensures { option_copied result ≡ alias_at self.now program.now source.now }
+    {
+        if is_no_source(source) {
+            return None;
+        }
+        match list_of(&self.programs, program) {
+            Some(list) => list.find(source),
+            None => None,
+        }
+    }
+
+    /// The target of a program's alias. Refused where it has no such alias.
+    pub fn get(&self, program: &Units, source: &Units) -> Result<&Units, Code>
+        ensures { MatchOption (alias_at self.now program.now source.now) (result ≡ Err Code.NoAlias) (λ e. IfOk result (λ t. t.now ≡ e.target) × IsOk result) }
+    {
+        match self.find(program, source.as_slice()) {
+            Some(alias) => Ok(alias.target()),
+            None => Err(Code::NoAlias),
+        }
+    }
+
+    /// How many aliases a program has.
+    pub fn count(&self, program: &Units) -> usize
+        ensures { result ≡ length (entries_in self.now.programs program.now) }
+    {
+        match list_of(&self.programs, program) {
+            Some(list) => list.count(),
+            None => 0,
+        }
+    }
+
+    /// A program's alias at a place, from 0, in order of insertion.
+    pub fn at(&self, program: &Units, k: usize) -> Pair<'_>
+        requires { k < length (entries_in self.now.programs program.now) }
+        ensures source { (d : Entry) → result.source.now ≡ (slice_index_or (entries_in self.now.programs program.now) k d).source }
+        ensures target { (d : Entry) → result.target.now ≡ (slice_index_or (entries_in self.now.programs program.now) k d).target }
+    {
+        match list_of(&self.programs, program) {
+            Some(list) => {
+                let alias = list.at(k);
+                Pair {
+                    source: alias.source(),
+                    target: alias.target(),
+                }
+            }
+            None => unreachable!(),
+        }
+    }
+
+    /// Writes the lines that a line stands for, each ended by CR LF, by the program's alias that the first word names.
+    /// False, and nothing is written, where it is left as it is: where there is no such alias, or where the lines have
+    /// more than 4,096 units without their ends.
+    pub fn expand(&self, program: &Units, line: &[u16], out: &mut Vec<u16>) -> bool
+        requires line { length line.now ≤ 1024 }
+        requires empty { out.old.items ≡ [] }
+        requires spare { 5122 ≤ vec_capacity out.old }
+        ensures lines { out.new.items ≡ unwrap_or (expansion self.now program.now line.now) [] }
+        ensures answer { result ≡ is_some (expansion self.now program.now line.now) }
+        ensures room { vec_capacity out.old ≤ vec_capacity out.new }
+    {
+        let rest = behind_word(line);
+        match self.find(program, word(line)) {
+            Some(alias) => {
+                let target = alias.target().as_slice();
+                if fits(target, rest) {
+                    spell(target, rest, out);
+                    append(out, &[13, 10]);
+                    return true;
+                }
+                false
+            }
+            None => false,
+        }
+    }
+}

@@ -1,0 +1,9 @@
+pub mod Views
+pub mod Steps
+pub mod Entering
+pub mod Turns
+pub mod Opening
+pub mod Pigeons
+pub mod Passes
+pub mod Closing
+pub mod Among

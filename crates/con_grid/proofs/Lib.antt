@@ -1,0 +1,4 @@
+pub mod FillLemmas
+pub mod MarksLemmas
+pub mod ResizedLemmas
+pub mod RingLemmas

@@ -1,0 +1,4 @@
+pub mod Picture
+pub mod Marks
+pub mod Run
+pub mod Ring

@@ -1,0 +1,148 @@
+//! Changes of cells that lie in a row, and of marks.
+ghost use Rattle.std.specs.Prelude.{◌≡◌, ℕ, ◌+◌, ◌-◌, ◌*◌, ◌<◌, ◌≤◌, ◌++◌, ◌^◌, length, take, drop, replicate, true, slice_index_or, IfOk};
+ghost use Rattle.con_grid.specs.Picture.{filled, lifted, lowered, part_lifted, part_lowered, glyphs_of, units_put, resized_cells};
+ghost use Rattle.con_grid.specs.Run.{CoversRun};
+
+use crate::ring::Ring;
+use con_units::{Attr, Cell, OutOfMemory};
+use std::alloc::Global;
+
+/// So many cells.
+pub fn repeated(alloc: Global, count: usize, cell: Cell) -> Result<Vec<Cell>, OutOfMemory>
+    ensures { IfOk result (λ v. v.items ≡ replicate count cell) }
+{
+    let mut cells = Vec::new(alloc);
+    if cells.resize(count, cell).is_err() {
+        return Err(OutOfMemory);
+    }
+    Ok(cells)
+}
+
+/// Writes a cell over the cells from one place up to another.
+#[tactic(auto, unfolding(crate::specs::Picture::filled))]
+pub fn fill(cells: &mut [Cell], from: usize, upto: usize, cell: Cell)
+    requires order { from ≤ upto }
+    requires inside { upto ≤ length cells.old }
+    ensures { cells.new ≡ filled cells.old from upto cell }
+{
+    for at in from..upto {
+        cells[at] = cell;
+    }
+}
+
+/// Sets the marks of the rows from one up to another.
+pub fn mark(marks: &mut [bool], from: usize, upto: usize, on: bool)
+    requires order { from ≤ upto }
+    requires inside { upto ≤ length marks.old }
+    ensures { marks.new ≡ take from marks.old ++ (replicate (upto - from) on ++ drop upto marks.old) }
+{
+    for at in from..upto {
+        marks[at] = on;
+    }
+}
+
+/// Marks the rows of the cells from one place up to another.
+pub fn mark_run(marks: &mut [bool], width: usize, from: usize, upto: usize)
+    requires wide { 0 < width }
+    requires order { from ≤ upto }
+    requires inside { upto ≤ width * length marks.old }
+    ensures { CoversRun marks.old marks.new width from upto }
+{
+    if from == upto {
+        return;
+    }
+    let first = from / width;
+    let last = (upto - 1) / width;
+    mark(marks, first, last + 1, true);
+}
+
+/// Lifts all cells.
+#[tactic(auto, unfolding(crate::specs::Picture::lifted, crate::specs::Picture::filled))]
+pub fn lift(cells: &mut [Cell], by: usize, cell: Cell)
+    ensures { cells.new ≡ lifted cells.old by cell }
+{
+    let len = cells.len();
+    let by = by.min(len);
+    cells.rotate_left(by);
+    fill(cells, len - by, len, cell);
+}
+
+/// Lowers all cells.
+#[tactic(auto, unfolding(crate::specs::Picture::lowered, crate::specs::Picture::filled))]
+pub fn lower(cells: &mut [Cell], by: usize, cell: Cell)
+    ensures { cells.new ≡ lowered cells.old by cell }
+{
+    let len = cells.len();
+    let by = by.min(len);
+    cells.rotate_right(by);
+    fill(cells, 0, by, cell);
+}
+
+/// Lifts the cells from one place up to another.
+#[tactic(auto, unfolding(crate::specs::Picture::part_lifted))]
+pub fn lift_part(cells: &mut [Cell], from: usize, upto: usize, by: usize, cell: Cell)
+    requires order { from ≤ upto }
+    requires inside { upto ≤ length cells.old }
+    ensures { cells.new ≡ part_lifted cells.old from upto by cell }
+{
+    lift(&mut cells[from..upto], by, cell);
+}
+
+/// Lowers the cells from one place up to another.
+#[tactic(auto, unfolding(crate::specs::Picture::part_lowered))]
+pub fn lower_part(cells: &mut [Cell], from: usize, upto: usize, by: usize, cell: Cell)
+    requires order { from ≤ upto }
+    requires inside { upto ≤ length cells.old }
+    ensures { cells.new ≡ part_lowered cells.old from upto by cell }
+{
+    lower(&mut cells[from..upto], by, cell);
+}
+
+/// Makes the cells those that show the units in a word.
+pub fn show(row: &mut [Cell], units: &[u16], attr: Attr)
+    requires { length row.old ≡ length units.now }
+    ensures { row.new ≡ glyphs_of units.now attr }
+{
+    for (k, unit) in units.iter().enumerate() {
+        row[k] = Cell::new(*unit, attr);
+    }
+}
+
+/// Writes the cells that show the units in a word, from one place on.
+#[tactic(auto, unfolding(crate::specs::Picture::units_put))]
+pub fn put_units(cells: &mut [Cell], at: usize, units: &[u16], attr: Attr)
+    requires { at + length units.now ≤ length cells.old }
+    ensures { cells.new ≡ units_put cells.old at units.now attr }
+{
+    show(&mut cells[at..at + units.len()], units, attr);
+}
+
+/// Writes over the cells of a grid of one width those of another, without its first rows.
+#[tactic(auto, unfolding(crate::specs::Picture::resized_cells))]
+pub fn copy_cells(
+    cells: &mut [Cell],
+    width: usize,
+    old: &Ring,
+    old_width: usize,
+    old_height: usize,
+    lost: usize,
+    blank: Cell,
+)
+    requires wide { 0 < width }
+    requires few { length cells.old ≤ 2 ^ 20 }
+    requires lost { lost < 2 ^ 16 }
+    requires narrow { old_width ≤ 512 }
+    requires low { old_height ≤ 2048 }
+    requires old { length old.now ≡ old_width * old_height }
+    ensures { (h : ℕ) → length cells.old ≡ width * h → cells.new ≡ resized_cells old.now old_width width h lost blank }
+{
+    for i in 0..cells.len() {
+        let x = i % width;
+        let y = i / width + lost;
+        cells[i] = if x < old_width && y < old_height {
+            old.get(y * old_width + x)
+        } else {
+            blank
+        };
+    }
+}

@@ -1,0 +1,36 @@
+// Kind 4.
+ghost use Rattle.std.specs.Prelude.{◌≡◌, ◌==◌, not};
+
+use crate::handler::{CtrlHandler, one_more};
+
+/// Handles every event but ctrl+C.
+#[derive(Drop, Debug)]
+pub struct Tally {
+    asked: u64,
+    last: u32,
+}
+
+impl CtrlHandler for Tally {
+    ghost asked = { λ h. h.asked };
+
+    ghost last = { λ h. h.last };
+
+    ghost will = { λ _ event. not (event == 0) };
+
+    ghost kind = { λ _. 4 };
+
+    fn handle(&mut self, event: u32) -> bool {
+        self.asked = one_more(self.asked);
+        self.last = event;
+        event != 0
+    }
+}
+
+impl Tally {
+    /// One that was never asked.
+    pub fn new() -> Tally
+        ensures { ⟦<Tally as CtrlHandler>⟧.asked result ≡ 0 }
+    {
+        Tally { asked: 0, last: 0 }
+    }
+}

@@ -1,0 +1,107 @@
+// The table.
+ghost use Rattle.std.specs.Prelude.{◌≡◌, ℕ, ◌+◌, ◌-◌, ◌<◌, ◌≤◌, List, [], IfSome, OnOk, OnErr, true, option_map, vec_len, ◌↔◌, Err};
+ghost use Rattle.con_handles.specs.Handles.{Table, look, new_number, count_of, opened, closed, object_of, least_of, is_used, taken, with_room};
+
+use crate::handle::{Handle, Held, Kind, Object};
+use crate::places;
+use con_units::{Code, OutOfMemory};
+use std::alloc::Global;
+use std::marker::Model;
+
+/// The handles of all processes. Contracts also see for how many more there is room.
+#[derive(Drop)]
+pub struct Handles {
+    places: Vec<Option<Held>>,
+    spare: usize,
+}
+
+impl Model for Handles {
+    ghost use Rattle.std.specs.Prelude.{◌*◌, ◌≤◌, vec_len};
+    ghost use Rattle.con_handles.specs.Handles.{Table};
+    ghost use Rattle.con_handles.specs.Places.{listed};
+
+    ghost Value = { Table };
+
+    ghost view = { λ a. record { open_ones = listed 0 a.places.items; spare = a.spare } };
+
+    ghost invariant = { λ a. (a.spare ≤ 1) × (a.spare * 16384 ≤ vec_len a.places) };
+}
+
+impl Handles {
+    /// A table with no handle, and room for none.
+    #[tactic(auto, unfolding(crate::specs::Places::listed))]
+    pub fn new(alloc: Global) -> Handles
+        ensures { result ≡ record { open_ones = []; spare = 0 } }
+    {
+        Handles {
+            places: Vec::new(alloc),
+            spare: 0,
+        }
+    }
+
+    /// Makes room for one handle.
+    pub fn reserve(&mut self) -> Result<(), OutOfMemory>
+        ensures ok { OnOk result (self.new ≡ with_room self.old) }
+        ensures err { OnErr result (self.new ≡ self.old) }
+    {
+        if self.spare < 1 {
+            places::fill(&mut self.places)?;
+            self.spare = 1;
+        }
+        Ok(())
+    }
+
+    /// Opens the process's least free number, from 1 on. `Limit`: the process has 64.
+    pub fn open(&mut self, process: u8, object: Object, rights: u8) -> Result<u32, Code>
+        requires { 0 < self.old.spare }
+        ensures number { result ≡ new_number self.old.open_ones process }
+        ensures state { self.new ≡ opened self.old process object rights }
+        ensures limit { (result ≡ Err Code.Limit) ↔ (count_of self.old.open_ones process ≡ 64) }
+    {
+        let number = places::first_free(self.places.as_slice(), process);
+        if number > places::MOST {
+            return Err(Code::Limit);
+        }
+        let held = Held { object, rights };
+        places::put(self.places.as_mut_slice(), process, number, held);
+        self.spare = 0;
+        Ok(number)
+    }
+
+    /// What a handle stands for. `BadHandle`: the process has no such number, or it is of another kind; `Denied`: a bit
+    /// of `right` is missing.
+    pub fn look(&self, process: u8, handle: u32, kind: Kind, right: u8) -> Result<Object, Code>
+        ensures { result ≡ look self.now.open_ones process handle kind right }
+    {
+        match places::found(self.places.as_slice(), process, handle) {
+            Some(one) => places::may(one, kind, right),
+            None => Err(Code::BadHandle),
+        }
+    }
+
+    /// Removes a handle, and gives what it stood for. `BadHandle`: the process has no such number.
+    pub fn close(&mut self, process: u8, handle: u32) -> Result<Object, Code>
+        ensures object { result ≡ object_of self.old.open_ones process handle }
+        ensures ok { OnOk result (self.new ≡ closed self.old process handle) }
+        ensures err { OnErr result (self.new ≡ self.old) }
+    {
+        match places::found(self.places.as_slice(), process, handle) {
+            Some(one) => {
+                places::remove(self.places.as_mut_slice(), process, handle);
+                Ok(one.object)
+            }
+            None => Err(Code::BadHandle),
+        }
+    }
+
+    /// Removes the process's handle with the least number, and gives what it stood for. None: it has no handle.
+    pub fn take_any(&mut self, process: u8) -> Option<Object>
+        ensures object { result ≡ option_map (λ h. h.object) (least_of self.old.open_ones process) }
+        ensures state { self.new ≡ taken self.old process }
+        ensures least { IfSome (least_of self.old.open_ones process) (λ h. (m : ℕ) → is_used self.old.open_ones process m ≡ true → h.number ≤ m) }
+    {
+        let one = places::least(self.places.as_slice(), process)?;
+        places::remove(self.places.as_mut_slice(), process, one.number);
+        Some(one.object)
+    }
+}

@@ -1,0 +1,73 @@
+//! Room that is made before a call that takes no memory.
+ghost use Rattle.std.specs.Prelude.{◌≡◌, [], IfOk};
+
+use crate::history::History;
+use circular_buffer::HeapCircularBuffer;
+use con_units::{OutOfMemory, Units};
+use std::alloc::Global;
+use std::marker::Model;
+
+/// Room for [`Histories::use_of`](crate::Histories::use_of): an empty history, where the program has none.
+#[derive(Drop)]
+pub struct HistoryRoom {
+    pub(crate) fresh: Option<History>,
+}
+
+impl Model for HistoryRoom {
+    ghost use Rattle.std.specs.Prelude.{Option};
+    ghost use Rattle.con_history.specs.Histories.{ProgramLines};
+
+    ghost Value = { Option ProgramLines };
+
+    ghost view = { λ room. room.fresh };
+}
+
+/// An empty buffer for lines. Contracts see how many fit.
+#[derive(Drop)]
+pub struct EmptyLines {
+    lines: HeapCircularBuffer<Units>,
+}
+
+impl Model for EmptyLines {
+    ghost use Rattle.std.specs.Prelude.{ℕ, ◌≡◌, []};
+
+    ghost Value = { ℕ };
+
+    ghost view = { λ empty. empty.lines.capacity };
+
+    ghost invariant = { λ empty. empty.lines.items ≡ [] };
+}
+
+impl EmptyLines {
+    /// Memory for so many lines.
+    pub fn new(alloc: Global, limit: usize) -> Result<EmptyLines, OutOfMemory>
+        ensures { IfOk result (λ empty. empty ≡ limit) }
+    {
+        match HeapCircularBuffer::with_capacity(alloc, limit) {
+            Ok(lines) => Ok(EmptyLines { lines }),
+            Err(_) => Err(OutOfMemory),
+        }
+    }
+
+    /// The buffer itself.
+    pub fn into_lines(self) -> HeapCircularBuffer<Units>
+        ensures empty { result.items ≡ [] }
+        ensures capacity { result.capacity ≡ self }
+    {
+        self.lines
+    }
+}
+
+/// Room for [`Histories::configure`](crate::Histories::configure): a buffer of the new capacity for each history that stays.
+#[derive(Drop)]
+pub struct ConfigRoom {
+    pub(crate) buffers: Vec<EmptyLines>,
+}
+
+impl Model for ConfigRoom {
+    ghost use Rattle.std.specs.Prelude.{List, ℕ};
+
+    ghost Value = { List ℕ };
+
+    ghost view = { λ room. room.buffers.items };
+}

@@ -1,0 +1,11 @@
+pub mod Words
+pub mod Link
+pub mod Encoded
+pub mod Ending
+pub mod Playing
+pub mod PlayedInTurn
+pub mod Typing
+pub mod TypistView
+pub mod WrittenInTurn
+pub mod TypedInTurn
+pub mod Hosting

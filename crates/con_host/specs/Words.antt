@@ -1,0 +1,74 @@
+-- Which words are a form.
+use Rattle.std.specs.Prelude.{◌≡◌, ℕ, ◌+◌, ◌-◌, ◌*◌, ◌<◌, ◌≤◌, Bool, ◌&&◌, ◌==◌, nat_le, List, [], ◌∷◌, take, drop, Option, Some, None, codes, if◌then◌else◌}
+use Rattle.std.specs.List.{position}
+use Rattle.std.specs.Str.{bytes_eq}
+use Rattle.con_units.specs.declared.place.Size.{Size}
+use Rattle.con_host.specs.declared.words.Form.{Form}
+use Rattle.con_host.specs.declared.words.Form.TheVariants as form
+
+-- '1' to '9'
+abbrev pub is_first : ℕ → Bool
+is_first byte = nat_le 0x31 byte && nat_le byte 0x39
+
+-- '0' to '9'
+abbrev pub is_digit : ℕ → Bool
+is_digit byte = nat_le 0x30 byte && nat_le byte 0x39
+
+abbrev pub digit_of : ℕ → ℕ
+digit_of byte = byte - 0x30
+
+-- the number that one to three decimal digits spell, of which the first is not 0
+abbrev pub number_of : List ℕ → Option ℕ
+number_of (a ∷ []) = if is_first a then Some (digit_of a) else None
+number_of (a ∷ b ∷ []) = if is_first a && is_digit b then Some (digit_of a * 10 + digit_of b) else None
+number_of (a ∷ b ∷ c ∷ []) = if is_first a && is_digit b && is_digit c then Some (digit_of a * 100 + digit_of b * 10 + digit_of c) else None
+number_of _ = None
+
+abbrev pub at_most : ℕ → Option ℕ → Option ℕ
+at_most most None = None
+at_most most (Some n) = if nat_le n most then Some n else None
+
+-- the number of 1 to `most` that the digits spell
+abbrev pub side_of : List ℕ → ℕ → Option ℕ
+side_of digits most = at_most most (number_of digits)
+
+-- 'x'
+abbrev pub is_x : ℕ → Bool
+is_x byte = byte == 0x78
+
+abbrev pub both_sides : Option ℕ → Option ℕ → Option Size
+both_sides None _ = None
+both_sides (Some w) None = None
+both_sides (Some w) (Some h) = Some (record { w = w; h = h })
+
+abbrev pub size_at : List ℕ → Option ℕ → Option Size
+size_at word None = None
+size_at word (Some at) = both_sides (side_of (take at word) 512) (side_of (drop (at + 1) word) 256)
+
+-- the size that a word WxH names: W of 1 to 512, H of 1 to 256
+abbrev pub size_of : List ℕ → Option Size
+size_of word = size_at word (position is_x word)
+
+-- a window's size
+abbrev pub IsWindow : Size → Type 0
+IsWindow size = (0 < size.w) × (0 < size.h) × (size.w ≤ 512) × (size.h ≤ 256)
+
+abbrev pub IsWindowed : Form → Type 0
+IsWindowed form.Type = Unit {0}
+IsWindowed (form.Play size) = IsWindow size
+
+abbrev pub played : Option Size → Option Form
+played None = None
+played (Some size) = Some (form.Play size)
+
+abbrev pub of_type : List ℕ → Option Form
+of_type word = if bytes_eq word (codes "type") then Some form.Type else None
+
+abbrev pub of_play : List ℕ → List ℕ → Option Form
+of_play word size = if bytes_eq word (codes "play") then played (size_of size) else None
+
+-- the form that the words are
+abbrev pub form_of : List (List ℕ) → Option Form
+form_of (word ∷ []) = of_type word
+form_of (word ∷ size ∷ []) = of_play word size
+form_of _ = None

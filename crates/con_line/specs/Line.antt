@@ -1,0 +1,81 @@
+-- The text of an edited line, and what each key does to it.
+use Rattle.std.specs.Prelude.{ℕ, zero, suc, ◌+◌, ◌-◌, ◌≤◌, Bool, not, nat_eq, nat_lt, ◌==◌, ◌&&◌, List, [], ◌++◌, length, take, drop, insert, remove, slice_set, slice_index, min, if◌then◌else◌}
+use Rattle.std.specs.List.{prefix_len, common_prefix_len}
+use Rattle.con_line.specs.declared.press.Press.{Press}
+use Rattle.con_line.specs.declared.press.Press.TheVariants as key
+use Rattle.con_line.specs.declared.edit.Edit.{Edit}
+
+-- a line that is being edited: its units, the place of its caret, and whether typed units are put in
+pub record LineText : Type 0 where
+  pub units : List ℕ
+  pub caret : ℕ
+  pub insert : Bool
+
+-- a line of at most 1,024 units, with its caret inside or at its end
+pub record IsLine (l : LineText) : Type 0 where
+  pub few : length l.units ≤ 1024
+  pub caret : l.caret ≤ length l.units
+
+abbrev pub is_space : ℕ → Bool
+is_space u = u == 32
+
+abbrev pub is_other : ℕ → Bool
+is_other u = not (u == 32)
+
+-- how far back from a place units pass a test
+abbrev pub back_while : (ℕ → Bool) → List ℕ → ℕ → ℕ
+back_while p units zero = zero
+back_while p units (suc k) = if p (slice_index units k) then back_while p units k else suc k
+
+-- how far on from a place they do
+abbrev pub on_while : (ℕ → Bool) → List ℕ → ℕ → ℕ
+on_while p units k = k + prefix_len p (drop k units)
+
+-- a typed unit: it replaces the one at the caret where the flag is off and there is one,
+-- else it is put in at the caret where the text has fewer than 1,024 units
+abbrev pub typed : LineText → ℕ → LineText
+typed l u =
+    if nat_lt l.caret (length l.units) && not l.insert then record l { units = slice_set l.units l.caret u; caret = l.caret + 1 }
+    else if nat_lt (length l.units) 1024 then record l { units = insert l.units l.caret u; caret = l.caret + 1 }
+    else l
+
+-- the unit at a place goes, and the caret is there
+abbrev pub erased_at : LineText → ℕ → LineText
+erased_at l k = record l { units = remove l.units k; caret = k }
+
+-- a line of the history in place of the text
+abbrev pub recalled_as : LineText → List ℕ → LineText
+recalled_as l recalled = if length recalled == 0 then l else record l { units = recalled; caret = length recalled }
+
+abbrev pub completed_by : LineText → List ℕ → LineText
+completed_by l recalled =
+    if nat_lt l.caret (length recalled) then record l { units = take l.caret l.units ++ drop l.caret recalled; caret = length recalled } else l
+
+abbrev pub matched_as : LineText → List ℕ → LineText
+matched_as l recalled = if length recalled == 0 then l else record l { units = recalled }
+
+-- the line after a key, where `recalled` is the line of the history that the key brings in, empty where there is none
+abbrev pub pressed : LineText → Press → List ℕ → LineText
+pressed l (key.Unit u) recalled = typed l u
+pressed l key.Left recalled = record l { caret = l.caret - 1 }
+pressed l key.Right recalled = record l { caret = min (l.caret + 1) (length l.units) }
+pressed l key.WordLeft recalled = record l { caret = back_while is_other l.units (back_while is_space l.units l.caret) }
+pressed l key.WordRight recalled = record l { caret = on_while is_space l.units (on_while is_other l.units l.caret) }
+pressed l key.Home recalled = record l { caret = 0 }
+pressed l key.End recalled = record l { caret = length l.units }
+pressed l key.Back recalled = if l.caret == 0 then l else erased_at l (l.caret - 1)
+pressed l key.Delete recalled = if nat_lt l.caret (length l.units) then erased_at l l.caret else l
+pressed l key.Insert recalled = record l { insert = not l.insert }
+pressed l key.Clear recalled = record l { units = []; caret = 0 }
+pressed l key.Recall recalled = recalled_as l recalled
+pressed l key.RestOfLast recalled = completed_by l recalled
+pressed l key.Match recalled = matched_as l recalled
+pressed l key.Nothing recalled = l
+
+-- the first place at which two texts differ
+abbrev pub first_difference : List ℕ → List ℕ → ℕ
+first_difference = common_prefix_len nat_eq
+
+-- what changed between two texts
+abbrev pub edit_between : List ℕ → List ℕ → Edit
+edit_between old new = record { first = first_difference old new; before = length old }

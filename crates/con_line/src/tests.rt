@@ -1,0 +1,131 @@
+//! What each key does, with values worked out from the table of keys.
+ghost use Rattle.std.specs.Prelude.{◌≡◌, length, ◌≤◌};
+
+use crate::{Edit, Line, Press};
+use std::process::Abort;
+use std::test::Fail;
+
+const NO_LINE: [u16; 0] = [];
+
+fn pressed(line: &mut Line, keys: &[Press]) {
+    for key in keys {
+        match key {
+            Press::Match => {}
+            other => {
+                line.press(*other, &NO_LINE);
+            }
+        }
+    }
+}
+
+fn expect(rt: &impl Abort, line: &Line, text: &[u16], caret: u16) {
+    assert_eq!(rt; line.text(), text);
+    assert_eq!(rt; line.caret(), caret);
+}
+
+#[test]
+fn typing_and_moving(rt: HostRuntime) -> Result<(), Fail> {
+    let mut line = Line::new(rt.alloc(), true).ok().ok_or("memory")?;
+    pressed(
+        &mut line,
+        &[
+            Press::Unit(97),
+            Press::Unit(32),
+            Press::Unit(98),
+            Press::Unit(99),
+        ],
+    );
+    expect(&rt, &line, &[97, 32, 98, 99], 4);
+    pressed(&mut line, &[Press::WordLeft]);
+    expect(&rt, &line, &[97, 32, 98, 99], 2);
+    pressed(&mut line, &[Press::WordLeft, Press::Left]);
+    expect(&rt, &line, &[97, 32, 98, 99], 0);
+    pressed(&mut line, &[Press::WordRight, Press::Right]);
+    expect(&rt, &line, &[97, 32, 98, 99], 3);
+    pressed(
+        &mut line,
+        &[Press::Insert, Press::Unit(120), Press::Unit(121)],
+    );
+    expect(&rt, &line, &[97, 32, 98, 120, 121], 5);
+    pressed(
+        &mut line,
+        &[
+            Press::Back,
+            Press::Home,
+            Press::Delete,
+            Press::Insert,
+            Press::Unit(122),
+        ],
+    );
+    expect(&rt, &line, &[122, 32, 98, 120], 1);
+    pressed(&mut line, &[Press::End, Press::Right, Press::Nothing]);
+    expect(&rt, &line, &[122, 32, 98, 120], 4);
+    pressed(&mut line, &[Press::Clear, Press::Back, Press::Delete]);
+    expect(&rt, &line, &[], 0);
+    Ok(())
+}
+
+#[test]
+fn lines_of_the_history(rt: HostRuntime) -> Result<(), Fail> {
+    let mut line = Line::new(rt.alloc(), true).ok().ok_or("memory")?;
+    let edit = line.press(Press::Recall, &[97, 98, 99]);
+    assert_eq!(rt;
+        edit,
+        Edit {
+            first: 0,
+            before: 0
+        }
+    );
+    expect(&rt, &line, &[97, 98, 99], 3);
+    line.press(Press::Recall, &[]);
+    expect(&rt, &line, &[97, 98, 99], 3);
+    pressed(&mut line, &[Press::Home, Press::Right]);
+    let edit = line.press(Press::RestOfLast, &[97, 98, 100, 101]);
+    assert_eq!(rt;
+        edit,
+        Edit {
+            first: 2,
+            before: 3
+        }
+    );
+    expect(&rt, &line, &[97, 98, 100, 101], 4);
+    pressed(&mut line, &[Press::Home, Press::Right]);
+    assert!(rt; line.caret() <= 1);
+    let edit = line.press(Press::Match, &[97, 102]);
+    assert_eq!(rt;
+        edit,
+        Edit {
+            first: 1,
+            before: 4
+        }
+    );
+    expect(&rt, &line, &[97, 102], 1);
+    assert_eq!(rt; line.into_units().len(), 2);
+    Ok(())
+}
+
+#[test]
+fn an_equal_unit_changes_nothing_up_to_the_end_of_its_run(rt: HostRuntime) -> Result<(), Fail> {
+    let mut line = Line::new(rt.alloc(), false).ok().ok_or("memory")?;
+    line.press(Press::Recall, &[97, 97, 98]);
+    pressed(&mut line, &[Press::Home]);
+    let edit = line.press(Press::Unit(97), &[]);
+    assert_eq!(rt;
+        edit,
+        Edit {
+            first: 3,
+            before: 3
+        }
+    );
+    pressed(&mut line, &[Press::Insert]);
+    let edit = line.press(Press::Unit(97), &[]);
+    assert_eq!(rt;
+        edit,
+        Edit {
+            first: 2,
+            before: 3
+        }
+    );
+    expect(&rt, &line, &[97, 97, 97, 98], 2);
+    Ok(())
+}

@@ -1,0 +1,5 @@
+pub mod Parts
+pub mod Pieces
+pub mod OneFrame
+pub mod NoFrame
+pub mod OneAnswer

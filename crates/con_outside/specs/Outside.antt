@@ -1,0 +1,14 @@
+-- What the outside gives and takes, where it tells, and how often it has failed.
+use Rattle.std.specs.Prelude.{ℕ, ◌<◌, ◌≤◌, ◌⊎◌, List, ◌++◌, Option, option_map}
+
+-- a count of failures rose, or stands at the greatest number that it can hold
+abbrev pub Rose : ℕ → ℕ → Type 0
+Rose before now = (before < now) ⊎ (18446744073709551615 ≤ now)
+
+-- these bytes, and then the ones still to come, where they are told
+abbrev pub then_left : List ℕ → Option (List ℕ) → Option (List ℕ)
+then_left front left = option_map (λ rest. front ++ rest) left
+
+-- what was written, and then these bytes, where it is told
+abbrev pub then_written : Option (List ℕ) → List ℕ → Option (List ℕ)
+then_written written bytes = option_map (λ front. front ++ bytes) written

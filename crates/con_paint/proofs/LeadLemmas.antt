@@ -1,0 +1,152 @@
+-- What appended bytes lead to.
+use Rattle.std.proofs.Common.{◌≡◌, ℕ, ◌+◌, ◌-◌, ◌*◌, ◌<◌, Bool, true, false, not, ◌==◌, ◌||◌, List, [], ◌∷◌, ◌++◌, fold, max, get_or, refl, sym, ap, ◌∙◌, append_assoc, arith}
+use Rattle.std.proofs.lemmas.List.Sums.{fold-append}
+use Rattle.std.proofs.lemmas.Bool.Decides.{nat_tests}
+use Rattle.con_units.specs.Stored.{stored_unit}
+use Rattle.con_vtgram.specs.Text.{sixteen}
+use Rattle.con_vtgram.specs.declared.item.Item.{Item}
+use Rattle.con_vtgram.specs.declared.item.Item.TheVariants.{Print, Csi}
+use Rattle.con_term.specs.Page.{Screen, erased, place, printed}
+use Rattle.con_term.specs.Pen.{starting_pen, pen_after}
+use Rattle.con_term.specs.Sgr.{pen_by}
+use Rattle.con_term.specs.Effect.{effect, plain_effect, private_effect, line_erased, display_erased, row_end, unpended, gone_to, lifted}
+use Rattle.con_term.specs.Cost.{cost, costs, plain_cost}
+use Rattle.con_paint.specs.Bytes.{part, separated, digits, csi_bytes, utf8_of, ground_bytes, more_numbers}
+use Rattle.con_paint.specs.Spells.{AllSmall, Spells, csi, question, ground_items}
+use Rattle.con_paint.specs.Leads.{Leads}
+use Rattle.con_paint.specs.Pens.{pen_for, numbers_of, IsEnough}
+use Rattle.con_paint.specs.Places.{place_numbers, lift_numbers}
+use Rattle.con_paint.specs.declared.pen.Changes.{Changes}
+use Rattle.con_paint.proofs.SpellLemmas.{spells-append, spells-none, csi_spells, unit_spells, plain_spells, erase_row_spells, erase_rest_spells, hide_spells, show_spells, ground_spells}
+use Rattle.con_paint.proofs.PenLemmas.{pen_chosen, small_numbers, all_small-append, one_small}
+
+pub append_none : {A : Type 0} (xs : List A) → xs ++ [] ≡ xs
+append_none [] = refl
+append_none (x ∷ xs) = ap (λ zs. x ∷ zs) (append_none xs)
+
+costs-append : (s : Screen) (is js : List Item) → costs s (is ++ js) ≡ costs s is + costs (fold effect s is) js
+costs-append s [] js = omega arith
+costs-append s (i ∷ is) js = omega (arith, costs-append (effect s i) is js)
+
+pub leads-none : (bytes : List ℕ) (s : Screen) → Leads bytes bytes s s 0
+leads-none bytes s = record { bytes = []; items = []; appended = sym (append_none bytes); spelled = spells-none; screen = refl; count = refl }
+
+pub leads-append : (xs ys zs : List ℕ) (s t u : Screen) (m n : ℕ) → Leads xs ys s t m → Leads ys zs t u n → Leads xs zs s u (m + n)
+leads-append xs ys zs s t u m n h k = record {
+  bytes = h.bytes ++ k.bytes;
+  items = h.items ++ k.items;
+  appended = k.appended ∙ ap (λ bs. bs ++ k.bytes) h.appended ∙ append_assoc xs h.bytes k.bytes;
+  spelled = spells-append h.bytes k.bytes h.items k.items h.spelled k.spelled;
+  screen = fold-append effect s h.items k.items ∙ ap (λ v. fold effect v k.items) h.screen ∙ k.screen;
+  count = costs-append s h.items k.items ∙ rw (h.count, h.screen, k.count) refl;
+}
+
+pub leads_then : (xs ys zs : List ℕ) (s t u : Screen) (m n k : ℕ) → Leads xs ys s t m → Leads ys zs t u n → m + n ≡ k → Leads xs zs s u k
+leads_then xs ys zs s t u m n k a b e = rw (← e) (leads-append xs ys zs s t u m n a b)
+
+pub leads_one : (old new bytes : List ℕ) (item : Item) (s t : Screen) (n : ℕ) → new ≡ old ++ bytes → Spells bytes (item ∷ []) → effect s item ≡ t → cost s item ≡ n → Leads old new s t n
+leads_one old new bytes item s t n e spelled screen count = record { bytes = bytes; items = item ∷ []; appended = e; spelled = spelled; screen = screen; count = omega (arith, count) }
+
+-- a column 1 and a row 1 are what absent ones are
+place_is : (s : Screen) (a b : Bool) (row column : ℕ) → (a ≡ false → column ≡ 1) → (b ≡ false → row ≡ 1)
+    → gone_to s (get_or (sixteen (part (a || b) row ++ part a column)) 0 0) (get_or (sixteen (part (a || b) row ++ part a column)) 1 0) ≡ gone_to s row column
+unfolding sixteen
+place_is s true b row column h k = refl
+place_is s false true row column h k = rw (h refl) refl
+place_is s false false row column h k = rw (h refl, k refl) refl
+
+not_false : (a b : ℕ) → not (a == b) ≡ false → a ≡ b
+not_false a b h = grind (arith, nat_tests)
+
+small_place : (row column : ℕ) → row < 1000 → column < 1000 → AllSmall (place_numbers row column)
+small_place row column h k = all_small-append (part (not (column == 1) || not (row == 1)) row) (part (not (column == 1)) column) (one_small (not (column == 1) || not (row == 1)) row h) (one_small (not (column == 1)) column k)
+
+pub goes : (old new : List ℕ) (row column : ℕ) (s : Screen) → row < 1000 → column < 1000 → new ≡ old ++ csi_bytes (place_numbers row column) 0x48 → Leads old new s (gone_to s row column) 0
+unfolding effect plain_effect cost plain_cost
+goes old new row column s r c e = leads_one old new (csi_bytes (place_numbers row column) 0x48) (Csi (csi (place_numbers row column) 0x48)) s (gone_to s row column) 0 e
+    (csi_spells (place_numbers row column) 0x48 (small_place row column r c) (omega arith, omega arith)) (place_is s (not (column == 1)) (not (row == 1)) row column (not_false column 1) (not_false row 1)) refl
+
+count_is : (b : Bool) (n : ℕ) → (b ≡ false → n ≡ 1) → 0 < n → max (get_or (sixteen (part b n)) 0 0) 1 ≡ n
+unfolding sixteen
+count_is true n h some = let e : max n 1 ≡ n = omega arith in e
+count_is false n h some = sym (h refl)
+
+pub goes_up : (old new : List ℕ) (n : ℕ) (s : Screen) → n < 1000 → 0 < n → new ≡ old ++ csi_bytes (lift_numbers n) 0x53 → Leads old new s (lifted s n) 0
+unfolding effect plain_effect cost plain_cost
+goes_up old new n s small some e = leads_one old new (csi_bytes (lift_numbers n) 0x53) (Csi (csi (lift_numbers n) 0x53)) s (lifted s n) 0 e (csi_spells (lift_numbers n) 0x53 (one_small (not (n == 1)) n small) (omega arith, omega arith))
+    (ap (lifted s) (count_is (not (n == 1)) n (not_false n 1) some)) refl
+
+pub chooses : (old new : List ℕ) (c : Changes) (before w : ℕ) (s : Screen) → s.pen ≡ pen_for before → IsEnough c before w → new ≡ old ++ csi_bytes (numbers_of c w) 0x6D → Leads old new s (record s { pen = pen_for w }) 0
+unfolding cost plain_cost
+chooses old new c before w s p h e = leads_one old new (csi_bytes (numbers_of c w) 0x6D) (Csi (csi (numbers_of c w) 0x6D)) s (record s { pen = pen_for w }) 0 e (csi_spells (numbers_of c w) 0x6D (small_numbers c w) (omega arith, omega arith)) (pen_chosen s c before w p h) refl
+
+pub chooses_plain : (old new : List ℕ) (s : Screen) → new ≡ old ++ (0x1B ∷ 0x5B ∷ 0x6D ∷ []) → Leads old new s (record s { pen = pen_for 7 }) 0
+unfolding effect plain_effect cost plain_cost
+chooses_plain old new s e = leads_one old new _ (Csi (csi [] 0x6D)) s (record s { pen = pen_for 7 }) 0 e plain_spells refl refl
+
+pub chooses_none : (old : List ℕ) (before w : ℕ) (s : Screen) → s.pen ≡ pen_for before → before ≡ w → Leads old old s (record s { pen = pen_for w }) 0
+chooses_none old before w s p e = let same : s.pen ≡ pen_for w = p ∙ ap pen_for e in rw (← same) (leads-none old s)
+
+pub erases_row : (old new : List ℕ) (s : Screen) → new ≡ old ++ (0x1B ∷ 0x5B ∷ 0x4B ∷ []) → Leads old new s (unpended (erased s (place s) (row_end s))) (s.w - s.x)
+unfolding effect plain_effect line_erased cost plain_cost sixteen
+erases_row old new s e = leads_one old new _ (Csi (csi [] 0x4B)) s _ (s.w - s.x) e erase_row_spells refl refl
+
+pub erases_rest : (old new : List ℕ) (s : Screen) → new ≡ old ++ (0x1B ∷ 0x5B ∷ 0x4A ∷ []) → Leads old new s (unpended (erased s (place s) (s.h * s.w))) (s.h * s.w - place s)
+unfolding effect plain_effect display_erased cost plain_cost sixteen
+erases_rest old new s e = leads_one old new _ (Csi (csi [] 0x4A)) s _ (s.h * s.w - place s) e erase_rest_spells refl refl
+
+pub prints : (old new : List ℕ) (u : ℕ) (s : Screen) → u < 0x10000 → stored_unit u ≡ u → new ≡ old ++ utf8_of u → Leads old new s (printed u s) 1
+unfolding effect cost
+prints old new u s fits h e = leads_one old new (utf8_of u) (Print u) s (printed u s) 1 e (unit_spells u fits h) refl refl
+
+pub shows : (old new : List ℕ) (s : Screen) → new ≡ old ++ (0x1B ∷ 0x5B ∷ 0x3F ∷ 0x32 ∷ 0x35 ∷ 0x68 ∷ []) → Leads old new s (record s { visible = true }) 0
+unfolding effect private_effect cost sixteen
+shows old new s e = leads_one old new _ (Csi (question 25 0x68)) s (record s { visible = true }) 0 e show_spells refl refl
+
+pub hides : (old new : List ℕ) (s : Screen) → new ≡ old ++ (0x1B ∷ 0x5B ∷ 0x3F ∷ 0x32 ∷ 0x35 ∷ 0x6C ∷ []) → Leads old new s (record s { visible = false }) 0
+unfolding effect private_effect cost sixteen
+hides old new s e = leads_one old new _ (Csi (question 25 0x6C)) s (record s { visible = false }) 0 e hide_spells refl refl
+
+pub grounds : (old new : List ℕ) (s : Screen) → new ≡ old ++ ground_bytes → Leads old new s (record s { pen = starting_pen }) 0
+unfolding effect private_effect plain_effect cost plain_cost sixteen pen_by pen_after
+grounds old new s e = record { bytes = ground_bytes; items = ground_items; appended = e; spelled = ground_spells; screen = refl; count = refl }
+
+pub more_numbers-append : (ms ns : List ℕ) → more_numbers (ms ++ ns) ≡ more_numbers ms ++ more_numbers ns
+more_numbers-append [] ns = refl
+more_numbers-append (m ∷ ms) ns = rw (more_numbers-append ms ns) (ap (λ xs. 0x3B ∷ xs) (sym (append_assoc (digits m) (more_numbers ms) (more_numbers ns))))
+
+more_is : (ns : List ℕ) → more_numbers ns ≡ separated true ns
+more_is [] = refl
+more_is (n ∷ ns) = refl
+
+-- one number more
+pub separated-part : (some wanted : Bool) (n : ℕ) (ns : List ℕ) → separated some (part wanted n ++ ns) ≡ separated some (part wanted n) ++ separated (some || wanted) ns
+separated-part true true n ns = rw (more_is ns, append_none (digits n)) refl
+separated-part false true n ns = rw (more_is ns, append_none (digits n)) refl
+separated-part true false n ns = refl
+separated-part false false n ns = refl
+
+regroup : (a b c d e : List ℕ) → (((a ++ b) ++ c) ++ d) ++ e ≡ a ++ (b ++ (c ++ (d ++ e)))
+regroup a b c d e = simp append_assoc
+
+one_more : (x a b c d e : List ℕ) → ((((x ++ a) ++ b) ++ c) ++ d) ++ e ≡ x ++ (a ++ (b ++ (c ++ (d ++ e))))
+one_more x a b c d e = simp append_assoc
+
+-- five numbers, one after another
+pub five_separated : (a b c d e s t u v : Bool) (k l m n o : ℕ) (x0 x1 x2 x3 x4 x5 : List ℕ) → s ≡ (false || a) → t ≡ (s || b) → u ≡ (t || c) → v ≡ (u || d)
+    → x1 ≡ x0 ++ separated false (part a k) → x2 ≡ x1 ++ separated s (part b l) → x3 ≡ x2 ++ separated t (part c m) → x4 ≡ x3 ++ separated u (part d n) → x5 ≡ x4 ++ separated v (part e o)
+    → x5 ≡ x0 ++ separated false (part a k ++ part b l ++ part c m ++ part d n ++ part e o)
+five_separated a b c d e s t u v k l m n o x0 x1 x2 x3 x4 x5 es et eu ev e1 e2 e3 e4 e5 =
+    let r3 : List ℕ = part d n ++ part e o in let r2 : List ℕ = part c m ++ r3 in let r1 : List ℕ = part b l ++ r2 in
+    let f4 : separated u r3 ≡ separated u (part d n) ++ separated v (part e o) = separated-part u d n (part e o) ∙ ap (λ z. separated u (part d n) ++ separated z (part e o)) (sym ev) in
+    let f3 : separated t r2 ≡ separated t (part c m) ++ (separated u (part d n) ++ separated v (part e o)) = separated-part t c m r3 ∙ ap (λ z. separated t (part c m) ++ separated z r3) (sym eu) ∙ ap (λ z. separated t (part c m) ++ z) f4 in
+    let f2 : separated s r1 ≡ separated s (part b l) ++ (separated t (part c m) ++ (separated u (part d n) ++ separated v (part e o))) = separated-part s b l r2 ∙ ap (λ z. separated s (part b l) ++ separated z r2) (sym et) ∙ ap (λ z. separated s (part b l) ++ z) f3 in
+    let f1 : separated false (part a k ++ r1) ≡ separated false (part a k) ++ (separated s (part b l) ++ (separated t (part c m) ++ (separated u (part d n) ++ separated v (part e o)))) =
+    separated-part false a k r1 ∙ ap (λ z. separated false (part a k) ++ separated z r1) (sym es) ∙ ap (λ z. separated false (part a k) ++ z) f2 in
+    let left : x5 ≡ x0 ++ (separated false (part a k) ++ (separated s (part b l) ++ (separated t (part c m) ++ (separated u (part d n) ++ separated v (part e o))))) =
+    e5 ∙ rw (e4, e3, e2, e1) (one_more x0 (separated false (part a k)) (separated s (part b l)) (separated t (part c m)) (separated u (part d n)) (separated v (part e o))) in
+    left ∙ ap (λ z. x0 ++ z) (sym f1) ∙ ap (λ z. x0 ++ separated false z) (sym (regroup (part a k) (part b l) (part c m) (part d n) (part e o)))
+
+-- ESC [, a middle part and the last byte
+pub bracketed : (out a b c d middle : List ℕ) (last : ℕ) → a ≡ out ++ 0x1B ∷ [] → b ≡ a ++ 0x5B ∷ [] → c ≡ b ++ middle → d ≡ c ++ last ∷ [] → d ≡ out ++ (0x1B ∷ 0x5B ∷ (middle ++ last ∷ []))
+bracketed out a b c d middle last ea eb ec ed = ed ∙ rw (ec, eb, ea) (simp append_assoc)

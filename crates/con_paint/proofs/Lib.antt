@@ -1,0 +1,10 @@
+pub mod SpellLemmas
+pub mod PenLemmas
+pub mod LeadLemmas
+pub mod RunLemmas
+pub mod SameLemmas
+pub mod SpanLemmas
+pub mod PlaceLemmas
+pub mod FrameLemmas
+pub mod LiftLemmas
+pub mod PlayLemmas

@@ -1,0 +1,14 @@
+pub mod Bytes
+pub mod Spells
+pub mod Leads
+pub mod Pens
+pub mod Places
+pub mod Spot
+pub mod Paint
+pub mod Frame
+pub mod Span
+pub mod Rest
+pub mod Lift
+pub mod Painter
+pub mod Placed
+pub mod Inside

@@ -1,0 +1,31 @@
+-- Frames that lift the rows of a terminal.
+use Rattle.std.specs.Prelude.{ℕ, ◌-◌, ◌*◌, ◌<◌, ◌≤◌, ◌≡◌, Bool, true, false, List, ◌++◌, length, take, drop, replicate}
+use Rattle.con_units.specs.Glyph.{Glyph}
+use Rattle.con_term.specs.Page.{Screen}
+use Rattle.con_paint.specs.Leads.{Leads}
+use Rattle.con_paint.specs.Pens.{pen_for}
+use Rattle.con_paint.specs.Frame.{blank_cell, differing, Stands}
+
+-- the rows of a view are the old ones lifted by k, with k new rows below
+abbrev pub IsLifted : ℕ → ℕ → ℕ → List Glyph → List Glyph → Type 0
+IsLifted w h k v old = take (h * w - k * w) v ≡ drop (k * w) old
+
+-- the cells go up by a count of places, and blanks in the starting word come behind
+abbrev pub lifted_cells : List Glyph → ℕ → List Glyph
+lifted_cells cells count = drop count cells ++ replicate count blank_cell
+
+-- the least k by which the rows are lifted
+pub record IsLeast (w h : ℕ) (v old : List Glyph) (k : ℕ) : Type 0 where
+  pub some : 0 < k
+  pub most : k ≤ h
+  pub is : IsLifted w h k v old
+  pub least : (j : ℕ) → 0 < j → j < k → IsLifted w h j v old → ⊥
+
+-- the bytes lift a terminal's rows, or there are none
+pub record Lifts (w h : ℕ) (known : Bool) (v was now : List Glyph) (before ink : ℕ) (every : Bool) (rows : ℕ) (old new : List ℕ) : Type 0 where
+  pub leads : (s : Screen) → Stands w h before s → (known ≡ true → s.cells ≡ was) → (cells : List Glyph) × Leads old new s (record s { cells = cells; pen = pen_for ink }) 0 × (length cells ≡ h * w) × (known ≡ true → cells ≡ now)
+  pub same : every ≡ false → now ≡ was
+  pub size : length now ≡ h * w
+  pub few : known ≡ true → differing w h v now ≤ differing w h v was
+  pub lifted : known ≡ true → (k : ℕ) → 0 < k → k ≤ h → IsLifted w h k v was → differing w h v now ≤ k
+  pub quiet : known ≡ true → v ≡ was → (new ≡ old) × (now ≡ was) × (ink ≡ before) × (rows ≡ 0)

@@ -1,0 +1,198 @@
+//! Bytes that a terminal acts on, each call with what they do to a terminal that is between sequences.
+ghost use Rattle.std.specs.Prelude.{◌≡◌, ◌+◌, ◌-◌, ◌*◌, ◌<◌, ◌≤◌, ◌++◌, ◌||◌, length, if◌then◌else◌};
+ghost use Rattle.std.specs.Vec.{vec_len, vec_capacity};
+ghost use Rattle.con_units.specs.Stored.{stored_unit};
+ghost use Rattle.con_term.specs.Pen.{starting_pen};
+ghost use Rattle.con_term.specs.Page.{Screen, erased, place, printed};
+ghost use Rattle.con_term.specs.Effect.{gone_to, lifted, row_end, unpended};
+ghost use Rattle.con_paint.specs.Bytes.{csi_bytes, digits, part, separated, utf8_of};
+ghost use Rattle.con_paint.specs.Leads.{Leads};
+ghost use Rattle.con_paint.specs.Places.{lift_numbers, place_numbers};
+
+/// Appends bytes.
+pub(crate) fn append(out: &mut Vec<u8>, bytes: &[u8])
+    requires room { vec_len out.old + length bytes.now ≤ vec_capacity out.old }
+    ensures bytes { out.new.items ≡ out.old.items ++ bytes.now }
+    ensures capacity { vec_capacity out.new ≡ vec_capacity out.old }
+    ensures few { vec_len out.new ≤ vec_len out.old + length bytes.now }
+{
+    for byte in bytes {
+        out.push_reserved(*byte);
+    }
+}
+
+// Appends a number.
+#[tactic(auto, unfolding(crate::specs::Bytes::digits))]
+fn number(out: &mut Vec<u8>, n: u16)
+    requires few { n < 1000 }
+    requires room { vec_len out.old + 3 ≤ vec_capacity out.old }
+    ensures bytes { out.new.items ≡ out.old.items ++ digits n }
+    ensures capacity { vec_capacity out.new ≡ vec_capacity out.old }
+    ensures few { vec_len out.new ≤ vec_len out.old + 3 }
+{
+    if 100 <= n {
+        out.push_reserved((0x30 + n / 100) as u8);
+    }
+    if 10 <= n {
+        out.push_reserved((0x30 + n / 10 % 10) as u8);
+    }
+    out.push_reserved((0x30 + n % 10) as u8);
+}
+
+/// Appends a number where it is wanted, behind a semicolon where there are some before it, and tells whether there are
+/// some then.
+pub(crate) fn number_if(out: &mut Vec<u8>, some: bool, wanted: bool, n: u16) -> bool
+    requires few { n < 1000 }
+    requires room { vec_len out.old + 4 ≤ vec_capacity out.old }
+    ensures bytes { out.new.items ≡ out.old.items ++ separated some (part wanted n) }
+    ensures some { result ≡ (some || wanted) }
+    ensures capacity { vec_capacity out.new ≡ vec_capacity out.old }
+    ensures few { vec_len out.new ≤ vec_len out.old + 4 }
+{
+    if !wanted {
+        return some;
+    }
+    if some {
+        out.push_reserved(0x3B);
+    }
+    number(out, n);
+    true
+}
+
+/// Whether one of two holds.
+pub(crate) fn either(a: bool, b: bool) -> bool
+    ensures { result ≡ (a || b) }
+{
+    a || b
+}
+
+// The control sequence of a place.
+#[tactic(auto, unfolding(crate::specs::Bytes::csi_bytes))]
+fn place_bytes(out: &mut Vec<u8>, row: u16, column: u16)
+    requires few { (row < 1000) × (column < 1000) }
+    requires room { vec_len out.old + 11 ≤ vec_capacity out.old }
+    ensures bytes { out.new.items ≡ out.old.items ++ csi_bytes (place_numbers row column) 0x48 }
+    ensures capacity { vec_capacity out.new ≡ vec_capacity out.old }
+    ensures few { vec_len out.new ≤ vec_len out.old + 11 }
+{
+    out.push_reserved(0x1B);
+    out.push_reserved(0x5B);
+    let inward = column != 1;
+    let named = either(inward, row != 1);
+    let some = number_if(out, false, named, row);
+    let _ = number_if(out, some, inward, column);
+    out.push_reserved(0x48);
+}
+
+/// Puts the cursor on a row and a column, counted from 1.
+pub(crate) fn go_to(out: &mut Vec<u8>, row: u16, column: u16)
+    requires few { (row < 1000) × (column < 1000) }
+    requires room { vec_len out.old + 11 ≤ vec_capacity out.old }
+    ensures leads { (s : Screen) → Leads out.old.items out.new.items s (gone_to s row column) 0 }
+    ensures capacity { vec_capacity out.new ≡ vec_capacity out.old }
+    ensures few { vec_len out.new ≤ vec_len out.old + 11 }
+{
+    place_bytes(out, row, column);
+}
+
+#[tactic(auto, unfolding(crate::specs::Bytes::utf8_of))]
+fn unit_bytes(out: &mut Vec<u8>, unit: u16)
+    requires room { vec_len out.old + 3 ≤ vec_capacity out.old }
+    ensures bytes { out.new.items ≡ out.old.items ++ utf8_of unit }
+    ensures capacity { vec_capacity out.new ≡ vec_capacity out.old }
+    ensures few { vec_len out.new ≤ vec_len out.old + 3 }
+{
+    if unit < 0x80 {
+        out.push_reserved(unit as u8);
+    } else if unit < 0x800 {
+        out.push_reserved((0xC0 + unit / 64) as u8);
+        out.push_reserved((0x80 + unit % 64) as u8);
+    } else {
+        out.push_reserved((0xE0 + unit / 4096) as u8);
+        out.push_reserved((0x80 + unit / 64 % 64) as u8);
+        out.push_reserved((0x80 + unit % 64) as u8);
+    }
+}
+
+/// Prints a unit.
+pub(crate) fn print(out: &mut Vec<u8>, unit: u16)
+    requires shown { stored_unit unit ≡ unit }
+    requires room { vec_len out.old + 3 ≤ vec_capacity out.old }
+    ensures leads { (s : Screen) → Leads out.old.items out.new.items s (printed unit s) 1 }
+    ensures capacity { vec_capacity out.new ≡ vec_capacity out.old }
+    ensures few { vec_len out.new ≤ vec_len out.old + 3 }
+{
+    unit_bytes(out, unit);
+}
+
+/// Shows or hides the cursor.
+pub(crate) fn show(out: &mut Vec<u8>, visible: bool)
+    requires room { vec_len out.old + 6 ≤ vec_capacity out.old }
+    ensures leads { (s : Screen) → Leads out.old.items out.new.items s (record s { visible = visible }) 0 }
+    ensures capacity { vec_capacity out.new ≡ vec_capacity out.old }
+    ensures few { vec_len out.new ≤ vec_len out.old + 6 }
+{
+    if visible {
+        append(out, b"\x1B[?25h");
+    } else {
+        append(out, b"\x1B[?25l");
+    }
+}
+
+/// Brings a terminal to known ground.
+pub(crate) fn ground(out: &mut Vec<u8>)
+    requires room { vec_len out.old + 40 ≤ vec_capacity out.old }
+    ensures leads { (s : Screen) → Leads out.old.items out.new.items s (record s { pen = starting_pen }) 0 }
+    ensures capacity { vec_capacity out.new ≡ vec_capacity out.old }
+    ensures few { vec_len out.new ≤ vec_len out.old + 40 }
+{
+    append(
+        out,
+        b"\x1B[!p\x1B[?69l\x1B[?6l\x1B[4l\x1B[20l\x1B[?7h\x1B[r\x1B(B\x0F\x1B[0m",
+    );
+}
+
+/// Erases from the cursor to the end of its row.
+pub(crate) fn erase_row(out: &mut Vec<u8>)
+    requires room { vec_len out.old + 3 ≤ vec_capacity out.old }
+    ensures leads { (s : Screen) → Leads out.old.items out.new.items s (unpended (erased s (place s) (row_end s))) (s.w - s.x) }
+    ensures capacity { vec_capacity out.new ≡ vec_capacity out.old }
+    ensures few { vec_len out.new ≤ vec_len out.old + 3 }
+{
+    append(out, b"\x1B[K");
+}
+
+/// Erases from the cursor to the end of the screen.
+pub(crate) fn erase_rest(out: &mut Vec<u8>)
+    requires room { vec_len out.old + 3 ≤ vec_capacity out.old }
+    ensures leads { (s : Screen) → Leads out.old.items out.new.items s (unpended (erased s (place s) (s.h * s.w))) (s.h * s.w - place s) }
+    ensures capacity { vec_capacity out.new ≡ vec_capacity out.old }
+    ensures few { vec_len out.new ≤ vec_len out.old + 3 }
+{
+    append(out, b"\x1B[J");
+}
+
+#[tactic(auto, unfolding(crate::specs::Bytes::csi_bytes))]
+fn lift_bytes(out: &mut Vec<u8>, n: u16)
+    requires few { n < 1000 }
+    requires room { vec_len out.old + 7 ≤ vec_capacity out.old }
+    ensures bytes { out.new.items ≡ out.old.items ++ csi_bytes (lift_numbers n) 0x53 }
+    ensures capacity { vec_capacity out.new ≡ vec_capacity out.old }
+    ensures few { vec_len out.new ≤ vec_len out.old + 7 }
+{
+    out.push_reserved(0x1B);
+    out.push_reserved(0x5B);
+    let _ = number_if(out, false, n != 1, n);
+    out.push_reserved(0x53);
+}
+
+/// Lifts all rows by n.
+pub(crate) fn up(out: &mut Vec<u8>, n: u16)
+    requires few { (n < 1000) × (0 < n) }
+    requires room { vec_len out.old + 7 ≤ vec_capacity out.old }
+    ensures leads { (s : Screen) → Leads out.old.items out.new.items s (lifted s n) 0 }
+    ensures capacity { vec_capacity out.new ≡ vec_capacity out.old }
+    ensures few { vec_len out.new ≤ vec_len out.old + 7 }
+{
+    lift_bytes(out, n);
+}

@@ -1,0 +1,156 @@
+//! Frames that lift the rows of a terminal.
+ghost use Rattle.std.specs.Prelude.{◌≡◌, ◌+◌, ◌-◌, ◌*◌, ◌<◌, ◌≤◌, ℕ, true, false, not, ◌&&◌, ◌||◌, ◌++◌, [], length, take, drop, replicate, slice_index_or, if◌then◌else◌};
+ghost use Rattle.std.specs.Vec.{vec_len, vec_capacity};
+ghost use Rattle.con_term.specs.Page.{Screen};
+ghost use Rattle.con_paint.specs.Leads.{Leads};
+ghost use Rattle.con_paint.specs.Pens.{pen_for};
+ghost use Rattle.con_paint.specs.Frame.{blank_cell, row_of, same_cells, differing};
+ghost use Rattle.con_paint.specs.Lift.{IsLifted, IsLeast, Lifts, lifted_cells};
+
+use crate::cells::same;
+use crate::emit::up;
+use crate::pen::choose;
+use crate::rows::differs;
+use crate::span::blank;
+use con_units::{Cell, Size};
+
+/// What a lift leaves: the word of the pen, whether the rows were lifted, and how many rows at most are to be painted then.
+#[derive(Clone, Copy, Debug)]
+pub(crate) struct Lifting {
+    pub(crate) word: u16,
+    pub(crate) lifted: bool,
+    pub(crate) rows: u16,
+}
+
+// Whether the cells are the old ones, that many places on.
+fn is_lifted(cells: &[Cell], shadow: &[Cell], by: usize) -> bool
+    requires { (by ≤ length shadow.now) × (length cells.now ≡ length shadow.now) }
+    ensures { result ≡ same_cells (take (length cells.now - by) cells.now) (drop by shadow.now) }
+{
+    same(&cells[..cells.len() - by], &shadow[by..])
+}
+
+// The least number of rows by which the old ones are lifted.
+fn least_lift(cells: &[Cell], shadow: &[Cell], size: Size) -> u16
+    requires few { (size.w ≤ 512) × (size.h ≤ 256) × (0 < size.h) }
+    requires lengths { (length cells.now ≡ size.h * size.w) × (length shadow.now ≡ size.h * size.w) }
+    ensures { IsLeast size.w size.h cells.now shadow.now result }
+{
+    let width = size.w as usize;
+    for k in 1..size.h {
+        if is_lifted(cells, shadow, k as usize * width) {
+            return k;
+        }
+    }
+    size.h
+}
+
+fn plus_if(count: u16, one: bool) -> u16
+    requires { count < 1000 }
+    ensures { result ≡ count + (if one then 1 else 0) }
+{
+    if one { count + 1 } else { count }
+}
+
+// How many rows differ.
+fn count(cells: &[Cell], shadow: &[Cell], marks: &[bool], size: Size) -> u16
+    requires few { (size.w ≤ 512) × (size.h ≤ 256) }
+    requires lengths { (length cells.now ≡ size.h * size.w) × (length shadow.now ≡ size.h * size.w) × (length marks.now ≡ size.h) }
+    requires marked { (y : ℕ) → y < size.h → slice_index_or marks.now y false ≡ false → row_of size.w y cells.now ≡ row_of size.w y shadow.now }
+    ensures { result ≡ differing size.w size.h cells.now shadow.now }
+{
+    let width = size.w as usize;
+    let mut count = 0;
+    for y in 0..size.h {
+        let from = y as usize * width;
+        let row = &cells[from..from + width];
+        let was = &shadow[from..from + width];
+        count = plus_if(count, differs(true, marks[y as usize], row, was));
+    }
+    count
+}
+
+// Makes all cells blank.
+fn empty(cells: &mut [Cell])
+    ensures { cells.new ≡ replicate (length cells.old) blank_cell }
+{
+    let blank = blank();
+    for i in 0..cells.len() {
+        cells[i] = blank;
+    }
+}
+
+// Lifts the cells by a count of places, and makes the last ones blank.
+fn raise(cells: &mut [Cell], count: usize)
+    requires { count ≤ length cells.old }
+    ensures { cells.new ≡ lifted_cells cells.old count }
+{
+    cells.rotate_left(count);
+    let rest = cells.len() - count;
+    empty(&mut cells[rest..]);
+}
+
+// Lifts the rows of a terminal, and the cells.
+fn scroll(out: &mut Vec<u8>, shadow: &mut Vec<Cell>, by: u16, size: Size, before: u16)
+    requires few { (size.w ≤ 512) × (size.h ≤ 256) × (by ≤ size.h) × (0 < by) }
+    requires cells { length shadow.old.items ≡ size.h * size.w }
+    requires room { vec_len out.old + 32 ≤ vec_capacity out.old }
+    ensures leads { (s : Screen) → s.w ≡ size.w → s.h ≡ size.h → s.pen ≡ pen_for before → Leads out.old.items out.new.items s (record s { cells = lifted_cells s.cells (by * size.w); pen = pen_for 7 }) 0 }
+    ensures cells { shadow.new.items ≡ lifted_cells shadow.old.items (by * size.w) }
+    ensures capacity { vec_capacity out.new ≡ vec_capacity out.old }
+    ensures few { vec_len out.new ≤ vec_len out.old + 32 }
+{
+    choose(out, before, 7);
+    up(out, by);
+    raise(shadow.as_mut_slice(), by as usize * size.w as usize);
+}
+
+/// Lifts the rows of a terminal, and the cells, where that saves rows.
+pub(crate) fn lift_if(
+    out: &mut Vec<u8>,
+    shadow: &mut Vec<Cell>,
+    cells: &[Cell],
+    marks: &[bool],
+    known: bool,
+    size: Size,
+    before: u16,
+) -> Lifting
+    requires few { (size.w ≤ 512) × (size.h ≤ 256) × (0 < size.h) }
+    requires lengths { (length cells.now ≡ size.h * size.w) × (length shadow.old.items ≡ size.h * size.w) × (length marks.now ≡ size.h) }
+    requires marked { known ≡ true → (y : ℕ) → y < size.h → slice_index_or marks.now y false ≡ false → row_of size.w y cells.now ≡ row_of size.w y shadow.old.items }
+    requires room { vec_len out.old + 32 ≤ vec_capacity out.old }
+    ensures lifts { Lifts size.w size.h known cells.now shadow.old.items shadow.new.items before result.word result.lifted result.rows out.old.items out.new.items }
+    ensures capacity { vec_capacity out.new ≡ vec_capacity out.old }
+    ensures few { vec_len out.new ≤ vec_len out.old + 32 }
+{
+    if !known {
+        return Lifting {
+            word: before,
+            lifted: false,
+            rows: size.h,
+        };
+    }
+    let rows = count(cells, shadow.as_slice(), marks, size);
+    if rows < 2 {
+        return Lifting {
+            word: before,
+            lifted: false,
+            rows,
+        };
+    }
+    let least = least_lift(cells, shadow.as_slice(), size);
+    if least < rows {
+        scroll(out, shadow, least, size, before);
+        Lifting {
+            word: 7,
+            lifted: true,
+            rows: least,
+        }
+    } else {
+        Lifting {
+            word: before,
+            lifted: false,
+            rows,
+        }
+    }
+}

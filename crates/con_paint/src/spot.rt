@@ -1,0 +1,69 @@
+//! Where a terminal's cursor stands, as far as a painter knows.
+ghost use Rattle.std.specs.Prelude.{◌≡◌, ◌+◌, ◌<◌, ◌≤◌, true, false};
+ghost use Rattle.std.specs.Vec.{vec_len, vec_capacity};
+ghost use Rattle.con_term.specs.Page.{Screen};
+ghost use Rattle.con_paint.specs.Leads.{Leads};
+ghost use Rattle.con_paint.specs.Spot as spots;
+
+use crate::emit::go_to;
+
+/// A place, counted from 0, where the cursor stands with no wrap pending, if that is known.
+#[derive(Clone, Copy, Debug)]
+pub struct Spot {
+    pub known: bool,
+    pub x: u16,
+    pub y: u16,
+}
+
+/// What is known between two rows: the word of the pen, and the cursor's place.
+#[derive(Clone, Copy, Debug)]
+pub struct State {
+    pub word: u16,
+    pub spot: Spot,
+}
+
+/// No known place.
+pub(crate) const NOWHERE: Spot = Spot {
+    known: false,
+    x: 0,
+    y: 0,
+};
+
+/// The place, where something is known.
+pub(crate) fn spot_if(known: bool, spot: Spot) -> Spot
+    ensures there { result.known ≡ true → (known ≡ true) × (spot.known ≡ true) × (result.x ≡ spot.x) × (result.y ≡ spot.y) }
+    ensures same { known ≡ true → result ≡ spot }
+{
+    if known { spot } else { NOWHERE }
+}
+
+/// The place behind columns that were written, where they are not a row's last ones.
+pub(crate) fn spot_behind(upto: usize, width: usize, y: u16) -> Spot
+    requires { (upto ≤ width) × (width ≤ 512) }
+    ensures { spots.IsBehind result upto width y }
+{
+    if upto < width {
+        Spot {
+            known: true,
+            x: upto as u16,
+            y,
+        }
+    } else {
+        NOWHERE
+    }
+}
+
+/// Brings the cursor to a place, counted from 0, where it does not stand there.
+pub(crate) fn go(out: &mut Vec<u8>, at: Spot, x: u16, y: u16)
+    requires small { (x < 999) × (y < 999) }
+    requires room { vec_len out.old + 11 ≤ vec_capacity out.old }
+    ensures leads { (s : Screen) → (x < s.w) × (y < s.h) → spots.IsAt at s → Leads out.old.items out.new.items s (record s { x = x; y = y; pending = false }) 0 }
+    ensures quiet { at.known ≡ true → at.x ≡ x → at.y ≡ y → out.new.items ≡ out.old.items }
+    ensures capacity { vec_capacity out.new ≡ vec_capacity out.old }
+    ensures few { vec_len out.new ≤ vec_len out.old + 11 }
+{
+    if at.known && at.x == x && at.y == y {
+        return;
+    }
+    go_to(out, y + 1, x + 1);
+}

@@ -1,0 +1,130 @@
+//! Frames, byte by byte, and the terminal that plays them.
+ghost use Rattle.std.specs.Prelude.{◌≡◌, IfOk};
+ghost use Rattle.con_paint.specs.Painter.{IsWhole};
+
+use crate::{Painter, room_for};
+use con_term::Terminal;
+use con_units::{Attr, Cell, Coord, Marks, OutOfMemory, Rows, Size, View};
+use std::alloc::Global;
+use std::process::Abort;
+use std::test::Fail;
+
+const SIZE: Size = Size { w: 6, h: 3 };
+
+// A view of 18 cells, the second of which is in another word, with a visible cursor, or with none where x is negative.
+fn view(
+    rt: &impl Abort,
+    alloc: Global,
+    text: &[u8],
+    word: u16,
+    x: i16,
+    y: i16,
+) -> Result<View, OutOfMemory>
+    ensures { IfOk result (λ v. IsWhole v × (v.size.w ≡ 6) × (v.size.h ≡ 3)) }
+{
+    let mut rows = Vec::new(alloc);
+    for (i, byte) in text.iter().enumerate() {
+        let attr = Attr::of(if i == 1 { word } else { 7 });
+        let Ok(()) = rows.push(Cell::new(*byte as u16, attr)) else {
+            return Err(OutOfMemory);
+        };
+    }
+    assert!(rt; rows.len() == 18 && x < 6 && 0 <= y && y < 3);
+    Ok(View {
+        size: SIZE,
+        rows: Rows(rows),
+        cursor: Coord { x, y },
+        visible: 0 <= x,
+    })
+}
+
+// Plays the bytes of a frame in which every row is marked, and appends them to a text, ESC as ^.
+fn played(
+    alloc: Global,
+    painter: &mut Painter,
+    terminal: &mut Terminal,
+    view: &View,
+    text: &mut String,
+) -> Result<(), Fail>
+    requires view { IsWhole view.now × (view.now.size.w ≡ 6) × (view.now.size.h ≡ 3) }
+    requires size { (painter.old.w ≡ 6) × (painter.old.h ≡ 3) }
+    ensures { (painter.new.w ≡ 6) × (painter.new.h ≡ 3) }
+{
+    let marks = Marks(Vec::from_elem(alloc, true, 3)?);
+    let mut out = Vec::with_capacity(alloc, room_for(SIZE))?;
+    painter.paint(view, &marks, &mut out);
+    terminal.play_all(out.as_slice());
+    for byte in &out {
+        text.push(if *byte == 0x1B { '^' } else { *byte as char })?;
+    }
+    text.push('\n')?;
+    Ok(())
+}
+
+// The bytes of two frames, each on a line, and what the terminal shows then.
+fn two_frames(alloc: Global, first: &View, second: &View) -> Result<String, Fail>
+    requires first { IsWhole first.now × (first.now.size.w ≡ 6) × (first.now.size.h ≡ 3) }
+    requires second { IsWhole second.now × (second.now.size.w ≡ 6) × (second.now.size.h ≡ 3) }
+{
+    let mut text = String::new(alloc);
+    let mut painter = Painter::new(alloc, Size { w: 3, h: 2 })?;
+    painter.resize(SIZE)?;
+    let mut terminal = Terminal::new(alloc, SIZE)?;
+    played(alloc, &mut painter, &mut terminal, first, &mut text)?;
+    played(alloc, &mut painter, &mut terminal, second, &mut text)?;
+    let units = terminal.dump()?;
+    for unit in units.as_slice() {
+        text.push(char::from_u32(*unit as u32).unwrap_or('?'))?;
+    }
+    Ok(text)
+}
+
+#[test]
+fn whole_frame_and_one_changed_cell(rt: HostRuntime) -> Result<(), Fail> {
+    let first = view(&rt, rt.alloc(), b"ab    cdefgh      ", 4, 1, 1)?;
+    let second = view(&rt, rt.alloc(), b"ab    cdXfgh      ", 4, 1, 1)?;
+    let text = two_frames(rt.alloc(), &first, &second)?;
+    assert_eq!(rt;
+        text.as_str(),
+        "^[!p^[?69l^[?6l^[4l^[20l^[?7h^[r^(B\u{F}^[0m^[?25l^[Ha^[31;40mb^[m^[K^[2Hcdefgh^[3H^[K^[2;2H^[?25h\n^[2;3HX^[2;2H\n6x3 cursor 1,1\n|ab    |\n|cdXfgh|\n|      |\n@0,1+1 0004\n"
+    );
+    Ok(())
+}
+
+// The lower right cell leaves a wrap pending, and the cursor stays hidden.
+#[test]
+fn lifted_rows_and_hidden_cursor(rt: HostRuntime) -> Result<(), Fail> {
+    let first = view(&rt, rt.alloc(), b"abcdefghijklmnopqr", 7, 0, 2)?;
+    let second = view(&rt, rt.alloc(), b"ghijklmnopqrstuvwx", 7, -1, 0)?;
+    let text = two_frames(rt.alloc(), &first, &second)?;
+    assert_eq!(rt;
+        text.as_str(),
+        "^[!p^[?69l^[?6l^[4l^[20l^[?7h^[r^(B\u{F}^[0m^[?25l^[Habcdef^[2Hghijkl^[3Hmnopqr^[3H^[?25h\n^[S^[?25lstuvwx\n6x3 cursor hidden\n|ghijkl|\n|mnopqr|\n|stuvwx|\n"
+    );
+    Ok(())
+}
+
+#[test]
+fn equal_view_gives_no_byte(rt: HostRuntime) -> Result<(), Fail> {
+    let first = view(&rt, rt.alloc(), b"                  ", 7, 3, 0)?;
+    let second = view(&rt, rt.alloc(), b"                  ", 7, 3, 0)?;
+    let text = two_frames(rt.alloc(), &first, &second)?;
+    assert_eq!(rt;
+        text.as_str(),
+        "^[!p^[?69l^[?6l^[4l^[20l^[?7h^[r^(B\u{F}^[0m^[H^[J^[1;4H^[?25h\n\n6x3 cursor 3,0\n|      |\n|      |\n|      |\n"
+    );
+    Ok(())
+}
+
+#[test]
+fn cursor_alone(rt: HostRuntime) -> Result<(), Fail> {
+    let first = view(&rt, rt.alloc(), b"                  ", 0x4007, 3, 0)?;
+    let second = view(&rt, rt.alloc(), b"                  ", 0x4007, 0, 2)?;
+    let text = two_frames(rt.alloc(), &first, &second)?;
+    assert!(rt;
+        text.as_str().ends_with(
+            "\n^[3H\n6x3 cursor 0,2\n|      |\n|      |\n|      |\n@0,1+1 4007\n"
+        )
+    );
+    Ok(())
+}

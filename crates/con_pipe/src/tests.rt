@@ -1,0 +1,68 @@
+ghost use Rattle.std.specs.Prelude.{◌≡◌, true, false, IfOk};
+ghost use Rattle.con_pipe.specs.Ends.{is_finished, IsSameIn, IsSameOut};
+
+use crate::{Ends, PipeIn, PipeOut, meet, pipe};
+use con_units::Bytes;
+use std::alloc::{AllocError, Global};
+use std::sync::Wait;
+use std::test::Fail;
+use std::thread::join;
+
+// Puts three pieces and the end mark.
+fn put_three<R: Wait>(rt: &R, alloc: Global, mut put: PipeIn) -> Result<PipeIn, AllocError>
+    requires { is_finished put ≡ false }
+    ensures { IfOk result (λ end. IsSameIn put end) }
+{
+    put.push(rt, Bytes(Vec::from_array(alloc, [1])?));
+    put.push(rt, Bytes(Vec::from_array(alloc, [2, 2])?));
+    put.push(rt, Bytes(Vec::from_array(alloc, [3, 3, 3])?));
+    put.finish(rt);
+    Ok(put)
+}
+
+fn length_of(piece: &Option<Bytes>) -> usize {
+    match piece {
+        Some(piece) => piece.len(),
+        None => 0,
+    }
+}
+
+// The lengths of the next four pieces, with 0 for none.
+fn take_four<R: Wait>(rt: &R, mut take: PipeOut) -> (PipeOut, [usize; 4])
+    ensures { IsSameOut take result.0 }
+{
+    let first = take.next(rt);
+    let second = take.next(rt);
+    let third = take.next(rt);
+    let fourth = take.next(rt);
+    let lengths = [
+        length_of(&first),
+        length_of(&second),
+        length_of(&third),
+        length_of(&fourth),
+    ];
+    (take, lengths)
+}
+
+#[test]
+fn three_pieces_pass_a_pipe_of_one_between_two_threads(rt: HostRuntime) -> Result<(), Fail> {
+    let alloc = rt.alloc();
+    let Ok(Ends { put, take }) = pipe(alloc, 1) else {
+        panic!(rt; "no memory")
+    };
+    let (put, taken) = join(
+        &rt,
+        || -> Result<PipeIn, AllocError>
+            requires { is_finished put ≡ false }
+            ensures { IfOk result (λ end. IsSameIn put end) }
+        { put_three(&rt, alloc, put) },
+        || -> (PipeOut, [usize; 4])
+            ensures { IsSameOut take result.0 }
+        { take_four(&rt, take) },
+    );
+    let mut put = put?;
+    let (mut take, lengths) = taken;
+    meet(&mut put, &mut take);
+    assert!(rt; lengths == [1, 2, 3, 0]);
+    Ok(())
+}

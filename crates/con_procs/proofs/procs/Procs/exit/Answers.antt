@@ -1,0 +1,7 @@
+use Rattle.std.proofs.Common.{Some}
+use Rattle.con_procs.proofs.Changes.{set_is, attached_some}
+use Rattle.con_procs.specs.declared.proc.Proc.{Proc}
+use Rattle.con_procs.proofs.procs.Procs.exit.Goals as goal
+
+pub returns : goal.returns
+returns c = rw (← c.self.view_is) (set_is (λ (p : Proc). record p { ended = Some c.args.status }) c.self.inside.procs.items c.args.process c.index_mut-p.result.now (attached_some c.args.self.now c.args.process c.requires) c.index_mut-p.ensures.value)

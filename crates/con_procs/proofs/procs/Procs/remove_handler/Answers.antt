@@ -1,0 +1,11 @@
+use Rattle.std.proofs.Common.{◌≡◌, ◌∙◌, sym, true, slice_set}
+use Rattle.con_procs.proofs.Changes.{set_is, attached_some}
+use Rattle.con_procs.specs.Procs.{is_chained, place_in}
+use Rattle.con_procs.specs.declared.proc.Proc.{Proc}
+use Rattle.con_procs.specs.declared.rack.Place.TheVariants.{Removed}
+use Rattle.con_procs.proofs.procs.Procs.remove_handler.Goals as goal
+
+pub returns-clause-state : goal.returns-clause-state
+returns-clause-state c =
+    let free : is_chained (place_in c.args.self.now c.args.process c.args.place) ≡ true = sym c.is_chained.ensures ∙ c.if-not-is_chained.false in
+    rw (free, c.set.ensures) (rw (← c.self.view_is) (set_is (λ (p : Proc). record p { rack = slice_set p.rack c.args.place Removed }) c.self.inside.procs.items c.args.process c.index_mut-p.result.now (attached_some c.args.self.now c.args.process c.requires) c.index_mut-p.ensures.value))

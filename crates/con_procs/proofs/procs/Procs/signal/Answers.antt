@@ -1,0 +1,13 @@
+-- One more is told.
+use Rattle.std.proofs.Common.{arith, ◌<◌, length, ◌∙◌, ap, slice_set}
+use Rattle.std.proofs.lemmas.List.Edits.{map_over_more}
+use Rattle.con_procs.specs.Procs.{told}
+use Rattle.con_procs.proofs.procs.Procs.signal.Goals as goal
+
+pub loop-i-preserved : goal.loop-i-preserved
+loop-i-preserved c =
+    let within : c.loop-i.i < length c.args.self.now = omega arith in
+    record {
+      told = ap (slice_set c.loop-i.self-inside.procs.items c.loop-i.i) c.tell.ensures ∙ map_over_more (told c.args.event c.args.group) c.args.self.now c.loop-i.self-inside.procs.items c.loop-i.i c.index_mut-p.result.now within c.loop-i.invariant.told c.index_mut-p.ensures.value;
+      end = c.loop-i.invariant.end;
+    }

@@ -1,0 +1,24 @@
+-- What happened to a read in one step, with all that a screen needs to follow.
+use Rattle.std.specs.Prelude.{ℕ, Option, Some, None}
+use Rattle.con_cooked.specs.declared.cooked.Cooked.{Cooked}
+use Rattle.con_cooked.specs.declared.progress.Echo.{Echo}
+use Rattle.con_readers.specs.declared.step.Step.{Step}
+use Rattle.con_readers.specs.declared.step.Step.TheVariants as steps
+
+pub data Act : Type 0 where
+  -- the process's read became the first that is not done
+  began : ℕ → Act
+  -- its line took a record: the line before and after, and the echo
+  typed : ℕ → Cooked → Cooked → Echo → Act
+  -- its read of units took records without a unit
+  passed : ℕ → Act
+  -- its read is done: the length of an ended line before its expansion, 0 for another read
+  ended : ℕ → ℕ → Act
+
+-- what a caller is told of it
+abbrev pub told : Option Act → Step
+told None = steps.Idle
+told (Some (began p)) = steps.Started p
+told (Some (typed p line line' echo)) = steps.Echo p echo
+told (Some (passed p)) = steps.Dropped p
+told (Some (ended p len)) = steps.Finished p len

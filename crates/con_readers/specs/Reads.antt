@@ -1,0 +1,168 @@
+-- The list of reads, one step of it, and all steps until none is left.
+use Rattle.std.specs.Prelude.{ℕ, zero, suc, ◌+◌, ◌==◌, ◌&&◌, Bool, true, false, not, List, [], ◌∷◌, ◌++◌, length, map, slice_get, if◌then◌else◌, Option, Some, None}
+use Rattle.std.specs.List.{list_any, remove, position_or_len}
+use Rattle.con_units.specs.declared.code.Code.{Code}
+use Rattle.con_units.specs.declared.code.Code.TheVariants as code
+use Rattle.con_records.specs.declared.record.Record.{Record}
+use Rattle.con_history.specs.declared.histories.Histories.{Histories}
+use Rattle.con_alias.specs.declared.aliases.Aliases.{Aliases}
+use Rattle.con_readers.specs.Lines.{line_text}
+use Rattle.con_readers.specs.Act.{Act, began}
+use Rattle.con_readers.specs.Serving.{took, is_done, is_line, served}
+use Rattle.con_readers.specs.declared.answer.Answer.{Answer}
+use Rattle.con_readers.specs.declared.answer.Answer.TheVariants as answers
+use Rattle.con_readers.specs.declared.open.OpenRead.{OpenRead}
+use Rattle.con_readers.specs.declared.open.OpenRead.TheVariants as reads
+use Rattle.con_readers.specs.declared.open.Open.{Open}
+
+-- the open reads in the order in which they began, and for how many more there is room
+pub record Queued : Type 0 where
+  pub reads : List Open
+  pub spare : ℕ
+
+-- a read that has just begun
+abbrev pub begun : ℕ → OpenRead → Open
+begun process read = record { process = process; started = false; read = read }
+
+pub record Moved : Type 0 where
+  pub one : Open
+  pub records : List Record
+  pub histories : Histories
+  pub act : Option Act
+
+abbrev pub moved_on : Aliases → Open → List Record → Histories → Moved
+moved_on al o [] hs = record { one = o; records = []; histories = hs; act = None }
+moved_on al o (r ∷ rs) hs = let t = took o.process al o.read (r ∷ rs) hs in record { one = record o { read = t.read }; records = t.records; histories = t.histories; act = t.act }
+
+-- one step of the first read that is not done: it starts, then it takes records
+abbrev pub moved : Aliases → Open → List Record → Histories → Moved
+moved al o rs hs = if o.started then moved_on al o rs hs else record { one = record o { started = true }; records = rs; histories = hs; act = Some (began o.process) }
+
+-- the first k reads are done
+abbrev pub done_upto : ℕ → List Open → Bool
+done_upto zero os = true
+done_upto (suc k) [] = true
+done_upto (suc k) (o ∷ os) = is_done o.read && done_upto k os
+
+pub record Pumped : Type 0 where
+  pub reads : List Open
+  pub records : List Record
+  pub histories : Histories
+  pub act : Option Act
+
+-- one step of the first read that is not done, or none
+abbrev pub pumped : Aliases → List Open → List Record → Histories → Pumped
+pumped al [] rs hs = record { reads = []; records = rs; histories = hs; act = None }
+pumped al (o ∷ os) rs hs =
+    if is_done o.read then (let p = pumped al os rs hs in record p { reads = o ∷ p.reads })
+    else (let m = moved al o rs hs in record { reads = m.one ∷ os; records = m.records; histories = m.histories; act = m.act })
+
+-- the reads when nothing more can be served, what is left of the records, the histories, and what happened in order
+pub record Settled : Type 0 where
+  pub reads : List Open
+  pub records : List Record
+  pub histories : Histories
+  pub acts : List Act
+
+abbrev pub first_acts : Open → List Act → List Act
+first_acts o acts = if o.started then acts else began o.process ∷ acts
+
+-- the first read that is not done takes records until it is done or none is left, then the next one follows
+unfoldable pub settled : Aliases → List Open → List Record → Histories → Settled
+settled al [] rs hs = record { reads = []; records = rs; histories = hs; acts = [] }
+settled al (o ∷ os) rs hs =
+    if is_done o.read then (let t = settled al os rs hs in record t { reads = o ∷ t.reads })
+    else (let s = served o.process al o.read rs hs in
+    let one : Open = record o { read = s.read; started = true } in
+    if is_done s.read then (let t = settled al os s.records s.histories in record { reads = one ∷ t.reads; records = t.records; histories = t.histories; acts = first_acts o s.acts ++ t.acts })
+    else record { reads = one ∷ os; records = s.records; histories = s.histories; acts = first_acts o s.acts })
+
+unfoldable pub before : Act → Settled → Settled
+before a t = record t { acts = a ∷ t.acts }
+
+abbrev pub after_act : Option Act → Pumped → Settled → Settled
+after_act None p t = record { reads = p.reads; records = p.records; histories = p.histories; acts = [] }
+after_act (Some a) p t = before a t
+
+-- what settles after a step, with what happened in that step before it
+unfoldable pub settled_after : Aliases → Pumped → Settled
+settled_after al p = after_act p.act p (settled al p.reads p.records p.histories)
+
+-- a number that each step lowers
+abbrev pub weight : Open → ℕ
+weight o = if is_done o.read then 0 else if o.started then 1 else 2
+
+unfoldable pub work : List Open → List Record → ℕ
+work [] rs = length rs
+work (o ∷ os) rs = weight o + work os rs
+
+abbrev pub text_in : OpenRead → List ℕ
+text_in (reads.Line line) = line_text line
+text_in (reads.Units n) = []
+text_in (reads.Records n) = []
+text_in (reads.Done a) = []
+
+-- the text of the first read that is not done, where it is of a line
+abbrev pub head_text : List Open → List ℕ
+head_text [] = []
+head_text (o ∷ os) = if is_done o.read then head_text os else text_in o.read
+
+abbrev pub is_of : ℕ → Open → Bool
+is_of p o = o.process == p
+
+abbrev pub place_of : List Open → ℕ → ℕ
+place_of os p = position_or_len (is_of p) os
+
+abbrev pub done_in : Option Open → Bool
+done_in None = false
+done_in (Some o) = is_done o.read
+
+abbrev pub undone_in : Option Open → Bool
+undone_in None = false
+undone_in (Some o) = not (is_done o.read)
+
+abbrev pub is_open : List Open → ℕ → Bool
+is_open os p = list_any (is_of p) os
+
+-- the process's read is done
+abbrev pub has_done : List Open → ℕ → Bool
+has_done os p = done_in (slice_get os (place_of os p))
+
+-- the process has a read that is not done
+abbrev pub has_undone : List Open → ℕ → Bool
+has_undone os p = undone_in (slice_get os (place_of os p))
+
+abbrev pub without : List Open → ℕ → List Open
+without os p = remove os (place_of os p)
+
+abbrev pub answer_of : OpenRead → Answer
+answer_of (reads.Done a) = a
+answer_of (reads.Line l) = answers.Fail code.Closed
+answer_of (reads.Units n) = answers.Fail code.Closed
+answer_of (reads.Records n) = answers.Fail code.Closed
+
+abbrev pub answer_in : Option Open → Answer
+answer_in None = answers.Fail code.Closed
+answer_in (Some o) = answer_of o.read
+
+abbrev pub failed : Code → Open → Open
+failed why o = record o { read = reads.Done (answers.Fail why) }
+
+abbrev pub closed_one : Open → Open
+closed_one o = if is_done o.read then o else failed code.Closed o
+
+-- each read that is not done ends, since the console closes
+abbrev pub all_closed : List Open → List Open
+all_closed os = map closed_one os
+
+abbrev pub changed_at : (Open → Open) → List Open → ℕ → List Open
+changed_at f [] k = []
+changed_at f (o ∷ os) zero = f o ∷ os
+changed_at f (o ∷ os) (suc k) = o ∷ changed_at f os k
+
+abbrev pub is_open_line : Open → Bool
+is_open_line o = is_line o.read
+
+-- the first line read that is not done ends by ctrl+C
+abbrev pub line_aborted : List Open → List Open
+line_aborted os = changed_at (failed code.Aborted) os (position_or_len is_open_line os)

@@ -1,0 +1,86 @@
+-- How one open read is served.
+use Rattle.std.specs.Prelude.{ℕ, Bool, true, false, List, [], ◌∷◌, length, take, drop, Option, Some, None}
+use Rattle.con_records.specs.declared.record.Record.{Record}
+use Rattle.con_history.specs.declared.histories.Histories.{Histories}
+use Rattle.con_alias.specs.declared.aliases.Aliases.{Aliases}
+use Rattle.con_cooked.specs.declared.cooked.Cooked.{Cooked}
+use Rattle.con_cooked.specs.declared.progress.Progress.{Progress}
+use Rattle.con_cooked.specs.declared.progress.Progress.TheVariants as progress
+use Rattle.con_readers.specs.Wants.{units_of, rest_of}
+use Rattle.con_readers.specs.Lines.{line_after, line_progress, line_text, line_answer, with_line}
+use Rattle.con_readers.specs.Act.{Act, typed, passed, ended}
+use Rattle.con_readers.specs.declared.answer.Answer.TheVariants as answers
+use Rattle.con_readers.specs.declared.open.OpenRead.{OpenRead}
+use Rattle.con_readers.specs.declared.open.OpenRead.TheVariants as reads
+
+abbrev pub is_done : OpenRead → Bool
+is_done (reads.Done a) = true
+is_done (reads.Line l) = false
+is_done (reads.Units n) = false
+is_done (reads.Records n) = false
+
+abbrev pub is_line : OpenRead → Bool
+is_line (reads.Done a) = false
+is_line (reads.Line l) = true
+is_line (reads.Units n) = false
+is_line (reads.Records n) = false
+
+-- a read after it took records, what is left of them, the histories, and what happened
+pub record Took : Type 0 where
+  pub read : OpenRead
+  pub records : List Record
+  pub histories : Histories
+  pub act : Option Act
+
+-- a read of n units, where the records have these
+abbrev pub took_units : ℕ → ℕ → List Record → Histories → List ℕ → Took
+took_units p n rs hs [] = record { read = reads.Units n; records = []; histories = hs; act = Some (passed p) }
+took_units p n rs hs (u ∷ us) = record { read = reads.Done (answers.Units (u ∷ us)); records = rest_of n rs; histories = hs; act = Some (ended p 0) }
+
+-- a line that took one record, by whether it goes on
+abbrev pub took_one : ℕ → Aliases → Cooked → Cooked → List Record → Histories → Progress → Took
+took_one p al line line' rs hs (progress.Going echo) = record { read = reads.Line line'; records = rs; histories = hs; act = Some (typed p line line' echo) }
+took_one p al line line' rs hs (progress.Done echo) = record { read = reads.Done (answers.Units (line_answer line' al)); records = rs; histories = with_line line' hs; act = Some (ended p (length (line_text line'))) }
+
+abbrev pub took_line : ℕ → Aliases → Cooked → List Record → Histories → Took
+took_line p al line [] hs = record { read = reads.Line line; records = []; histories = hs; act = None }
+took_line p al line (r ∷ rs) hs = took_one p al line (line_after line r hs) rs hs (line_progress line r hs)
+
+-- one step of a read that is not done, where records are there
+abbrev pub took : ℕ → Aliases → OpenRead → List Record → Histories → Took
+took p al (reads.Records n) rs hs = record { read = reads.Done (answers.Records (take n rs)); records = drop n rs; histories = hs; act = Some (ended p 0) }
+took p al (reads.Units n) rs hs = took_units p n rs hs (units_of n rs)
+took p al (reads.Line line) rs hs = took_line p al line rs hs
+took p al (reads.Done a) rs hs = record { read = reads.Done a; records = rs; histories = hs; act = None }
+
+-- a read after all that the records there do to it, and what happened in order
+pub record Served : Type 0 where
+  pub read : OpenRead
+  pub records : List Record
+  pub histories : Histories
+  pub acts : List Act
+
+abbrev pub served_on : ℕ → Aliases → Cooked → Cooked → List Record → Histories → Served → Progress → Served
+served_on p al line line' rs hs later (progress.Going echo) = record later { acts = typed p line line' echo ∷ later.acts }
+served_on p al line line' rs hs later (progress.Done echo) = record { read = reads.Done (answers.Units (line_answer line' al)); records = rs; histories = with_line line' hs; acts = ended p (length (line_text line')) ∷ [] }
+
+-- a line takes records one by one, up to the one that ends it
+abbrev pub served_line : ℕ → Aliases → Cooked → List Record → Histories → Served
+served_line p al line [] hs = record { read = reads.Line line; records = []; histories = hs; acts = [] }
+served_line p al line (r ∷ rs) hs = served_on p al line (line_after line r hs) rs hs (served_line p al (line_after line r hs) rs hs) (line_progress line r hs)
+
+abbrev pub listed : Option Act → List Act
+listed None = []
+listed (Some a) = a ∷ []
+
+abbrev pub served_at_once : Took → Served
+served_at_once t = record { read = t.read; records = t.records; histories = t.histories; acts = listed t.act }
+
+-- the first read takes records until it is done or none is left
+unfoldable pub served : ℕ → Aliases → OpenRead → List Record → Histories → Served
+served p al (reads.Records n) [] hs = record { read = reads.Records n; records = []; histories = hs; acts = [] }
+served p al (reads.Records n) (r ∷ rs) hs = served_at_once (took p al (reads.Records n) (r ∷ rs) hs)
+served p al (reads.Units n) [] hs = record { read = reads.Units n; records = []; histories = hs; acts = [] }
+served p al (reads.Units n) (r ∷ rs) hs = served_at_once (took p al (reads.Units n) (r ∷ rs) hs)
+served p al (reads.Line line) rs hs = served_line p al line rs hs
+served p al (reads.Done a) rs hs = record { read = reads.Done a; records = rs; histories = hs; acts = [] }

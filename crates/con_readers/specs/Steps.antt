@@ -1,0 +1,11 @@
+-- Steps that do nothing.
+use Rattle.std.specs.Prelude.{Bool, true, false}
+use Rattle.con_readers.specs.declared.step.Step.{Step}
+use Rattle.con_readers.specs.declared.step.Step.TheVariants as steps
+
+abbrev pub is_idle : Step → Bool
+is_idle steps.Idle = true
+is_idle (steps.Started p) = false
+is_idle (steps.Echo p e) = false
+is_idle (steps.Dropped p) = false
+is_idle (steps.Finished p n) = false

@@ -1,0 +1,238 @@
+// An open read.
+ghost use Rattle.std.specs.Prelude.{◌≡◌, ℕ, List, [], ◌∷◌, length, ◌≤◌};
+ghost use Rattle.con_readers.specs.Wants.{units_of};
+ghost use Rattle.con_readers.specs.Lines.{line_after, line_progress, line_text};
+ghost use Rattle.con_readers.specs.Act.{told};
+ghost use Rattle.con_readers.specs.Serving.{took, took_units, took_one, took_line, is_done, is_line};
+ghost use Rattle.con_readers.specs.Reads.{moved, moved_on, failed, closed_one, answer_of, text_in};
+
+use crate::answer::Answer;
+use crate::step::Step;
+use crate::wants_records::WantsRecords;
+use crate::wants_units::WantsUnits;
+use con_alias::Aliases;
+use con_cooked::{Cooked, Progress};
+use con_history::Histories;
+use con_records::{Record, Records};
+use con_units::Code;
+use std::mem;
+
+/// What a read wants, or its answer.
+#[derive(Drop)]
+pub enum OpenRead {
+    Line(Cooked),
+    Units(WantsUnits),
+    Records(WantsRecords),
+    Done(Answer),
+}
+
+/// A process's read, and whether it was the first that is not done.
+#[derive(Drop)]
+pub struct Open {
+    pub process: u8,
+    pub started: bool,
+    pub read: OpenRead,
+}
+
+/// A read after a step, and what the step was.
+#[derive(Drop)]
+pub struct Taking {
+    pub read: OpenRead,
+    pub step: Step,
+}
+
+fn take_units(
+    process: u8,
+    wants: WantsUnits,
+    records: &mut Records,
+    histories: &Histories,
+) -> Taking
+    ensures read { result.read ≡ (took_units process wants records.old.items histories.now (units_of wants records.old.items)).read }
+    ensures step { result.step ≡ told (took_units process wants records.old.items histories.now (units_of wants records.old.items)).act }
+    ensures records { records.new ≡ record records.old { items = (took_units process wants records.old.items histories.now (units_of wants records.old.items)).records } }
+{
+    let _ = histories;
+    match wants.take(records) {
+        Ok(units) => Taking {
+            read: OpenRead::Done(Answer::Units(units)),
+            step: Step::Finished(process, 0),
+        },
+        Err(wants) => Taking {
+            read: OpenRead::Units(wants),
+            step: Step::Dropped(process),
+        },
+    }
+}
+
+/// Nothing happened.
+fn unchanged(read: OpenRead) -> Taking
+    ensures read { result.read ≡ read }
+    ensures step { result.step ≡ told None }
+{
+    Taking {
+        read,
+        step: Step::Idle,
+    }
+}
+
+fn length_of(line: &Cooked) -> u16
+    ensures { result ≡ length (line_text line.now) }
+{
+    line.text().len() as u16
+}
+
+/// A line takes one record.
+fn take_one(
+    process: u8,
+    mut line: Cooked,
+    one: Record,
+    histories: &mut Histories,
+    aliases: &Aliases,
+) -> Taking
+    ensures read { result.read ≡ (took_one process aliases.now line (line_after line one histories.old) [] histories.old (line_progress line one histories.old)).read }
+    ensures step { result.step ≡ told (took_one process aliases.now line (line_after line one histories.old) [] histories.old (line_progress line one histories.old)).act }
+    ensures histories { histories.new ≡ (took_one process aliases.now line (line_after line one histories.old) [] histories.old (line_progress line one histories.old)).histories }
+{
+    match line.press(&one, histories) {
+        Progress::Going(echo) => Taking {
+            read: OpenRead::Line(line),
+            step: Step::Echo(process, echo),
+        },
+        Progress::Done(_) => {
+            let len = length_of(&line);
+            Taking {
+                read: OpenRead::Done(Answer::Units(line.finish(histories, aliases))),
+                step: Step::Finished(process, len),
+            }
+        }
+    }
+}
+
+fn take_line(
+    process: u8,
+    line: Cooked,
+    records: &mut Records,
+    histories: &mut Histories,
+    aliases: &Aliases,
+) -> Taking
+    ensures read { result.read ≡ (took_line process aliases.now line records.old.items histories.old).read }
+    ensures step { result.step ≡ told (took_line process aliases.now line records.old.items histories.old).act }
+    ensures records { records.new ≡ record records.old { items = (took_line process aliases.now line records.old.items histories.old).records } }
+    ensures histories { histories.new ≡ (took_line process aliases.now line records.old.items histories.old).histories }
+{
+    match records.pop() {
+        Some(one) => take_one(process, line, one, histories, aliases),
+        None => unchanged(OpenRead::Line(line)),
+    }
+}
+
+/// One step of a read.
+fn take(
+    process: u8,
+    read: OpenRead,
+    records: &mut Records,
+    histories: &mut Histories,
+    aliases: &Aliases,
+) -> Taking
+    ensures read { result.read ≡ (took process aliases.now read records.old.items histories.old).read }
+    ensures step { result.step ≡ told (took process aliases.now read records.old.items histories.old).act }
+    ensures records { records.new ≡ record records.old { items = (took process aliases.now read records.old.items histories.old).records } }
+    ensures histories { histories.new ≡ (took process aliases.now read records.old.items histories.old).histories }
+{
+    match read {
+        OpenRead::Records(wants) => Taking {
+            read: OpenRead::Done(Answer::Records(wants.take(records))),
+            step: Step::Finished(process, 0),
+        },
+        OpenRead::Units(wants) => take_units(process, wants, records, histories),
+        OpenRead::Line(line) => take_line(process, line, records, histories, aliases),
+        OpenRead::Done(answer) => unchanged(OpenRead::Done(answer)),
+    }
+}
+
+impl OpenRead {
+    /// Whether it is done.
+    pub fn done(&self) -> bool
+        ensures { result ≡ is_done self.now }
+    {
+        matches!(self, OpenRead::Done(_))
+    }
+
+    /// Whether it is a line that is not done.
+    pub fn line(&self) -> bool
+        ensures { result ≡ is_line self.now }
+    {
+        matches!(self, OpenRead::Line(_))
+    }
+
+    /// The text so far of a line that is not done, and none for another read.
+    pub fn text(&self) -> &[u16]
+        ensures { result.now ≡ text_in self.now }
+    {
+        match self {
+            OpenRead::Line(line) => line.text(),
+            OpenRead::Units(_) => &[],
+            OpenRead::Records(_) => &[],
+            OpenRead::Done(_) => &[],
+        }
+    }
+}
+
+impl Open {
+    /// One step of the first read that is not done.
+    pub fn advance(
+        &mut self,
+        records: &mut Records,
+        histories: &mut Histories,
+        aliases: &Aliases,
+    ) -> Step
+        ensures one { self.new ≡ (moved aliases.now self.old records.old.items histories.old).one }
+        ensures records { records.new ≡ record records.old { items = (moved aliases.now self.old records.old.items histories.old).records } }
+        ensures histories { histories.new ≡ (moved aliases.now self.old records.old.items histories.old).histories }
+        ensures step { result ≡ told (moved aliases.now self.old records.old.items histories.old).act }
+    {
+        if !self.started {
+            self.started = true;
+            return Step::Started(self.process);
+        }
+        if records.count() == 0 {
+            return Step::Idle;
+        }
+        let nothing = OpenRead::Done(Answer::Fail(Code::Closed));
+        let read = mem::replace(&mut self.read, nothing);
+        let Taking { read, step } = take(self.process, read, records, histories, aliases);
+        self.read = read;
+        step
+    }
+
+    /// Ends the read with a refusal.
+    pub fn end(&mut self, why: Code)
+        ensures { self.new ≡ failed why self.old }
+    {
+        self.read = OpenRead::Done(Answer::Fail(why));
+    }
+
+    /// Ends the read, if it is not done, since the console closes.
+    pub fn close(&mut self)
+        ensures { self.new ≡ closed_one self.old }
+    {
+        if !self.read.done() {
+            self.end(Code::Closed);
+        }
+    }
+
+    /// The answer of a read that is done.
+    pub fn into_answer(self) -> Answer
+        ensures { result ≡ answer_of self.read }
+    {
+        let Open {
+            process: _,
+            started: _,
+            read,
+        } = self;
+        match read {
+            OpenRead::Done(answer) => answer,
+            _ => Answer::Fail(Code::Closed),
+        }
+    }
+}

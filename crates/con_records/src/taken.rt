@@ -1,0 +1,17 @@
+//! Records on their own.
+
+use crate::record::Record;
+use std::marker::Model;
+
+/// Records that were taken out of a queue, or are to be put in. Contracts see the list, and no capacity.
+#[derive(Drop)]
+pub struct Taken(pub Vec<Record>);
+
+impl Model for Taken {
+    ghost use Rattle.std.specs.Prelude.{List};
+    ghost use Rattle.con_records.specs.declared.record.Record.{Record};
+
+    ghost Value = { List Record };
+
+    ghost view = { λ t. t.0.items };
+}

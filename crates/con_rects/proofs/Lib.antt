@@ -1,0 +1,7 @@
+pub mod AreaLemmas
+pub mod DrawLemmas
+pub mod RunLemmas
+pub mod RectLemmas
+pub mod ReadLemmas
+pub mod MoveLemmas
+pub mod ScrollLemmas

@@ -1,0 +1,81 @@
+-- Reading rows.
+use Rattle.std.proofs.Common.{◌≡◌, ℕ, suc, zero, ◌+◌, ◌-◌, ◌*◌, ◌<◌, ◌≤◌, inl, inr, nat_lt, false, Some, List, [], ◌∷◌, ◌++◌, length, take, drop, get_or, slice_get, refl, sym, ap, ◌∙◌, arith, append_assoc, length-append, length-drop, append-nil}
+use Rattle.std.proofs.lemmas.List.{take_more, get_or-drop, length-take, length-take-le}
+use Rattle.std.proofs.lemmas.Option.{get_or_from_slice_get}
+use Rattle.std.proofs.lemmas.Nat.{mul-add-lt}
+use Rattle.std.proofs.Math.Nat.{mul-le-mul_right}
+use Rattle.con_units.specs.Glyph.{Glyph}
+use Rattle.con_grid.specs.Picture.{Picture, IsPicture}
+use Rattle.std.proofs.lemmas.Bool.{and_cases, ltb-false}
+use Rattle.con_units.specs.declared.place.Rect.{Rect}
+use Rattle.con_rects.specs.Area.{area_in, has_cells}
+use Rattle.con_rects.specs.Rules.{blank, row_part, rows_part, area_cells, rect_cells}
+use Rattle.con_rects.specs.declared.area.Area.{Area}
+
+-- a row's cells are in the list of cells
+row_inside : (p : Picture) (y : ℕ) → IsPicture p → y < p.height → y * p.width + p.width ≤ length p.cells
+row_inside p y ok h = let le : y + 1 ≤ p.height = omega arith in omega (arith, mul-le-mul_right p.width le, ok.cells)
+
+length-row_part : (p : Picture) (left right y : ℕ) → IsPicture p → left ≤ right → right ≤ p.width → y < p.height → length (row_part p left right y) ≡ right - left
+length-row_part p left right y ok order wide tall =
+    length-take-le (right - left) (drop (y * p.width + left) p.cells) (rw (length-drop (y * p.width + left) p.cells) (omega (arith, row_inside p y ok tall)))
+
+pub length-rows_part : (p : Picture) (left right y n : ℕ) → IsPicture p → left ≤ right → right ≤ p.width → y + n ≤ p.height → length (rows_part p left right y n) ≡ n * (right - left)
+length-rows_part p left right y zero ok order wide tall = omega arith
+length-rows_part p left right y (suc n) ok order wide tall =
+    length-append (rows_part p left right y n) (row_part p left right (y + n))
+    ∙ omega (arith, length-rows_part p left right y n ok order wide (omega arith), length-row_part p left right (y + n) ok order wide (omega arith))
+
+-- what a loop over the rows of an area and their columns has read
+abbrev pub read_so : Picture → ℕ → ℕ → ℕ → ℕ → ℕ → List Glyph
+read_so p left right top x y = rows_part p left right top (y - top) ++ take (x - left) (drop (y * p.width + left) p.cells)
+
+pub read_more : (p : Picture) (left right top x y : ℕ) (cell : Glyph) (out now : List Glyph) → IsPicture p → left ≤ x → x < right → right ≤ p.width → y < p.height → slice_get p.cells (y * p.width + x) ≡ Some cell
+    → out ≡ read_so p left right top x y → now ≡ out ++ cell ∷ [] → now ≡ read_so p left right top (x + 1) y
+read_more p left right top x y cell out now ok low high wide tall read before is =
+    let part : List Glyph = drop (y * p.width + left) p.cells in
+    let within : x - left < length part = rw (length-drop (y * p.width + left) p.cells) (omega (arith, row_inside p y ok tall)) in
+    let got : get_or part (x - left) blank ≡ cell = get_or-drop (y * p.width + left) p.cells (x - left) blank ∙ ap (λ k. get_or p.cells k blank) (omega arith) ∙ get_or_from_slice_get p.cells (y * p.width + x) cell blank read in
+    let more : take (x + 1 - left) part ≡ take (x - left) part ++ cell ∷ [] = ap (λ n. take n part) (omega arith) ∙ take_more part (x - left) blank within ∙ ap (λ g. take (x - left) part ++ g ∷ []) got in
+    is ∙ ap (λ (c : List Glyph). c ++ cell ∷ []) before ∙ append_assoc (rows_part p left right top (y - top)) (take (x - left) part) (cell ∷ []) ∙ ap (λ (c : List Glyph). rows_part p left right top (y - top) ++ c) (sym more)
+
+-- at a row's start, and at its end
+pub read_row : (p : Picture) (left right top y : ℕ) → read_so p left right top left y ≡ rows_part p left right top (y - top)
+read_row p left right top y =
+    let none : left - left ≡ 0 = omega arith in
+    ap (λ n. rows_part p left right top (y - top) ++ take n (drop (y * p.width + left) p.cells)) none ∙ append-nil (rows_part p left right top (y - top))
+
+pub read_next : (p : Picture) (left right top y : ℕ) → top ≤ y → read_so p left right top right y ≡ rows_part p left right top (y + 1 - top)
+read_next p left right top y low =
+    let next : y + 1 - top ≡ suc (y - top) = omega arith in
+    let here : top + (y - top) ≡ y = omega arith in
+    rw next (ap (λ k. rows_part p left right top (y - top) ++ row_part p left right k) (sym here))
+
+-- the capacity suffices for one more
+pub read_room : (p : Picture) (left right top bottom x y : ℕ) → IsPicture p → left ≤ x → x < right → right ≤ p.width → top ≤ y → y < bottom → bottom ≤ p.height → length (read_so p left right top x y) < (right - left) * (bottom - top)
+read_room p left right top bottom x y ok low high wide above below tall =
+    let rows : ℕ = y - top in
+    let e : length (rows_part p left right top rows) ≡ rows * (right - left) = length-rows_part p left right top rows ok (omega arith) wide (omega arith) in
+    let part : List Glyph = drop (y * p.width + left) p.cells in
+    let f : length (take (x - left) part) ≤ x - left = omega (arith, length-take (x - left) part) in
+    let g : rows * (right - left) + (x - left) < (right - left) * (bottom - top) = mul-add-lt rows (right - left) (x - left) (bottom - top) (omega arith) (omega arith) in
+    omega (arith, length-append (rows_part p left right top rows) (take (x - left) part), e, f, g)
+
+-- an area without a cell gives none
+no_columns : (p : Picture) (left right y n : ℕ) → right ≤ left → rows_part p left right y n ≡ []
+no_columns p left right y zero h = refl
+no_columns p left right y (suc n) h =
+    let none : right - left ≡ 0 = omega arith in
+    ap (λ (c : List Glyph). c ++ row_part p left right (y + n)) (no_columns p left right y n h) ∙ ap (λ k. take k (drop ((y + n) * p.width + left) p.cells)) none
+
+pub no_cells : (p : Picture) (a : Area) → has_cells a ≡ false → area_cells p a ≡ []
+no_cells p a none = elim (and_cases (nat_lt a.left a.right) (nat_lt a.top a.bottom) none) [
+  | inl columns ↦ no_columns p a.left a.right a.top (a.bottom - a.top) (ltb-false a.left a.right columns)
+  | inr rows ↦
+      let no : a.bottom - a.top ≡ 0 = omega (arith, ltb-false a.top a.bottom rows) in
+      ap (λ n. rows_part p a.left a.right a.top n) no
+]
+
+pub rect_cells_is : (p : Picture) (r : Rect) → area_cells p (area_in r p.width p.height) ≡ rect_cells p r
+unfolding rect_cells
+rect_cells_is p r = refl

@@ -1,0 +1,8 @@
+use Rattle.std.proofs.Common.{◌+◌}
+use Rattle.con_rects.specs.Runs.{with_word}
+use Rattle.con_rects.proofs.DrawLemmas.{DoneBefore}
+use Rattle.con_rects.proofs.RunLemmas.{run_at}
+use Rattle.con_rects.proofs.runs.write_words.Given as goal
+
+abbrev pub invariant-loop-k : goal.invariant-loop-k
+invariant-loop-k l = DoneBefore l.fn.grid l.grid (run_at l.fn.grid l.from l.n with_word l.words) (l.from + l.k)

@@ -1,0 +1,5 @@
+pub mod Area
+pub mod Rules
+pub mod Runs
+pub mod Scroll
+pub mod Moves

@@ -1,0 +1,13 @@
+use Rattle.std.proofs.Common.{◌≡◌, sym, ap, ◌∙◌}
+use Rattle.con_units.specs.Attr.{masked}
+use Rattle.con_screen.specs.Page.{place, word}
+use Rattle.con_screen.specs.PageView.{page_of}
+use Rattle.con_screen.proofs.RunLemmas.{ran_put}
+use Rattle.con_screen.proofs.board.Board.write_run.Goals as goal
+
+pub returns-clause-effect : goal.returns-clause-effect
+returns-clause-effect c =
+    let at : c.place-at.result ≡ place (page_of c.self.inside) = c.place-at.ensures.place ∙ ap place (sym c.self.view_is) in
+    let attr : c.of-attr.result ≡ word (page_of c.self.inside) = c.of-attr.ensures ∙ ap masked c.word.ensures in
+    rw (← c.self.view_is, c.put_units.ensures.grid)
+    (ran_put (page_of c.self.inside) c.args.units.now c.place-at.result c.of-attr.result (rw c.self.view_is c.requires.page) (rw c.self.view_is c.requires.given) at attr)

@@ -1,0 +1,10 @@
+use Rattle.std.proofs.Common.{rules, ◌≡◌, ap, sym, ◌∙◌, take}
+use Rattle.con_screen.specs.Alternate.{sides}
+use Rattle.con_screen.specs.Screen.{Screen}
+use Rattle.con_screen.specs.ScreenView.{screen_of}
+use Rattle.con_screen.proofs.SidesLemmas.{written_sides}
+use Rattle.con_screen.proofs.screen.Screen.write_some.Goals as goal
+
+pub returns-clause-sides : goal.returns-clause-sides
+returns-clause-sides c =
+    ap sides c.write_some.ensures.done.page_is ∙ written_sides (screen_of c.self.inside) c.args.answers.now.told (take c.write_some.result.0 c.args.units.now) ∙ ap (λ (s : Screen). sides s.board) c.self.view_is

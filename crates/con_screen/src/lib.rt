@@ -1,0 +1,37 @@
+//! One screen, and what a text does to it.
+//!
+//! Contracts see a [`Screen`] as a page (`specs/Page.antt`) and its unfinished text, of which the code keeps no unit. A
+//! page is a grid of cells, the cursor, its size and whether it is visible, the window, the output mode, the pen, the
+//! saved position, the margins, the tab stops, the character set and whether a wrap is due before the next print.
+//! Places count from 0 in the buffer, x (the column) then y (the row).
+//!
+//! - `specs/Effect.antt` says what each item of a text does (ECMA-48, the console's virtual terminal sequences), one
+//!   equation for each; `specs/Written.antt` what a text does: its items, one after the other.
+//! - [`Screen::write`] is that, however a text is cut, up to a switch of the alternate screen; what a text tells
+//!   besides (reports, a title, the cursor key mode, the switch) goes to [`Answers`], which have their room beforehand.
+//! - [`Screen::set_cursor`], [`Screen::set_window_origin`], [`Screen::set_attr`], [`Screen::set_mode`],
+//!   [`Screen::set_cursor_info`] set a part; [`Screen::info`] tells what there is to know; [`Screen::grid`] and
+//!   [`Screen::grid_mut`] lend the cells.
+//! - [`Screen::fit`] takes the memory of a resize, and [`Screen::resize`] does it (`specs/Fit.antt`).
+//!
+//! Every call needs a page within its bounds (`IsPage`) and leaves one. Only `new`, `fit` and `Answers::room` take
+//! memory. Nothing is said of how the cells look on a terminal.
+#![tactic(auto)]
+
+pub mod answers;
+mod board;
+pub mod fit;
+pub mod info;
+pub mod margins;
+pub mod mode;
+pub mod pen;
+pub mod screen;
+mod tabs;
+#[cfg(test)]
+mod tests;
+mod write;
+
+pub use answers::Answers;
+pub use fit::Fit;
+pub use info::Info;
+pub use screen::{Screen, is_switched_whole, is_written_whole};

@@ -1,0 +1,4 @@
+pub mod WriteLemmas
+pub mod KeepLemmas
+pub mod ViewLemmas
+pub mod ResizeLemmas

@@ -1,0 +1,13 @@
+use Rattle.std.proofs.Common.{rules, arith, ◌≡◌, sym, subst, ◌∙◌, ap, ℕ, ◌+◌, ◌-◌}
+use Rattle.con_screens.specs.Buffer.{alternate_on, alternate_off, buffer_written}
+use Rattle.con_screens.specs.Buffers.{Buffers, AreBuffers, IsLive, with_handles, handles_of}
+use Rattle.con_screens.specs.Views.{buffers_of}
+use Rattle.con_screens.proofs.KeepLemmas.{keeps_put}
+use Rattle.con_screens.proofs.screens.Screens.alternate_off.Goals as goal
+
+pub returns-clause-kept : goal.returns-clause-kept
+returns-clause-kept c =
+    let s : Buffers = buffers_of c.self.inside in
+    let are : AreBuffers s = subst (λ (v : Buffers). AreBuffers v) (sym c.self.view_is) c.requires.buffers in
+    let live : IsLive s c.args.id.0 = subst (λ (v : Buffers). IsLive v c.args.id.0) (sym c.self.view_is) c.requires.live in
+    keeps_put s c.args.id.0 c.index_mut.result.now c.alternate_off_in.new.slot alternate_off are live c.index_mut.ensures.value c.alternate_off_in.ensures.slot c.alternate_off_in.ensures.kept

@@ -1,0 +1,17 @@
+use Rattle.std.proofs.Common.{rules, ◌≡◌, sym, subst, ◌∙◌, ap, Option, Some}
+use Rattle.std.specs.Prelude.{IfSome}
+use Rattle.con_screens.specs.Buffers.{Buffers, IsLive, buffer_at}
+use Rattle.con_screens.specs.View.{view_of}
+use Rattle.con_screens.specs.Views.{buffers_of}
+use Rattle.con_screens.specs.declared.buffer.Buffer.{Buffer}
+use Rattle.con_screens.proofs.KeepLemmas.{view_is, taken_is}
+use Rattle.con_screens.proofs.screens.Screens.view.Goals as goal
+
+pub returns : goal.returns
+returns c =
+    let s : Buffers = buffers_of c.self.inside in
+    let live : IsLive s s.active = subst (λ (v : Buffers). IsLive v v.active) (sym c.self.view_is) c.requires.buffers.active in
+    let here : buffer_at s s.active ≡ c.index.result.now = taken_is s s.active c.index.result.now live c.index.ensures in
+    let shown : IfSome (buffer_at s s.active) (λ b. c.screen-shown.result.now ≡ b.shown) = subst (λ (o : Option Buffer). IfSome o (λ b. c.screen-shown.result.now ≡ b.shown)) (sym here) c.screen-shown.ensures in
+    subst (λ (v : Buffers). IfSome (buffer_at v v.active) (λ b. c.window_of.result ≡ view_of b.shown.board)) c.self.view_is
+    (view_is (buffer_at s s.active) c.screen-shown.result.now c.window_of.result shown c.window_of.ensures)

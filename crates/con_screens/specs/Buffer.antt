@@ -1,0 +1,70 @@
+-- One screen buffer: a main screen and an alternate one, of which one is shown.
+use Rattle.std.specs.Prelude.{ℕ, ◌≡◌, ◌<◌, Bool, true, false, List, [], ◌∷◌, fold, Option, None, Some, if◌then◌else◌}
+use Rattle.con_units.specs.declared.place.Size.{Size}
+use Rattle.con_screen.specs.Page.{Page, IsPage}
+use Rattle.con_screen.specs.Screen.{Screen}
+use Rattle.con_screen.specs.Setters.{new_page}
+use Rattle.con_screen.specs.Told.{Told}
+use Rattle.con_screen.specs.Written.{Stage, written, switches}
+use Rattle.con_screen.specs.Alternate.{alternate_begun, mode_taken}
+use Rattle.con_screens.specs.declared.buffer.Buffer.{Buffer}
+
+abbrev pub main_screen : Buffer → Screen
+main_screen b = if b.alternate then b.hidden else b.shown
+
+abbrev pub alternate_screen : Buffer → Screen
+alternate_screen b = if b.alternate then b.shown else b.hidden
+
+-- a screen of this window
+pub record HasWindow (s : Screen) (w h : ℕ) : Type 0 where
+  pub page : IsPage s.board
+  pub wide : s.board.w ≡ w
+  pub tall : s.board.h ≡ h
+
+-- both screens have the window's size, and the alternate one is no larger
+pub record IsBuffer (w h births : ℕ) (b : Buffer) : Type 0 where
+  pub shown : HasWindow b.shown w h
+  pub hidden : HasWindow b.hidden w h
+  pub columns : (alternate_screen b).board.grid.width ≡ w
+  pub rows : (alternate_screen b).board.grid.height ≡ h
+  pub born : b.birth < births
+
+-- a screen as large as the window
+abbrev pub new_screen : ℕ → ℕ → Screen
+new_screen w h = let size : Size = record { w = w; h = h } in record { board = new_page size size; text = [] }
+
+abbrev pub new_buffer : ℕ → ℕ → ℕ → ℕ → Buffer
+new_buffer w h handles birth = record { shown = new_screen w h; hidden = new_screen w h; alternate = false; handles = handles; birth = birth }
+
+-- the alternate screen comes to be shown, unless it is
+abbrev pub alternate_on : Buffer → Buffer
+alternate_on b = if b.alternate then b else record b { shown = alternate_begun b.hidden b.shown; hidden = b.shown; alternate = true }
+
+-- the main screen comes to be shown as it was left, in the mode of the alternate one, unless it is shown
+abbrev pub alternate_off : Buffer → Buffer
+alternate_off b = if b.alternate then record b { shown = mode_taken b.hidden b.shown.board; hidden = b.shown; alternate = false } else b
+
+-- the screen that a switch says comes to be shown
+abbrev pub turned : Buffer → Option Bool → Buffer
+turned b None = b
+turned b (Some on) = if on then alternate_on b else alternate_off b
+
+-- a buffer, and what was told so far
+pub record BufferStage : Type 0 where
+  pub buffer : Buffer
+  pub told : Told
+
+-- a screen that came of the shown one, in its place; and the other one shown, where the text switched
+abbrev pub carried : Buffer → Stage → Bool → BufferStage
+carried b st switch = record { buffer = if switch then turned (record b { shown = st.screen }) st.told.alternate else record b { shown = st.screen }; told = st.told }
+
+-- A unit goes to the shown screen. Where it ends a sequence that switches, what follows goes to the other one.
+unfoldable pub unit_written : BufferStage → ℕ → BufferStage
+unit_written s u = carried s.buffer (written s.buffer.shown s.told (u ∷ [])) (switches s.buffer.shown (u ∷ []))
+
+-- the buffer after units, and what they told
+unfoldable pub written_on : Buffer → Told → List ℕ → BufferStage
+written_on b t units = fold unit_written (record { buffer = b; told = t }) units
+
+abbrev pub buffer_written : Told → List ℕ → Buffer → Buffer
+buffer_written t units b = (written_on b t units).buffer

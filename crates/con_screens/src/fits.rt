@@ -1,0 +1,28 @@
+//! The memory of a resize of the window.
+use con_screen::Fit;
+use con_units::Size;
+use std::marker::Model;
+
+/// What is made ready for both screens of a buffer.
+#[derive(Drop)]
+pub struct BufferFit {
+    pub shown: Fit,
+    pub hidden: Fit,
+}
+
+/// The memory of a resize of the window, for `resize_all`.
+#[derive(Drop)]
+pub struct AllFits {
+    pub(crate) window: Size,
+    pub(crate) slots: Vec<Option<BufferFit>>,
+}
+
+impl Model for AllFits {
+    ghost use Rattle.con_screens.specs.Resize.{Fits};
+
+    ghost Value = { Fits };
+
+    ghost use Rattle.con_screens.specs.FitsView.{fits_of};
+
+    ghost view = { fits_of };
+}

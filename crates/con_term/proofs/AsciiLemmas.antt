@@ -1,0 +1,68 @@
+-- Bytes of ASCII are characters and units by themselves.
+use Rattle.std.proofs.Common.{◌≡◌, ℕ, Bool, true, false, nat_lt, List, [], ◌∷◌, ◌<◌, length, map, refl, sym, ap, ◌∙◌, arith}
+use Rattle.std.specs.Prelude.{flat_map, fold}
+use Rattle.std.specs.List.{list_all}
+use Rattle.std.proofs.lemmas.Bool.{and_parts}
+use Rattle.std.proofs.lemmas.Bool.Decides.{nat_tests}
+use Rattle.con_units.specs.Split.{split, with_items, split_after}
+use Rattle.con_units.specs.ReadLaws.{read_so}
+use Rattle.con_units.specs.Utf8.{utf8, is_cut_character}
+use Rattle.con_vtgram.specs.Plain.{is_plain, PlainIsPrinted}
+use Rattle.con_vtgram.specs.declared.item.Item.TheVariants.{Print}
+use Rattle.con_term.specs.Page.{Screen}
+use Rattle.con_term.specs.Effect.{effect}
+use Rattle.con_term.specs.Run.{printed_next, all_printed}
+use Rattle.con_term.specs.Terminal.{Terminal}
+use Rattle.con_term.specs.Play.{units_of, typed, play}
+
+abbrev is_ascii : ℕ → Bool
+is_ascii b = nat_lt b 0x80
+
+not_cut : (u : ℕ) → is_ascii u ≡ true → is_cut_character (u ∷ []) ≡ false
+not_cut u h = grind (arith, nat_tests)
+
+one_unit : (c : ℕ) → is_ascii c ≡ true → units_of c ≡ c ∷ []
+unfolding units_of
+one_unit c h = let small : nat_lt c 0x10000 ≡ true = grind (arith, nat_tests) in rw small refl
+
+ascii_next : (b : ℕ) → is_ascii b ≡ true → split utf8 (b ∷ []) ≡ record { items = b ∷ []; tail = [] }
+unfolding split_after
+ascii_next b h = (read_so utf8).whole [] [] b (b ∷ []) tt (not_cut b h) (rw h refl)
+
+pub none_held : (xs : List ℕ) (n : ℕ) → n ≡ length xs → n ≡ 0 → xs ≡ []
+none_held [] n h k = refl
+none_held (x ∷ xs) n h k = absurd (omega arith)
+
+-- one byte of ASCII
+pub ascii_byte : (t after : Terminal) (b : ℕ) → t.bytes ≡ [] → b < 0x80 → after ≡ typed t (b ∷ []) → after ≡ play t (b ∷ [])
+unfolding play
+ascii_byte t after b none small e = let h : is_ascii b ≡ true = grind (arith, nat_tests) in e ∙ sym (rw (none, ascii_next b h, one_unit b h) refl)
+
+plain_ascii : (u : ℕ) → is_plain u ≡ true → is_ascii u ≡ true
+plain_ascii u h = grind (arith, nat_tests)
+
+plain_split : (bytes : List ℕ) → list_all is_plain bytes ≡ true → split utf8 bytes ≡ record { items = bytes; tail = [] }
+unfolding split_after
+plain_split [] h = refl
+plain_split (b ∷ bs) h = let k = and_parts (is_plain b) (list_all is_plain bs) h in
+    (read_so utf8).whole [] bs b (b ∷ []) tt (not_cut b (plain_ascii b k.0)) (rw (plain_ascii b k.0) refl) ∙ ap (with_items (b ∷ [])) (plain_split bs k.1)
+
+plain_units : (bytes : List ℕ) → list_all is_plain bytes ≡ true → flat_map units_of bytes ≡ bytes
+plain_units [] h = refl
+plain_units (b ∷ bs) h = let k = and_parts (is_plain b) (list_all is_plain bs) h in rw (one_unit b (plain_ascii b k.0)) (ap (λ xs. b ∷ xs) (plain_units bs k.1))
+
+prints_fold : (s : Screen) (us : List ℕ) → fold effect s (map (λ u. Print u) us) ≡ all_printed s us
+unfolding effect all_printed
+prints_fold s [] = refl
+prints_fold s (u ∷ us) = prints_fold (printed_next s u) us
+
+-- a run of printable ASCII
+pub plain_run : (t : Terminal) (screen : Screen) (bytes : List ℕ) → PlainIsPrinted → t.bytes ≡ [] → t.units ≡ [] → list_all is_plain bytes ≡ true → screen ≡ all_printed t.screen bytes
+    → record t { screen = screen } ≡ play t bytes
+unfolding play typed
+plain_run t screen bytes law none rest h e =
+    whole t screen none rest
+    ∙ sym (rw (none, rest, plain_split bytes h, plain_units bytes h, (law bytes h).items) (ap (λ s. record t { screen = s; bytes = []; units = [] }) (prints_fold t.screen bytes ∙ sym e)))
+  where
+    whole : (t : Terminal) (screen : Screen) → t.bytes ≡ [] → t.units ≡ [] → record t { screen = screen } ≡ record t { screen = screen; bytes = []; units = [] }
+    whole t screen none rest = rw (none, rest) refl

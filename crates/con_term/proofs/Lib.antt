@@ -1,0 +1,5 @@
+pub mod FillLemmas
+pub mod RunLemmas
+pub mod AsciiLemmas
+pub mod PlayLemmas
+pub mod DumpLemmas

@@ -1,0 +1,48 @@
+-- What a unit, a character and a byte make of a terminal.
+use Rattle.std.proofs.Common.{◌≡◌, ℕ, List, [], ◌∷◌, ◌++◌, ◌+◌, ◌-◌, ◌/◌, ◌%◌, ◌<◌, ◌≤◌, false, nat_lt, take, drop, length, length-drop, get_or, arith, refl, sym, ap, ◌∙◌}
+use Rattle.std.specs.Prelude.{flat_map, fold}
+use Rattle.std.proofs.lemmas.Grind.{flat_map-append}
+use Rattle.std.proofs.lemmas.List.{take_more, take_all, length-take}
+use Rattle.std.proofs.Math.Seq.{take-add}
+use Rattle.con_units.specs.Split.{next}
+use Rattle.con_units.specs.Utf8.{utf8}
+use Rattle.con_units.specs.SplitLaws.{split_after-one}
+use Rattle.con_vtgram.specs.Text.{grammar}
+use Rattle.std.proofs.lemmas.Bool.Decides.{nat_tests}
+use Rattle.con_vtgram.specs.declared.item.Item.{Item}
+use Rattle.con_term.specs.Page.{Screen}
+use Rattle.con_term.specs.Effect.{effect}
+use Rattle.con_term.specs.Play.{units_of, typed, play}
+use Rattle.con_term.specs.Terminal.{Terminal}
+use Rattle.con_term.specs.PlayLaws.{typed-append, play-append}
+
+pub unit_any : (t : Terminal) (u : ℕ) (items : List Item) (screen : Screen) (tail : List ℕ) → items ≡ (next grammar t.units u).items → tail ≡ (next grammar t.units u).tail → screen ≡ fold effect t.screen items
+    → record t { screen = screen; units = tail } ≡ typed t (u ∷ [])
+unfolding typed
+unit_any t u items screen tail is rest e = rw (split_after-one grammar t.units u, ← is, e, rest) refl
+
+pub pair : (t mid after : Terminal) (c : ℕ) → 0x10000 ≤ c → mid ≡ typed t ((0xD800 + (c - 0x10000) / 1024) ∷ []) → after ≡ typed mid ((0xDC00 + (c - 0x10000) % 1024) ∷ []) → after ≡ typed t (units_of c)
+unfolding units_of
+pair t mid after c large first second = let b : nat_lt c 0x10000 ≡ false = grind (arith, nat_tests) in
+    second ∙ ap (λ s. typed s ((0xDC00 + (c - 0x10000) % 1024) ∷ [])) first ∙ typed-append t _ _ ∙ rw b refl
+
+pub byte : (t mid after : Terminal) (b : ℕ) (held first second : List ℕ) → first ++ second ≡ (next utf8 t.bytes b).items → held ≡ (next utf8 t.bytes b).tail
+    → mid ≡ typed (record t { bytes = held }) (flat_map units_of first) → after ≡ typed mid (flat_map units_of second) → after ≡ play t (b ∷ [])
+unfolding play
+byte t mid after b held first second items rest one two =
+    two ∙ ap (λ s. typed s (flat_map units_of second)) one ∙ typed-append (record t { bytes = held }) _ _
+    ∙ rw (split_after-one utf8 t.bytes b, ← items, flat_map-append units_of first second, rest) refl
+
+-- a run
+pub played_run : (t before mid : Terminal) (bytes : List ℕ) (at count : ℕ) → before ≡ play t (take at bytes) → mid ≡ play before (take count (take (length bytes - at) (drop at bytes))) → mid ≡ play t (take (at + count) bytes)
+played_run t before mid bytes at count first second =
+    let all : take (length bytes - at) (drop at bytes) ≡ drop at bytes = take_all (length bytes - at) (drop at bytes) (omega (arith, length-drop {A = ℕ} at bytes)) in
+    second ∙ ap (λ xs. play before (take count xs)) all ∙ ap (λ s. play s (take count (drop at bytes))) first ∙ play-append t (take at bytes) (take count (drop at bytes)) ∙ ap (play t) (sym (take-add at count bytes))
+
+-- one byte
+pub played_byte : (t before after : Terminal) (bytes : List ℕ) (at : ℕ) → at < length bytes → before ≡ play t (take at bytes) → after ≡ play before (get_or bytes at 0 ∷ []) → after ≡ play t (take (at + 1) bytes)
+played_byte t before after bytes at lt first second =
+    second ∙ ap (λ s. play s (get_or bytes at 0 ∷ [])) first ∙ play-append t (take at bytes) (get_or bytes at 0 ∷ []) ∙ ap (play t) (sym (take_more bytes at 0 lt))
+
+pub run_fits : (bytes : List ℕ) (at count : ℕ) → at ≤ length bytes → count ≤ length (take (length bytes - at) (drop at bytes)) → at + count ≤ length bytes
+run_fits bytes at count inside few = omega (arith, length-take (length bytes - at) (drop at bytes))

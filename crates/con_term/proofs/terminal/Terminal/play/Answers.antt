@@ -1,0 +1,5 @@
+-- The parts are the whole.
+use Rattle.con_term.proofs.terminal.Terminal.play.Goals as goal
+
+pub returns : goal.returns
+returns c = rw (← c.self.view_is) c.byte_played.ensures

@@ -1,0 +1,13 @@
+pub mod Pen
+pub mod Page
+pub mod Run
+pub mod Effect
+pub mod Nibble
+pub mod PageView
+pub mod Terminal
+pub mod Inside
+pub mod Play
+pub mod PlayLaws
+pub mod Sgr
+pub mod Cost
+pub mod Dump

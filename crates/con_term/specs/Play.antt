@@ -1,0 +1,26 @@
+-- What bytes make of a terminal.
+use Rattle.std.specs.Prelude.{ℕ, ◌+◌, ◌-◌, ◌/◌, ◌%◌, nat_lt, List, [], ◌∷◌, fold, flat_map, if◌then◌else◌}
+use Rattle.con_units.specs.Split.{split_after}
+use Rattle.con_units.specs.Utf8.{utf8}
+use Rattle.con_vtgram.specs.Text.{grammar}
+use Rattle.con_term.specs.Effect.{effect}
+use Rattle.con_term.specs.Cost.{costs}
+use Rattle.con_term.specs.Terminal.{Terminal}
+
+-- the units of a character
+unfoldable pub units_of : ℕ → List ℕ
+units_of c = if nat_lt c 0x10000 then c ∷ [] else (0xD800 + (c - 0x10000) / 1024) ∷ (0xDC00 + (c - 0x10000) % 1024) ∷ []
+
+-- the terminal after units
+unfoldable pub typed : Terminal → List ℕ → Terminal
+typed t us = let sequences = split_after grammar t.units us in
+    record t { screen = fold effect t.screen sequences.items; units = sequences.tail }
+
+-- the terminal after bytes, which are split whole into characters, and their units into items
+unfoldable pub play : Terminal → List ℕ → Terminal
+play t bytes = let characters = split_after utf8 t.bytes bytes in
+    typed (record t { bytes = characters.tail }) (flat_map units_of characters.items)
+
+-- how many cells the bytes print or erase
+unfoldable pub printed : Terminal → List ℕ → ℕ
+printed t bytes = costs t.screen (split_after grammar t.units (flat_map units_of (split_after utf8 t.bytes bytes).items)).items

@@ -1,0 +1,85 @@
+//! Cells in a row.
+ghost use Rattle.std.specs.Prelude.{◌≡◌, ◌+◌, ◌≤◌, ◌++◌, length, take, drop, map, replicate, [], true, vec_capacity};
+ghost use Rattle.con_units.specs.Glyph.{cell_of};
+ghost use Rattle.con_vtgram.specs.Plain.{is_plain as is_plain_unit};
+ghost use Rattle.std.specs.List.{list_all};
+ghost use Rattle.con_term.specs.Page.{filled};
+ghost use Rattle.con_term.specs.Run.{pasted};
+
+use con_units::{Attr, Cell};
+use con_vtgram::is_plain;
+use std::mem;
+
+/// Writes the cell from one place up to another.
+pub fn fill(cells: &mut [Cell], from: usize, upto: usize, cell: Cell)
+    requires order { from ≤ upto }
+    requires inside { upto ≤ length cells.old }
+    ensures { cells.new ≡ filled cells.old from upto cell }
+{
+    for at in from..upto {
+        cells[at] = cell;
+    }
+}
+
+/// Copies the cells into an empty list that has room for them.
+pub fn copy_into(list: &mut Vec<Cell>, cells: &[Cell])
+    requires none { list.old.items ≡ [] }
+    requires room { length cells.now ≤ vec_capacity list.old }
+    ensures { list.new.items ≡ cells.now }
+{
+    let _ = list.extend_from_slice(cells);
+}
+
+// The cells behind a count of them, and then as many of the new cell.
+fn lift_into(to: &mut [Cell], from: &[Cell], count: usize, cell: Cell)
+    requires same { length to.old ≡ length from.now }
+    requires inside { count ≤ length from.now }
+    ensures { to.new ≡ drop count from.now ++ replicate count cell }
+{
+    let kept = from.len() - count;
+    to[..kept].copy_from_slice(&from[count..]);
+    fill(to, kept, from.len(), cell);
+}
+
+/// Lifts the cells by a count of places, and fills the last ones. The spare cells are used up.
+pub fn lift_cells(cells: &mut Vec<Cell>, spare: &mut Vec<Cell>, count: usize, cell: Cell)
+    requires same { length spare.old.items ≡ length cells.old.items }
+    requires inside { count ≤ length cells.old.items }
+    ensures cells { cells.new.items ≡ drop count cells.old.items ++ replicate count cell }
+    ensures spare { length spare.new.items ≡ length cells.old.items }
+{
+    lift_into(spare.as_mut_slice(), cells.as_slice(), count, cell);
+    mem::swap(cells, spare);
+}
+
+// Writes the bytes of printable ASCII at the front from a place on, one a cell, and tells how many.
+fn write_plain(cells: &mut [Cell], from: usize, bytes: &[u8], most: usize, attr: Attr) -> usize
+    requires some { most ≤ length bytes.now }
+    requires room { from + most ≤ length cells.old }
+    ensures few { result ≤ most }
+    ensures plain { list_all is_plain_unit (take result bytes.now) ≡ true }
+    ensures cells { cells.new ≡ pasted cells.old from (map (λ u. cell_of u attr) (take result bytes.now)) }
+{
+    let mut at = 0;
+    while at < most {
+        let unit = bytes[at] as u16;
+        if !is_plain(unit) {
+            return at;
+        }
+        cells[from + at] = Cell::new(unit, attr);
+        at += 1;
+    }
+    at
+}
+
+/// Writes at most so many bytes of printable ASCII at the front from a place on, one a cell, and tells how many.
+pub fn write_run(cells: &mut Vec<Cell>, from: usize, bytes: &[u8], most: usize, attr: Attr) -> usize
+    requires some { most ≤ length bytes.now }
+    requires room { from + most ≤ length cells.old.items }
+    ensures few { result ≤ most }
+    ensures plain { list_all is_plain_unit (take result bytes.now) ≡ true }
+    ensures len { length cells.new.items ≡ length cells.old.items }
+    ensures cells { cells.new.items ≡ pasted cells.old.items from (map (λ u. cell_of u attr) (take result bytes.now)) }
+{
+    write_plain(cells.as_mut_slice(), from, bytes, most, attr)
+}

@@ -1,0 +1,195 @@
+//! The text that tells what a screen shows.
+ghost use Rattle.std.specs.Prelude.{◌≡◌, ◌+◌, ◌*◌, ◌<◌, ◌≤◌, ◌++◌, ◌∷◌, [], ◌==◌, List, length, OnOk, IfOk, take, drop};
+ghost use Rattle.con_units.specs.Glyph.{Glyph};
+ghost use Rattle.con_term.specs.Page.{Screen};
+ghost use Rattle.con_term.specs.Dump.{decimal, hex_digit, hex_word, head_line, row_units, row_line, run_line, run_lines, rows_text, runs_text, dump as dump_of};
+
+use crate::page::Page;
+use con_units::{Cell, Size};
+use std::alloc::AllocError;
+
+#[tactic(auto, unfolding(crate::specs::Dump::decimal))]
+fn number(out: &mut Vec<u16>, n: u16) -> Result<(), AllocError>
+    requires few { n < 1000 }
+    ensures { OnOk result (out.new.items ≡ out.old.items ++ decimal n) }
+{
+    if 100 <= n {
+        out.push(0x30 + n / 100)?;
+    }
+    if 10 <= n {
+        out.push(0x30 + n / 10 % 10)?;
+    }
+    out.push(0x30 + n % 10)?;
+    Ok(())
+}
+
+fn digit(d: u16) -> u16
+    requires { d < 16 }
+    ensures { result ≡ hex_digit d }
+{
+    if d < 10 { 0x30 + d } else { 0x57 + d }
+}
+
+#[tactic(auto, unfolding(crate::specs::Dump::hex_word))]
+fn word(out: &mut Vec<u16>, word: u16) -> Result<(), AllocError>
+    ensures { OnOk result (out.new.items ≡ out.old.items ++ hex_word word) }
+{
+    out.push(digit(word / 4096))?;
+    out.push(digit(word / 256 % 16))?;
+    out.push(digit(word / 16 % 16))?;
+    out.push(digit(word % 16))?;
+    Ok(())
+}
+
+#[tactic(auto, unfolding(crate::specs::Dump::run_line))]
+fn run(out: &mut Vec<u16>, y: u16, x: u16, n: u16, of: u16) -> Result<(), AllocError>
+    requires few { (y < 1000) × (x < 1000) × (n < 1000) }
+    ensures { OnOk result (out.new.items ≡ out.old.items ++ run_line y x n of) }
+{
+    if of == 7 || n == 0 {
+        return Ok(());
+    }
+    out.push(0x40)?;
+    number(out, y)?;
+    out.push(0x2C)?;
+    number(out, x)?;
+    out.push(0x2B)?;
+    number(out, n)?;
+    out.push(0x20)?;
+    word(out, of)?;
+    out.push(0x0A)?;
+    Ok(())
+}
+
+fn text(out: &mut Vec<u16>, bytes: &[u8]) -> Result<(), AllocError>
+    ensures { OnOk result (out.new.items ≡ out.old.items ++ bytes.now) }
+{
+    for byte in bytes {
+        out.push(*byte as u16)?;
+    }
+    Ok(())
+}
+
+fn units(out: &mut Vec<u16>, row: &[Cell]) -> Result<(), AllocError>
+    ensures { OnOk result (out.new.items ≡ out.old.items ++ row_units row.now) }
+{
+    for cell in row {
+        out.push(cell.unit())?;
+    }
+    Ok(())
+}
+
+fn line(out: &mut Vec<u16>, row: &[Cell]) -> Result<(), AllocError>
+    ensures { OnOk result (out.new.items ≡ out.old.items ++ row_line row.now) }
+{
+    out.push(0x7C)?;
+    units(out, row)?;
+    out.push(0x7C)?;
+    out.push(0x0A)?;
+    Ok(())
+}
+
+/// Cells with one word: from a column on, so many.
+#[derive(Clone, Copy, Debug)]
+struct Stretch {
+    x: u16,
+    n: u16,
+    word: u16,
+}
+
+// One more cell of a row, of this word.
+#[tactic(auto, unfolding(crate::specs::Dump::run_lines))]
+fn more(out: &mut Vec<u16>, y: u16, so_far: Stretch, cell: &Cell) -> Result<Stretch, AllocError>
+    requires few { (y < 1000) × (so_far.x + so_far.n < 999) }
+    ensures lines { IfOk result (λ r. (cs : List Glyph) → out.new.items ++ run_lines y r.x r.n r.word cs ≡ out.old.items ++ run_lines y so_far.x so_far.n so_far.word (cell.now ∷ cs)) }
+    ensures few { IfOk result (λ r. r.x + r.n ≡ so_far.x + so_far.n + 1) }
+{
+    let word = cell.attr().bits();
+    if word == so_far.word {
+        return Ok(Stretch {
+            x: so_far.x,
+            n: so_far.n + 1,
+            word,
+        });
+    }
+    run(out, y, so_far.x, so_far.n, so_far.word)?;
+    Ok(Stretch {
+        x: so_far.x + so_far.n,
+        n: 1,
+        word,
+    })
+}
+
+// The lines of a row's runs.
+#[tactic(auto, unfolding(crate::specs::Dump::run_lines))]
+fn runs(out: &mut Vec<u16>, y: u16, row: &[Cell]) -> Result<(), AllocError>
+    requires few { (y < 1000) × (length row.now < 999) }
+    ensures { OnOk result (out.new.items ≡ out.old.items ++ run_lines y 0 0 7 row.now) }
+{
+    let mut so_far = Stretch {
+        x: 0,
+        n: 0,
+        word: 7,
+    };
+    for cell in row {
+        so_far = more(out, y, so_far, cell)?;
+    }
+    run(out, y, so_far.x, so_far.n, so_far.word)
+}
+
+// The lines of all rows.
+fn all_rows(out: &mut Vec<u16>, cells: &[Cell], size: Size) -> Result<(), AllocError>
+    requires few { (size.w ≤ 512) × (size.h ≤ 256) }
+    requires whole { length cells.now ≡ size.h * size.w }
+    ensures { OnOk result (out.new.items ≡ out.old.items ++ rows_text size.w cells.now size.h) }
+{
+    let width = size.w as usize;
+    for y in 0..size.h {
+        let from = y as usize * width;
+        line(out, &cells[from..from + width])?;
+    }
+    Ok(())
+}
+
+// The runs of all rows.
+fn all_runs(out: &mut Vec<u16>, cells: &[Cell], size: Size) -> Result<(), AllocError>
+    requires few { (size.w ≤ 512) × (size.h ≤ 256) }
+    requires whole { length cells.now ≡ size.h * size.w }
+    ensures { OnOk result (out.new.items ≡ out.old.items ++ runs_text size.w cells.now size.h) }
+{
+    let width = size.w as usize;
+    for y in 0..size.h {
+        let from = y as usize * width;
+        runs(out, y, &cells[from..from + width])?;
+    }
+    Ok(())
+}
+
+#[tactic(auto, unfolding(crate::specs::Dump::head_line))]
+fn head(out: &mut Vec<u16>, page: &Page) -> Result<(), AllocError>
+    ensures { OnOk result (out.new.items ≡ out.old.items ++ head_line page.now) }
+{
+    number(out, page.size().w)?;
+    out.push(0x78)?;
+    number(out, page.size().h)?;
+    text(out, b" cursor ")?;
+    if page.is_visible() {
+        number(out, page.column())?;
+        out.push(0x2C)?;
+        number(out, page.row())?;
+    } else {
+        text(out, b"hidden")?;
+    }
+    out.push(0x0A)?;
+    Ok(())
+}
+
+/// Appends the text that tells what a screen shows.
+#[tactic(auto, unfolding(crate::specs::Dump::dump))]
+pub fn dump(page: &Page, out: &mut Vec<u16>) -> Result<(), AllocError>
+    ensures { OnOk result (out.new.items ≡ out.old.items ++ dump_of page.now) }
+{
+    head(out, page)?;
+    all_rows(out, page.cells(), page.size())?;
+    all_runs(out, page.cells(), page.size())
+}

@@ -1,0 +1,186 @@
+//! A terminal that plays bytes.
+ghost use Rattle.std.specs.Prelude.{◌≡◌, ℕ, List, ◌<◌, ◌≤◌, ◌*◌, [], ◌∷◌, flat_map, option_to_list, ◌++◌, IfOk, OnOk, MatchResult, length, take, vec_capacity};
+ghost use Rattle.con_term.specs.Play.{units_of, typed, play};
+ghost use Rattle.con_term.specs.Inside.{parts};
+ghost use Rattle.con_term.specs.Dump.{dump as dump_of};
+ghost use Rattle.con_term.specs.Page.{blank_screen};
+ghost use Rattle.con_term.specs.Terminal.{view_of};
+
+use crate::dump::dump;
+use crate::page::Page;
+use con_units::{Cell, OutOfMemory, Size, Units, Utf8, View};
+use con_vtgram::{Found, Splitter, plain_is_printed};
+use std::alloc::Global;
+use std::marker::Model;
+
+/// A terminal. Contracts see its screen, and the bytes and the units that are no item yet.
+#[derive(Drop)]
+pub struct Terminal {
+    screen: Page,
+    bytes: Utf8,
+    units: Splitter,
+}
+
+impl Model for Terminal {
+    ghost use Rattle.con_term.specs.Terminal.{Terminal};
+
+    ghost Value = { Terminal };
+
+    ghost use Rattle.con_term.specs.Inside.{terminal_of};
+
+    ghost view = { terminal_of };
+}
+
+impl Terminal {
+    /// A blank terminal between sequences, in the word 0x0007, with a visible cursor at (0, 0).
+    pub fn new(alloc: Global, size: Size) -> Result<Terminal, OutOfMemory>
+        requires some { (0 < size.w) × (0 < size.h) }
+        requires few { (size.w ≤ 512) × (size.h ≤ 256) }
+        ensures { IfOk result (λ t. t ≡ record { screen = blank_screen size.w size.h; bytes = []; units = [] }) }
+    {
+        let screen = Page::new(alloc, size)?;
+        let units = Splitter::new(alloc)?;
+        Ok(Terminal {
+            screen,
+            bytes: Utf8::new(),
+            units,
+        })
+    }
+
+    /// Makes it blank, at another size; unchanged where there is no memory.
+    pub fn resize(&mut self, size: Size) -> Result<(), OutOfMemory>
+        requires some { (0 < size.w) × (0 < size.h) }
+        requires few { (size.w ≤ 512) × (size.h ≤ 256) }
+        ensures { MatchResult result (λ _. self.new ≡ record { screen = blank_screen size.w size.h; bytes = []; units = [] }) (λ _. self.new ≡ self.old) }
+    {
+        let screen = Page::new(self.screen.allocator(), size)?;
+        self.screen = screen;
+        self.bytes.clear();
+        self.units.clear();
+        Ok(())
+    }
+
+    /// Its size, in cells.
+    pub fn size(&self) -> Size
+        ensures sides { (result.w ≡ self.now.screen.w) × (result.h ≡ self.now.screen.h) }
+        ensures few { (result.w ≤ 512) × (result.h ≤ 256) }
+    {
+        self.screen.size()
+    }
+
+    /// Its cells, row by row.
+    pub fn cells(&self) -> &[Cell]
+        ensures { result.now ≡ self.now.screen.cells }
+    {
+        self.screen.cells()
+    }
+
+    /// What it shows, in a list that is empty and has room for all cells.
+    pub fn view(&self, rows: Vec<Cell>) -> View
+        requires none { rows.items ≡ [] }
+        requires room { self.now.screen.h * self.now.screen.w ≤ vec_capacity rows }
+        ensures { result ≡ view_of self.now.screen }
+    {
+        self.screen.view(rows)
+    }
+
+    /// The text that tells what it shows.
+    pub fn dump(&self) -> Result<Units, OutOfMemory>
+        ensures { IfOk result (λ text. text ≡ dump_of self.now.screen) }
+    {
+        let mut text = Vec::new(self.screen.allocator());
+        match dump(&self.screen, &mut text) {
+            Ok(()) => Ok(Units(text)),
+            Err(_) => Err(OutOfMemory),
+        }
+    }
+
+    /// Plays a byte.
+    pub fn play(&mut self, byte: u8)
+        ensures { self.new ≡ play self.old (byte ∷ []) }
+    {
+        byte_played(&mut self.bytes, &mut self.screen, &mut self.units, byte);
+    }
+
+    /// Plays bytes, one after another.
+    pub fn play_all(&mut self, bytes: &[u8])
+        ensures { self.new ≡ play self.old bytes.now }
+    {
+        all_played(&mut self.bytes, &mut self.screen, &mut self.units, bytes);
+    }
+}
+
+fn unit_typed(screen: &mut Page, units: &mut Splitter, unit: u16)
+    ensures { (b : List ℕ) → parts b screen.new units.new ≡ typed (parts b screen.old units.old) (unit ∷ []) }
+{
+    let found = units.advance(unit);
+    match found {
+        Found::Nothing => {}
+        _ => screen.apply(found, unit, units.sequence()),
+    }
+}
+
+#[tactic(auto, unfolding(crate::specs::Play::units_of))]
+fn character_typed(screen: &mut Page, units: &mut Splitter, character: char)
+    ensures { (b : List ℕ) → parts b screen.new units.new ≡ typed (parts b screen.old units.old) (units_of character) }
+{
+    let code = character as u32;
+    if code < 0x10000 {
+        unit_typed(screen, units, code as u16);
+    } else {
+        let above = code - 0x10000;
+        unit_typed(screen, units, (0xD800 + above / 1024) as u16);
+        unit_typed(screen, units, (0xDC00 + above % 1024) as u16);
+    }
+}
+
+fn character_if(screen: &mut Page, units: &mut Splitter, character: Option<char>)
+    ensures { (b : List ℕ) → parts b screen.new units.new ≡ typed (parts b screen.old units.old) (flat_map units_of (option_to_list character)) }
+{
+    if let Some(character) = character {
+        character_typed(screen, units, character);
+    }
+}
+
+fn byte_played(bytes: &mut Utf8, screen: &mut Page, units: &mut Splitter, byte: u8)
+    ensures { parts bytes.new screen.new units.new ≡ play (parts bytes.old screen.old units.old) (byte ∷ []) }
+{
+    if byte < 0x80 {
+        if bytes.held() == 0 {
+            unit_typed(screen, units, byte as u16);
+            return;
+        }
+    }
+    let decoded = bytes.feed(byte);
+    character_if(screen, units, decoded.first);
+    character_if(screen, units, decoded.second);
+}
+
+// Plays bytes of printable ASCII at the front, and tells how many.
+fn run_played(bytes: &Utf8, screen: &mut Page, units: &Splitter, input: &[u8]) -> usize
+    ensures few { result ≤ length input.now }
+    ensures played { parts bytes.now screen.new units.now ≡ play (parts bytes.now screen.old units.now) (take result input.now) }
+{
+    if !units.is_clear() {
+        return 0;
+    }
+    if bytes.held() != 0 {
+        return 0;
+    }
+    plain_is_printed();
+    screen.print_run(input)
+}
+
+fn all_played(bytes: &mut Utf8, screen: &mut Page, units: &mut Splitter, input: &[u8])
+    ensures { parts bytes.new screen.new units.new ≡ play (parts bytes.old screen.old units.old) input.now }
+{
+    let mut at = 0;
+    while at < input.len() {
+        let count = run_played(bytes, screen, units, &input[at..]);
+        at += count;
+        if at < input.len() {
+            byte_played(bytes, screen, units, input[at]);
+            at += 1;
+        }
+    }
+}

@@ -1,0 +1,13 @@
+pub mod Code
+pub mod Stored
+pub mod Attr
+pub mod Split
+pub mod Utf8
+pub mod Held
+pub mod Glyph
+pub mod Laws
+pub mod Natural
+pub mod Rect
+pub mod Past
+pub mod SplitLaws
+pub mod ReadLaws

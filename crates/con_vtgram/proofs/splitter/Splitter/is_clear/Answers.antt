@@ -1,0 +1,7 @@
+-- Between sequences there is no tail.
+use Rattle.std.proofs.Common.{ap, ◌∙◌, sym}
+use Rattle.con_vtgram.specs.Reads.{Reader}
+use Rattle.con_vtgram.proofs.splitter.Splitter.is_clear.Goals as goal
+
+pub returns-in-Ground : goal.returns-in-Ground
+returns-in-Ground c = λ _. sym (ap (λ (r : Reader). r.tail) c.self.view_is) ∙ (rw c.in-Ground.is at c.self.invariant.holds)

@@ -1,0 +1,11 @@
+pub mod Text
+pub mod Numbers
+pub mod State
+pub mod Reading
+pub mod Step
+pub mod Spoken
+pub mod Plain
+pub mod SequenceLaws
+pub mod TitleKept
+pub mod Reader
+pub mod Reads

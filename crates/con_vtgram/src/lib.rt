@@ -1,0 +1,22 @@
+//! Text items: the units of a text, split into characters, controls, escape sequences, control sequences and titles.
+//!
+//! - [`Splitter`]: it is fed unit by unit. Contracts see a `Reader`: the units that are no item yet, of which it keeps none,
+//!   the text of the last title, and the last control sequence. However a text is cut, the items are those of the whole.
+//! - [`Item`], [`Csi`]: what a text falls into. [`Found`]: the kind of an item alone, for callers that take the rest in place.
+//! - [`plain_count`], [`is_plain`]: runs of printable ASCII; [`plain_is_printed`] is the law that they are printed unit by unit.
+//!
+//! Only [`Splitter::new`] takes memory, for a title. Nothing here says what an item does to a screen.
+#![tactic(auto)]
+
+pub mod automaton;
+pub mod found;
+pub mod item;
+pub mod plain;
+pub mod splitter;
+#[cfg(test)]
+mod tests;
+
+pub use found::Found;
+pub use item::{Csi, Item};
+pub use plain::{is_plain, plain_count, plain_is_printed};
+pub use splitter::Splitter;

@@ -1,0 +1,6 @@
+pub mod Lists
+pub mod TextLemmas
+pub mod StepLemmas
+pub mod FeedLemmas
+pub mod BackLemmas
+pub mod CharacterLemmas

@@ -1,0 +1,27 @@
+//! What the bytes of a terminal determine.
+ghost use Rattle.std.specs.Prelude.{◌≡◌, ℕ, List, ◌++◌};
+ghost use Rattle.con_units.specs.Split.{split_after, with_items};
+ghost use Rattle.con_units.specs.Laws.{IsReadSo};
+ghost use Rattle.con_vtin.specs.Keys.{grammar};
+ghost use Rattle.con_vtin.specs.Characters.{ReadsCharacters};
+ghost use Rattle.con_vtin.specs.ReadBack.{ReadBack};
+
+/// Bytes are read by the three cases of their sequences, which determine the keys.
+pub fn is_read_by_cases()
+    ensures { IsReadSo grammar }
+{}
+
+/// However bytes are cut, their keys are those of the whole.
+pub fn is_read_however_cut()
+    ensures { (held front rest : List ℕ) → split_after grammar held (front ++ rest) ≡ with_items (split_after grammar held front).items (split_after grammar (split_after grammar held front).tail rest) }
+{}
+
+/// Which keys are read back from the units that they send.
+pub fn is_read_back()
+    ensures { ReadBack }
+{}
+
+/// Bytes without ESC are read as the characters that they are, ill-formed ones as U+FFFD.
+pub fn is_read_as_characters()
+    ensures { ReadsCharacters }
+{}
