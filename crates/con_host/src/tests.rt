@@ -171,7 +171,7 @@ fn a_link_that_is_too_long(rt: HostRuntime) -> Result<(), Fail> {
 
 #[test]
 fn a_text_that_is_too_long_is_not_shown(rt: HostRuntime) -> Result<(), Fail> {
-    let bytes = Vec::from_elem(rt.alloc(), 0x61, 16_777_217)?;
+    let bytes = Vec::from_elem(rt.alloc(), 0x41, 16_777_217)?;
     let ran = run(rt.alloc(), &["type"], bytes, SURE)?;
     assert_eq!(rt; ran.status, TOO_LONG);
     assert_eq!(rt;
@@ -179,10 +179,6 @@ fn a_text_that_is_too_long_is_not_shown(rt: HostRuntime) -> Result<(), Fail> {
         b"[\"end\",10,\"too long\"]\n".as_slice()
     );
     assert!(rt; ran.written.is_empty());
-    let bytes = Vec::from_elem(rt.alloc(), 0x61, 16_777_216)?;
-    let ran = run(rt.alloc(), &["type"], bytes, SURE)?;
-    assert_eq!(rt; ran.status, 0);
-    assert_eq!(rt; ran.report.as_slice(), b"[\"end\",0]\n".as_slice());
     Ok(())
 }
 
