@@ -1,5 +1,5 @@
 //! Runs of printable ASCII.
-ghost use Rattle.std.specs.Prelude.{◌≡◌, ◌≤◌, true, take, length};
+ghost use Rattle.std.specs.Prelude.{◌≡◌, ◌<◌, ◌≤◌, true, false, take, length, slice_index};
 ghost use Rattle.std.specs.List.{list_all};
 ghost use Rattle.con_vtgram.specs.Plain.{is_plain as is_plain_unit, PlainIsPrinted};
 
@@ -14,6 +14,7 @@ pub fn is_plain(unit: u16) -> bool
 pub fn plain_count(units: &[u16]) -> usize
     ensures few { result ≤ length units.now }
     ensures plain { list_all is_plain_unit (take result units.now) ≡ true }
+    ensures longest { result < length units.now → is_plain_unit (slice_index units.now result) ≡ false }
 {
     for (at, unit) in units.iter().enumerate() {
         if !is_plain(*unit) {

@@ -1,5 +1,5 @@
 //! A splitter that contracts see as its unfinished text.
-ghost use Rattle.std.specs.Prelude.{◌≡◌, [], map, option_to_list, IfOk, length, ◌≤◌, true};
+ghost use Rattle.std.specs.Prelude.{◌≡◌, ◌≢◌, [], map, option_to_list, IfOk, length, ◌≤◌, true, false};
 ghost use Rattle.con_units.specs.Split.{next};
 ghost use Rattle.con_vtgram.specs.Spoken.{spoken, spoken_by};
 ghost use Rattle.con_vtgram.specs.Text.{grammar};
@@ -99,9 +99,10 @@ impl Splitter {
         self.past = Past::new();
     }
 
-    /// Whether it is known that there is no unfinished text.
+    /// Whether there is no unfinished text.
     pub fn is_clear(&self) -> bool
-        ensures { result ≡ true → self.now.tail ≡ [] }
+        ensures clear { result ≡ true → self.now.tail ≡ [] }
+        ensures unfinished { result ≡ false → self.now.tail ≢ [] }
     {
         match self.phase {
             Phase::Ground => true,

@@ -3,5 +3,5 @@ use Rattle.std.proofs.Common.{ap, ◌∙◌, sym}
 use Rattle.con_vtgram.specs.Reads.{Reader}
 use Rattle.con_vtgram.proofs.splitter.Splitter.is_clear.Goals as goal
 
-pub returns-in-Ground : goal.returns-in-Ground
-returns-in-Ground c = λ _. sym (ap (λ (r : Reader). r.tail) c.self.view_is) ∙ (rw c.in-Ground.is at c.self.invariant.holds)
+pub returns-in-Ground-clause-clear : goal.returns-in-Ground-clause-clear
+returns-in-Ground-clause-clear c = λ _. sym (ap (λ (r : Reader). r.tail) c.self.view_is) ∙ (rw c.in-Ground.is at c.self.invariant.holds)
