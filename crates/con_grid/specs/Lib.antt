@@ -2,3 +2,4 @@ pub mod Picture
 pub mod Marks
 pub mod Run
 pub mod Ring
+pub mod Plain

@@ -1,6 +1,8 @@
 //! The grid.
 ghost use Rattle.std.specs.Prelude.{◌≡◌, ℕ, ◌+◌, ◌-◌, ◌*◌, ◌<◌, ◌≤◌, ◌^◌, Some, None, slice_set, slice_get, length, replicate, true, false, IfOk};
 ghost use Rattle.con_grid.specs.Picture.{IsInside, IsPicture, IsUntouched, place, filled, part_lifted, part_lowered, lifted, rows_shifted, units_put, resized, cell_of};
+ghost use Rattle.con_grid.specs.Plain.{is_plain};
+ghost use Rattle.std.specs.List.{list_all};
 
 use crate::parts;
 use crate::ring::Ring;
@@ -149,6 +151,18 @@ impl Grid {
     {
         let width = self.width;
         self.cells.put_units(at, units, attr);
+        parts::mark_run(&mut self.marks, width, at, at + units.len());
+    }
+
+    /// Writes the cells that show units of printable ASCII in a word, from a place in the list of cells on.
+    pub fn put_plain(&mut self, at: usize, units: &[u16], attr: Attr)
+        requires inside { at + length units.now ≤ length self.old.cells }
+        requires plain { list_all is_plain units.now ≡ true }
+        ensures grid { self.new ≡ record self.old { cells = units_put self.old.cells at units.now attr } }
+        ensures picture { IsPicture self.new }
+    {
+        let width = self.width;
+        self.cells.put_plain(at, units, attr);
         parts::mark_run(&mut self.marks, width, at, at + units.len());
     }
 

@@ -2,6 +2,8 @@
 ghost use Rattle.std.specs.Prelude.{◌≡◌, ℕ, ◌+◌, ◌-◌, ◌*◌, ◌<◌, ◌≤◌, ◌++◌, ◌^◌, length, take, drop, replicate, true, slice_index_or, IfOk};
 ghost use Rattle.con_grid.specs.Picture.{filled, lifted, lowered, part_lifted, part_lowered, glyphs_of, units_put, resized_cells};
 ghost use Rattle.con_grid.specs.Run.{CoversRun};
+ghost use Rattle.con_grid.specs.Plain.{is_plain};
+ghost use Rattle.std.specs.List.{list_all};
 
 use crate::ring::Ring;
 use con_units::{Attr, Cell, OutOfMemory};
@@ -115,6 +117,35 @@ pub fn put_units(cells: &mut [Cell], at: usize, units: &[u16], attr: Attr)
     ensures { cells.new ≡ units_put cells.old at units.now attr }
 {
     show(&mut cells[at..at + units.len()], units, attr);
+}
+
+// The unit itself. Where a cell of it is made, the compiler sees that it is stored as it is.
+fn bounded(unit: u16) -> u16
+    requires { is_plain unit ≡ true }
+    ensures { result ≡ unit }
+{
+    unit.max(0x20).min(0x7E)
+}
+
+/// Makes the cells those that show units of printable ASCII in a word, many at a time.
+pub fn show_plain(row: &mut [Cell], units: &[u16], attr: Attr)
+    requires same { length row.old ≡ length units.now }
+    requires plain { list_all is_plain units.now ≡ true }
+    ensures { row.new ≡ glyphs_of units.now attr }
+{
+    for (k, unit) in units.iter().enumerate() {
+        row[k] = Cell::new(bounded(*unit), attr);
+    }
+}
+
+/// Writes the cells that show units of printable ASCII in a word, from one place on.
+#[tactic(auto, unfolding(crate::specs::Picture::units_put))]
+pub fn put_plain(cells: &mut [Cell], at: usize, units: &[u16], attr: Attr)
+    requires inside { at + length units.now ≤ length cells.old }
+    requires plain { list_all is_plain units.now ≡ true }
+    ensures { cells.new ≡ units_put cells.old at units.now attr }
+{
+    show_plain(&mut cells[at..at + units.len()], units, attr);
 }
 
 /// Writes over the cells of a grid of one width those of another, without its first rows.

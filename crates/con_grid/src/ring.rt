@@ -1,8 +1,10 @@
 //! Cells in a block whose first cell may stand anywhere, so that a scroll of all rows moves none.
-ghost use Rattle.std.specs.Prelude.{◌≡◌, ◌+◌, ◌*◌, ◌<◌, ◌≤◌, List, Some, length, replicate, slice_get, slice_set, IfOk};
+ghost use Rattle.std.specs.Prelude.{◌≡◌, ◌+◌, ◌*◌, ◌<◌, ◌≤◌, List, Some, length, replicate, slice_get, slice_set, IfOk, true};
 ghost use Rattle.con_units.specs.Glyph.{Glyph};
 ghost use Rattle.con_grid.specs.Picture.{filled, units_put, lifted, part_lifted, part_lowered};
 ghost use Rattle.con_grid.specs.Ring.{turned, IsSpot, IsIndex};
+ghost use Rattle.con_grid.specs.Plain.{is_plain};
+ghost use Rattle.std.specs.List.{list_all};
 
 use crate::parts;
 use con_units::{Attr, Cell, OutOfMemory};
@@ -134,6 +136,16 @@ impl Ring {
     {
         let from = spot(&mut self.block, &mut self.top, at, at + units.len());
         parts::put_units(&mut self.block, from, units, attr);
+    }
+
+    /// Writes the cells that show units of printable ASCII in a word, from one place on.
+    pub fn put_plain(&mut self, at: usize, units: &[u16], attr: Attr)
+        requires inside { at + length units.now ≤ length self.old }
+        requires plain { list_all is_plain units.now ≡ true }
+        ensures { self.new ≡ units_put self.old at units.now attr }
+    {
+        let from = spot(&mut self.block, &mut self.top, at, at + units.len());
+        parts::put_plain(&mut self.block, from, units, attr);
     }
 
     /// Lifts the cells from one place up to another.

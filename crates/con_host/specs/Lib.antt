@@ -9,3 +9,4 @@ pub mod TypistView
 pub mod WrittenInTurn
 pub mod TypedInTurn
 pub mod Hosting
+pub mod Ascii

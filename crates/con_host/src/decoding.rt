@@ -1,11 +1,16 @@
 //! Bytes of UTF-8 as UTF-16 code units.
 
-ghost use Rattle.std.specs.Prelude.{◌≡◌, ℕ, ◌+◌, ◌*◌, ◌≤◌, ◌<◌, List, [], ◌∷◌, ◌++◌, length, flat_map, option_to_list, vec_len, vec_capacity};
+ghost use Rattle.std.specs.Prelude.{◌≡◌, ℕ, ◌+◌, ◌-◌, ◌*◌, ◌≤◌, ◌<◌, max, true, List, [], ◌∷◌, ◌++◌, length, flat_map, option_to_list, vec_len, vec_capacity};
+ghost use Rattle.std.specs.List.{list_all};
 ghost use Rattle.con_units.specs.Split.{split_after, next};
 ghost use Rattle.con_units.specs.Utf8.{utf8};
 ghost use Rattle.con_term.specs.Play.{units_of};
+ghost use Rattle.con_host.specs.Ascii.{is_ascii_byte};
 
 use con_units::Utf8;
+
+// How many bytes are looked at together.
+const CHUNK: usize = 64;
 
 // Puts the one or two units of a character last.
 #[tactic(auto, unfolding(con_term::specs::Play::units_of))]
@@ -52,6 +57,71 @@ fn decode_byte(decoder: &mut Utf8, byte: u8, units: &mut Vec<u16>)
     push_if(units, decoded.second);
 }
 
+fn greater(a: u8, b: u8) -> u8
+    ensures { result ≡ max a b }
+{
+    a.max(b)
+}
+
+// Whether the bytes are ASCII. The greatest of them is found many bytes at a time.
+fn is_ascii(bytes: &[u8]) -> bool
+    ensures { result ≡ true → list_all is_ascii_byte bytes.now ≡ true }
+{
+    let mut most = 0;
+    for byte in bytes {
+        most = greater(most, *byte);
+    }
+    most < 0x80
+}
+
+// Puts bytes last, as they are.
+fn push_bytes(units: &mut Vec<u16>, bytes: &[u8])
+    requires room { vec_len units.old + length bytes.now ≤ vec_capacity units.old }
+    ensures units { units.new.items ≡ units.old.items ++ bytes.now }
+    ensures few { vec_len units.new ≡ vec_len units.old + length bytes.now }
+    ensures capacity { vec_capacity units.new ≡ vec_capacity units.old }
+{
+    for byte in bytes {
+        units.push_reserved(*byte as u16);
+    }
+}
+
+fn decode_each(decoder: &mut Utf8, bytes: &[u8], units: &mut Vec<u16>)
+    requires room { vec_len units.old + 4 * length bytes.now ≤ vec_capacity units.old }
+    ensures units { units.new.items ≡ units.old.items ++ flat_map units_of (split_after utf8 decoder.old bytes.now).items }
+    ensures held { decoder.new ≡ (split_after utf8 decoder.old bytes.now).tail }
+    ensures few { vec_len units.new ≤ vec_len units.old + 4 * length bytes.now }
+    ensures capacity { vec_capacity units.new ≡ vec_capacity units.old }
+{
+    for byte in bytes {
+        decode_byte(decoder, *byte, units);
+    }
+}
+
+// Decodes a few bytes.
+fn decode_chunk(decoder: &mut Utf8, bytes: &[u8], units: &mut Vec<u16>)
+    requires room { vec_len units.old + 4 * length bytes.now ≤ vec_capacity units.old }
+    ensures units { units.new.items ≡ units.old.items ++ flat_map units_of (split_after utf8 decoder.old bytes.now).items }
+    ensures held { decoder.new ≡ (split_after utf8 decoder.old bytes.now).tail }
+    ensures few { vec_len units.new ≤ vec_len units.old + 4 * length bytes.now }
+    ensures capacity { vec_capacity units.new ≡ vec_capacity units.old }
+{
+    if decoder.held() == 0 && is_ascii(bytes) {
+        push_bytes(units, bytes);
+    } else {
+        decode_each(decoder, bytes, units);
+    }
+}
+
+// Where a chunk ends that begins at a place.
+fn chunk_end(len: usize, at: usize) -> usize
+    requires { at < len }
+    ensures more { at < result }
+    ensures inside { result ≤ len }
+{
+    if len - at < CHUNK { len } else { at + CHUNK }
+}
+
 /// The units that bytes complete, in a list with room for four units a byte.
 pub fn decode(decoder: &mut Utf8, bytes: &[u8], units: &mut Vec<u16>)
     requires room { 4 * length bytes.now ≤ vec_capacity units.old }
@@ -61,7 +131,10 @@ pub fn decode(decoder: &mut Utf8, bytes: &[u8], units: &mut Vec<u16>)
     ensures capacity { vec_capacity units.new ≡ vec_capacity units.old }
 {
     units.clear();
-    for byte in bytes {
-        decode_byte(decoder, *byte, units);
+    let mut at = 0;
+    while at < bytes.len() {
+        let end = chunk_end(bytes.len(), at);
+        decode_chunk(decoder, &bytes[at..end], units);
+        at = end;
     }
 }

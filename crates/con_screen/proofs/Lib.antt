@@ -6,3 +6,4 @@ pub mod RunLemmas
 pub mod TabLemmas
 pub mod FitLemmas
 pub mod WordLemmas
+pub mod ScanLemmas

@@ -16,6 +16,7 @@ pub mod Alternate
 pub mod Screen
 pub mod ScreenView
 pub mod Done
+pub mod Completed
 pub mod Run
 pub mod BoardLending
 pub mod ScreenLending

@@ -6,6 +6,7 @@ ghost use Rattle.con_screen.specs.Setters.{new_page};
 ghost use Rattle.con_screen.specs.Told.{report_row, report_column};
 
 mod alternate;
+mod apply;
 mod edit;
 mod motion;
 mod print;
@@ -19,7 +20,6 @@ use crate::pen::Pen;
 use crate::tabs::default_stops;
 use con_grid::Grid;
 use con_units::{Attr, Cell, OutOfMemory, Size};
-use con_vtgram::Item;
 use std::alloc::Global;
 use std::marker::Model;
 
@@ -269,37 +269,6 @@ impl Board {
         ensures { result ≡ (self.now.x == x) && (self.now.y == y) }
     {
         self.x == x && self.y == y
-    }
-
-    #[tactic(auto, unfolding(crate::specs::Effect::act))]
-    pub(crate) fn act(&mut self, item: &Item)
-        requires page { IsPage self.old }
-        ensures effect { self.new ≡ now.act self.old item.now }
-        ensures page { IsPage self.new }
-    {
-        match item {
-            Item::Print(unit) => self.print(*unit),
-            Item::Control(unit) => self.control(*unit),
-            Item::Csi(csi) => self.sequence(csi),
-            Item::Escape(unit) => self.escape(*unit),
-            Item::Charset(unit) => self.set_charset(*unit),
-            Item::Title => {}
-        }
-    }
-
-    /// Applies an item.
-    #[tactic(auto, unfolding(crate::specs::Effect::effect, crate::specs::Effect::follow))]
-    pub(crate) fn apply(&mut self, item: &Item)
-        requires page { IsPage self.old }
-        ensures effect { self.new ≡ now.effect self.old item.now }
-        ensures page { IsPage self.new }
-    {
-        let x = self.x;
-        let y = self.y;
-        self.act(item);
-        if !self.is_at(x, y) {
-            self.show_cursor();
-        }
     }
 
     /// The cursor's row in the window, from 1.

@@ -1,33 +1,82 @@
 //! What a write does with each unit, or with a run of printable ones.
-ghost use Rattle.std.specs.Prelude.{◌≡◌, ℕ, ◌-◌, ◌<◌, ◌≤◌, true, [], length, take};
+ghost use Rattle.std.specs.Prelude.{◌≡◌, ℕ, ◌-◌, ◌<◌, ◌≤◌, true, [], length, take, min, max, Some};
 ghost use Rattle.std.specs.List.{list_all};
 ghost use Rattle.con_vtgram.specs.Text as text;
-ghost use Rattle.con_vtgram.specs.Spoken.{spoken_by};
+ghost use Rattle.con_vtgram.specs.State.{item_of};
+ghost use Rattle.con_vtgram.specs.declared.item.Csi.{Csi as TheCsi};
+ghost use Rattle.con_vtgram.specs.declared.item.Item.TheVariants as item;
 ghost use Rattle.con_screen.specs.Told as tells;
 ghost use Rattle.con_screen.specs.Parts as parts;
 ghost use Rattle.con_screen.specs.Page.{IsPage};
 ghost use Rattle.con_screen.specs.Done.{Done, DoneSome};
+ghost use Rattle.con_screen.specs.Completed.{effect_if, told_if, switch_if};
 ghost use Rattle.con_screen.specs.Run.{is_printable, CanRun};
 ghost use Rattle.con_screen.specs.Effect.{effect};
 
 use crate::answers::Answers;
 use crate::board::Board;
 use crate::mode::Mode;
-use con_vtgram::{Csi, Item, Splitter};
+use con_vtgram::{Csi, Found, Splitter, plain_count};
 
-// How many of the units are printable, up to a limit.
+// How many units are looked at together.
+const BLOCK: usize = 16;
+
+// How many units are looked at one by one, before blocks.
+const SHORT: usize = 8;
+
+fn lesser(a: u16, b: u16) -> u16
+    ensures { result ≡ min a b }
+{
+    a.min(b)
+}
+
+fn greater(a: u16, b: u16) -> u16
+    ensures { result ≡ max a b }
+{
+    a.max(b)
+}
+
+// Whether all units are printable. The least and the greatest of them are found many units at a time.
+fn are_printable(units: &[u16]) -> bool
+    ensures { result ≡ true → list_all is_printable units.now ≡ true }
+{
+    let mut least = 0xFFFF;
+    let mut most = 0;
+    for unit in units {
+        least = lesser(least, *unit);
+        most = greater(most, *unit);
+    }
+    0x20 <= least && most <= 0x7E
+}
+
+// How many units at the front are printable, in whole blocks.
+fn printable_blocks(units: &[u16]) -> usize
+    ensures count { result ≤ length units.now }
+    ensures all { list_all is_printable (take result units.now) ≡ true }
+{
+    let mut at = 0;
+    while at + BLOCK <= units.len() {
+        if !are_printable(&units[at..at + BLOCK]) {
+            return at;
+        }
+        at += BLOCK;
+    }
+    at
+}
+
+// How many units at the front are printable, up to a limit. A short run is counted unit by unit.
 pub(crate) fn printable_front(units: &[u16], limit: usize) -> usize
     ensures count { result ≤ length units.now }
     ensures limit { result ≤ limit }
     ensures all { list_all is_printable (take result units.now) ≡ true }
 {
     let limit = limit.min(units.len());
-    for (i, unit) in units[..limit].iter().enumerate() {
-        if *unit < 0x20 || 0x7E < *unit {
-            return i;
-        }
+    let near = plain_count(&units[..limit.min(SHORT)]);
+    if near < SHORT {
+        return near;
     }
-    limit
+    let far = near + printable_blocks(&units[near..limit]);
+    far + plain_count(&units[far..limit])
 }
 
 pub(crate) fn is_acting(unit: u16) -> bool
@@ -42,33 +91,22 @@ pub(crate) fn has_sequences(mode: Mode) -> bool
     mode.processed && mode.sequences
 }
 
-pub(crate) fn item_alone(mode: Mode, unit: u16) -> Item
-    ensures { result ≡ parts.item_alone mode unit }
+// What a unit completes where sequences do not act.
+pub(crate) fn found_alone(mode: Mode, unit: u16) -> Found
+    ensures { (csi : TheCsi) → item_of result unit csi ≡ Some (parts.item_alone mode unit) }
 {
     if mode.processed && is_acting(unit) {
-        Item::Control(unit)
+        Found::Control
     } else {
-        Item::Print(unit)
+        Found::Print
     }
 }
 
 #[tactic(auto, unfolding(crate::specs::Told::is_switch))]
-pub(crate) fn is_switch(item: &Item) -> bool
-    ensures { result ≡ tells.is_switch item.now }
+pub(crate) fn is_switch(csi: &Csi) -> bool
+    ensures { result ≡ tells.is_switch (item.Csi csi.now) }
 {
-    match item {
-        Item::Csi(csi) => {
-            csi.inter == 0
-                && csi.private
-                && csi.params[0] == 1049
-                && (csi.last == 0x68 || csi.last == 0x6C)
-        }
-        Item::Print(_) => false,
-        Item::Control(_) => false,
-        Item::Escape(_) => false,
-        Item::Charset(_) => false,
-        Item::Title => false,
-    }
+    csi.inter == 0 && csi.private && csi.params[0] == 1049 && (csi.last == 0x68 || csi.last == 0x6C)
 }
 
 pub(crate) fn is_reset(csi: &Csi) -> bool
@@ -129,36 +167,52 @@ pub(crate) fn tell_csi(board: &Board, csi: &Csi, answers: &mut Answers)
     }
 }
 
-#[tactic(auto, unfolding(crate::specs::Told::told_after))]
-pub(crate) fn tell(board: &Board, item: &Item, title: &[u16], answers: &mut Answers)
-    requires page { IsPage board.now }
+// What a control sequence does and tells, and whether it switches.
+pub(crate) fn hear_sequence(board: &mut Board, csi: &Csi, answers: &mut Answers) -> bool
+    requires page { IsPage board.old }
     requires room { 0 < answers.old.room }
-    requires short { length title.now ≤ 255 }
-    ensures { answers.new ≡ record { told = tells.told_after board.now answers.old.told (spoken_by title.now item.now); room = answers.old.room - 1 } }
+    ensures page { IsPage board.new }
+    ensures effect { board.new ≡ effect board.old (item.Csi csi.now) }
+    ensures told { answers.new ≡ record { told = tells.csi_told board.old answers.old.told csi.now; room = answers.old.room - 1 } }
+    ensures switch { result ≡ tells.is_switch (item.Csi csi.now) }
 {
-    match item {
-        Item::Csi(csi) => tell_csi(board, csi, answers),
-        Item::Print(_) => answers.spend(),
-        Item::Control(_) => answers.spend(),
-        Item::Escape(_) => answers.spend(),
-        Item::Charset(_) => answers.spend(),
-        Item::Title => answers.tell_title(title),
-    }
+    tell_csi(board, csi, answers);
+    board.apply_sequence(csi);
+    is_switch(csi)
 }
 
-// What an item does and tells, and whether it switches.
-pub(crate) fn hear(board: &mut Board, item: &Item, title: &[u16], answers: &mut Answers) -> bool
+// What the item that a unit completes does and tells, and whether it switches.
+#[tactic(auto, unfolding(crate::specs::Told::told_after, crate::specs::Told::is_switch))]
+pub(crate) fn hear(
+    board: &mut Board,
+    found: Found,
+    unit: u16,
+    csi: &Csi,
+    title: &[u16],
+    answers: &mut Answers,
+) -> bool
     requires page { IsPage board.old }
     requires room { 0 < answers.old.room }
     requires short { length title.now ≤ 255 }
     ensures page { IsPage board.new }
-    ensures effect { board.new ≡ effect board.old item.now }
-    ensures told { answers.new ≡ record { told = tells.told_after board.old answers.old.told (spoken_by title.now item.now); room = answers.old.room - 1 } }
-    ensures switch { result ≡ tells.is_switch item.now }
+    ensures effect { board.new ≡ effect_if board.old (item_of found unit csi.now) }
+    ensures told { answers.new ≡ record { told = told_if board.old answers.old.told title.now (item_of found unit csi.now); room = answers.old.room - 1 } }
+    ensures switch { result ≡ switch_if (item_of found unit csi.now) }
 {
-    tell(board, item, title, answers);
-    board.apply(item);
-    is_switch(item)
+    match found {
+        Found::Sequence => return hear_sequence(board, csi, answers),
+        Found::Title => {
+            answers.tell_title(title);
+            return false;
+        }
+        Found::Nothing => {}
+        Found::Print => board.apply_print(unit),
+        Found::Control => board.apply_control(unit),
+        Found::Escape => board.apply_escape(unit),
+        Found::Charset => board.apply_charset(unit),
+    }
+    answers.spend();
+    false
 }
 
 // Writes a unit.
@@ -175,15 +229,11 @@ pub(crate) fn write_unit(
 {
     let mode = board.mode();
     if has_sequences(mode) {
-        match text.feed(unit) {
-            Some(item) => hear(board, &item, text.title(), answers),
-            None => {
-                answers.spend();
-                false
-            }
-        }
+        let found = text.advance(unit);
+        hear(board, found, unit, text.sequence(), text.title(), answers)
     } else {
-        hear(board, &item_alone(mode, unit), &[], answers)
+        let found = found_alone(mode, unit);
+        hear(board, found, unit, text.sequence(), &[], answers)
     }
 }
 

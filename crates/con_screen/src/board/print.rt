@@ -1,8 +1,9 @@
 //! Units that are printed.
-ghost use Rattle.std.specs.Prelude.{◌≡◌, ℕ, ◌<◌, ◌≤◌, length};
+ghost use Rattle.std.specs.Prelude.{◌≡◌, ℕ, ◌<◌, ◌≤◌, length, true};
+ghost use Rattle.std.specs.List.{list_all};
 ghost use Rattle.con_screen.specs.Page.{IsPage};
 ghost use Rattle.con_screen.specs.Print.{drawn, line_of as line_unit, wrapped, put, advanced, printed};
-ghost use Rattle.con_screen.specs.Run.{CanRun, ran};
+ghost use Rattle.con_screen.specs.Run.{is_printable, CanRun, ran};
 
 use super::Board;
 use con_units::{Attr, Cell};
@@ -108,12 +109,13 @@ impl Board {
     pub(crate) fn write_run(&mut self, units: &[u16])
         requires page { IsPage self.old }
         requires given { CanRun self.old (length units.now) }
+        requires printable { list_all is_printable units.now ≡ true }
         ensures effect { self.new ≡ ran self.old units.now }
         ensures page { IsPage self.new }
     {
         let at = self.place();
         let attr = Attr::of(self.pen.word());
-        self.grid.put_units(at, units, attr);
+        self.grid.put_plain(at, units, attr);
         self.x += units.len() as u16;
     }
 }

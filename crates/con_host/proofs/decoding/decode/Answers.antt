@@ -1,26 +1,19 @@
-use Rattle.std.proofs.Common.{◌≡◌, ◌+◌, ◌++◌, ◌∷◌, [], sym, ap, ◌∙◌, subst, arith, rules, drop, ℕ, List}
-use Rattle.std.specs.Prelude.{flat_map}
-use Rattle.std.proofs.lemmas.List.{at_drop_more, at_drop_all}
-use Rattle.con_units.specs.Split.{split_after}
-use Rattle.con_units.specs.Utf8.{utf8}
-use Rattle.con_term.specs.Play.{units_of}
-use Rattle.con_host.proofs.DecodeLemmas.{units_more, held_more, units_all, held_all}
+use Rattle.std.proofs.Common.{◌≡◌, ◌+◌, ◌-◌, ◌*◌, ◌≤◌, ◌∙◌, length, take, drop, arith}
+use Rattle.std.proofs.lemmas.List.{length-take, at_drop_all}
+use Rattle.con_host.proofs.DecodeLemmas.{units_chunk, held_chunk, units_all, held_all, units_end, held_end}
 use Rattle.con_host.proofs.decoding.decode.Goals as goal
 
-pub loop-byte-preserved : goal.loop-byte-preserved
-loop-byte-preserved c =
-    let here = at_drop_more (λ (xs : List ℕ). xs) c.args.bytes.now c.loop-byte.byte-index 0 c.loop-byte-test.true in
-    record {
-      units = units_more _ _ c.loop-byte.decoder _ _ _ _ c.decode_byte.ensures.units c.decode_byte.ensures.held (subst (λ (xs : List ℕ). c.loop-byte.units.items ++ flat_map units_of (split_after utf8 c.loop-byte.decoder xs).items ≡ flat_map units_of (split_after utf8 c.args.decoder.now c.args.bytes.now).items) here c.loop-byte.invariant.units);
-      held = held_more c.loop-byte.decoder _ _ _ _ c.decode_byte.ensures.held (subst (λ (xs : List ℕ). (split_after utf8 c.loop-byte.decoder xs).tail ≡ (split_after utf8 c.args.decoder.now c.args.bytes.now).tail) here c.loop-byte.invariant.held);
-      few = omega (arith, c.decode_byte.ensures.few, c.loop-byte.invariant.few);
-      capacity = c.decode_byte.ensures.capacity ∙ c.loop-byte.invariant.capacity;
-    }
+pub loop-at-preserved : goal.loop-at-preserved
+loop-at-preserved c = record {
+  units = units_chunk _ _ c.loop-at.decoder _ c.args.bytes.now _ c.loop-at.at c.chunk_end-end.result c.chunk_end-end.ensures.more c.decode_chunk.ensures.units c.decode_chunk.ensures.held c.loop-at.invariant.units;
+  held = held_chunk c.loop-at.decoder _ c.args.bytes.now _ c.loop-at.at c.chunk_end-end.result c.chunk_end-end.ensures.more c.decode_chunk.ensures.held c.loop-at.invariant.held;
+  inside = c.chunk_end-end.ensures.inside;
+  few = omega (arith, c.decode_chunk.ensures.few, c.loop-at.invariant.few, c.chunk_end-end.ensures.more, length-take (c.chunk_end-end.result - c.loop-at.at) (drop c.loop-at.at c.args.bytes.now));
+  capacity = c.decode_chunk.ensures.capacity ∙ c.loop-at.invariant.capacity;
+}
 
 pub returns-clause-units : goal.returns-clause-units
-returns-clause-units c = units_all _ c.loop-byte.decoder _ (subst (λ (xs : List ℕ). c.loop-byte.units.items ++ flat_map units_of (split_after utf8 c.loop-byte.decoder xs).items ≡ flat_map units_of (split_after utf8 c.args.decoder.now c.args.bytes.now).items)
-    (at_drop_all (λ (xs : List ℕ). xs) c.args.bytes.now c.loop-byte.byte-index c.loop-byte-test.false) c.loop-byte.invariant.units)
+returns-clause-units c = units_end c.loop-at.units.items c.loop-at.decoder c.args.bytes.now _ c.loop-at.at (omega (arith, c.loop-at-test.false)) c.loop-at.invariant.units
 
 pub returns-clause-held : goal.returns-clause-held
-returns-clause-held c = held_all c.loop-byte.decoder _ (subst (λ (xs : List ℕ). (split_after utf8 c.loop-byte.decoder xs).tail ≡ (split_after utf8 c.args.decoder.now c.args.bytes.now).tail)
-    (at_drop_all (λ (xs : List ℕ). xs) c.args.bytes.now c.loop-byte.byte-index c.loop-byte-test.false) c.loop-byte.invariant.held)
+returns-clause-held c = held_end c.loop-at.decoder c.args.bytes.now _ c.loop-at.at (omega (arith, c.loop-at-test.false)) c.loop-at.invariant.held

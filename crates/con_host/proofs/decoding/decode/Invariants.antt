@@ -1,14 +1,18 @@
-use Rattle.std.proofs.Common.{◌≡◌, ◌≤◌, ◌*◌, ◌++◌, drop}
+use Rattle.std.proofs.Common.{◌≡◌, ◌≤◌, ◌-◌, ◌*◌, ◌++◌, length, drop}
 use Rattle.std.specs.Prelude.{flat_map, vec_len, vec_capacity}
 use Rattle.con_units.specs.Split.{split_after}
 use Rattle.con_units.specs.Utf8.{utf8}
 use Rattle.con_term.specs.Play.{units_of}
 use Rattle.con_host.proofs.decoding.decode.Given as goal
 
-abbrev pub invariant-loop-byte : goal.invariant-loop-byte
-invariant-loop-byte l = record {
-  units : l.units.items ++ flat_map units_of (split_after utf8 l.decoder (drop l.byte-index l.bytes)).items ≡ flat_map units_of (split_after utf8 l.initial.decoder l.bytes).items;
-  held : (split_after utf8 l.decoder (drop l.byte-index l.bytes)).tail ≡ (split_after utf8 l.initial.decoder l.bytes).tail;
-  few : vec_len l.units ≤ 4 * l.byte-index;
+abbrev pub invariant-loop-at : goal.invariant-loop-at
+invariant-loop-at l = record {
+  units : l.units.items ++ flat_map units_of (split_after utf8 l.decoder (drop l.at l.bytes)).items ≡ flat_map units_of (split_after utf8 l.initial.decoder l.bytes).items;
+  held : (split_after utf8 l.decoder (drop l.at l.bytes)).tail ≡ (split_after utf8 l.initial.decoder l.bytes).tail;
+  inside : l.at ≤ length l.bytes;
+  few : vec_len l.units ≤ 4 * l.at;
   capacity : vec_capacity l.units ≡ vec_capacity l.initial.units;
 }
+
+abbrev pub decreases-loop-at : goal.decreases-loop-at
+decreases-loop-at l = length l.bytes - l.at

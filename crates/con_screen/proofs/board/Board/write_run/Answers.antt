@@ -9,5 +9,5 @@ pub returns-clause-effect : goal.returns-clause-effect
 returns-clause-effect c =
     let at : c.place-at.result ≡ place (page_of c.self.inside) = c.place-at.ensures.place ∙ ap place (sym c.self.view_is) in
     let attr : c.of-attr.result ≡ word (page_of c.self.inside) = c.of-attr.ensures ∙ ap masked c.word.ensures in
-    rw (← c.self.view_is, c.put_units.ensures.grid)
+    rw (← c.self.view_is, c.put_plain.ensures.grid)
     (ran_put (page_of c.self.inside) c.args.units.now c.place-at.result c.of-attr.result (rw c.self.view_is c.requires.page) (rw c.self.view_is c.requires.given) at attr)
