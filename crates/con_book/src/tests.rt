@@ -1,6 +1,10 @@
 ghost use Rattle.std.specs.Prelude.{◌≡◌, true, false, [], IfSome};
 ghost use Rattle.con_book.specs.Passes.{book_id, pass_id, IsSamePass};
 
+mod member;
+mod outcome;
+mod sixteen;
+
 use crate::counter::{Counter, Tick};
 use crate::{Bell, Book, Closed, Opened, Pass};
 use std::alloc::Global;

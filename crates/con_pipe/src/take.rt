@@ -50,6 +50,7 @@ impl PipeOut {
         ensures pipe { IsSameOut self.old self.new }
         ensures piece { IfSome result (λ piece. (pieces_taken self.new ≡ pieces_taken self.old ++ piece ∷ []) × (has_ended self.new ≡ false)) }
         ensures end { IfNone result ((pieces_taken self.new ≡ pieces_taken self.old) × (has_ended self.new ≡ true)) }
+        ensures stays { has_ended self.old ≡ true → has_ended self.new ≡ true }
     {
         if self.ended {
             return None;

@@ -6,7 +6,7 @@ use con_units::Bytes;
 use std::alloc::{AllocError, Global};
 use std::sync::Wait;
 use std::test::Fail;
-use std::thread::join;
+use std::thread::{Threads, join, map_indices};
 
 // Puts three pieces and the end mark.
 fn put_three<R: Wait>(rt: &R, alloc: Global, mut put: PipeIn) -> Result<PipeIn, AllocError>
@@ -44,25 +44,38 @@ fn take_four<R: Wait>(rt: &R, mut take: PipeOut) -> (PipeOut, [usize; 4])
     (take, lengths)
 }
 
-#[test]
-fn three_pieces_pass_a_pipe_of_one_between_two_threads(rt: HostRuntime) -> Result<(), Fail> {
-    let alloc = rt.alloc();
-    let Ok(Ends { put, take }) = pipe(alloc, 1) else {
-        panic!(rt; "no memory")
-    };
+// The lengths of what came out of a pipe of one, between two threads.
+fn passed<R: Threads + Wait + Sync>(rt: &R, alloc: Global) -> Option<[usize; 4]> {
+    let Ends { put, take } = pipe(alloc, 1).ok()?;
     let (put, taken) = join(
-        &rt,
+        rt,
         || -> Result<PipeIn, AllocError>
             requires { is_finished put ≡ false }
             ensures { IfOk result (λ end. IsSameIn put end) }
-        { put_three(&rt, alloc, put) },
+        { put_three(rt, alloc, put) },
         || -> (PipeOut, [usize; 4])
             ensures { IsSameOut take result.0 }
-        { take_four(&rt, take) },
+        { take_four(rt, take) },
     );
-    let mut put = put?;
+    let mut put = put.ok()?;
     let (mut take, lengths) = taken;
     meet(&mut put, &mut take);
-    assert!(rt; lengths == [1, 2, 3, 0]);
+    Some(lengths)
+}
+
+#[test]
+fn three_pieces_pass_a_pipe_of_one_between_two_threads(rt: HostRuntime) -> Result<(), Fail> {
+    assert!(rt; passed(&rt, rt.alloc()) == Some([1, 2, 3, 0]));
+    Ok(())
+}
+
+#[test]
+fn the_same_in_8_pipes_between_16_threads(rt: HostRuntime) -> Result<(), Fail> {
+    let alloc = rt.alloc();
+    let all = map_indices(&rt, alloc, 8, &|_| passed(&rt, alloc))?;
+    assert!(rt; all.len() == 8);
+    for lengths in &all {
+        assert!(rt; *lengths == Some([1, 2, 3, 0]));
+    }
     Ok(())
 }
