@@ -43,6 +43,14 @@ pub fn mark(marks: &mut [bool], from: usize, upto: usize, on: bool)
     }
 }
 
+// Marks a row.
+fn mark_one(marks: &mut [bool], row: usize)
+    requires { row < length marks.old }
+    ensures { marks.new ≡ take row marks.old ++ (replicate (row + 1 - row) true ++ drop (row + 1) marks.old) }
+{
+    marks[row] = true;
+}
+
 /// Marks the rows of the cells from one place up to another.
 pub fn mark_run(marks: &mut [bool], width: usize, from: usize, upto: usize)
     requires wide { 0 < width }
@@ -55,6 +63,10 @@ pub fn mark_run(marks: &mut [bool], width: usize, from: usize, upto: usize)
     }
     let first = from / width;
     let last = (upto - 1) / width;
+    if first == last {
+        mark_one(marks, first);
+        return;
+    }
     mark(marks, first, last + 1, true);
 }
 

@@ -8,6 +8,7 @@ ghost use Rattle.con_term.specs.Play.{units_of};
 ghost use Rattle.con_host.specs.Ascii.{is_ascii_byte};
 
 use con_units::Utf8;
+use std::mem;
 
 // How many bytes are looked at together.
 const CHUNK: usize = 64;
@@ -74,16 +75,29 @@ fn is_ascii(bytes: &[u8]) -> bool
     most < 0x80
 }
 
-// Puts bytes last, as they are.
+// The units with bytes put last, as they are. The list is passed by value, so that its length stays in a register.
+fn with_bytes(units: Vec<u16>, bytes: &[u8]) -> Vec<u16>
+    requires room { vec_len units + length bytes.now ≤ vec_capacity units }
+    ensures units { result.items ≡ units.items ++ bytes.now }
+    ensures few { vec_len result ≡ vec_len units + length bytes.now }
+    ensures capacity { vec_capacity result ≡ vec_capacity units }
+{
+    let mut list = units;
+    for byte in bytes {
+        list.push_reserved(*byte as u16);
+    }
+    list
+}
+
 fn push_bytes(units: &mut Vec<u16>, bytes: &[u8])
     requires room { vec_len units.old + length bytes.now ≤ vec_capacity units.old }
     ensures units { units.new.items ≡ units.old.items ++ bytes.now }
     ensures few { vec_len units.new ≡ vec_len units.old + length bytes.now }
     ensures capacity { vec_capacity units.new ≡ vec_capacity units.old }
 {
-    for byte in bytes {
-        units.push_reserved(*byte as u16);
-    }
+    let alloc = *units.allocator();
+    let list = mem::replace(units, Vec::new(alloc));
+    *units = with_bytes(list, bytes);
 }
 
 fn decode_each(decoder: &mut Utf8, bytes: &[u8], units: &mut Vec<u16>)

@@ -16,7 +16,7 @@ ghost use Rattle.con_screen.specs.Effect.{effect};
 use crate::answers::Answers;
 use crate::board::Board;
 use crate::mode::Mode;
-use con_vtgram::{Csi, Found, Splitter, plain_count};
+use con_vtgram::{Csi, Found, Splitter, is_plain, plain_count};
 
 // How many units are looked at together.
 const BLOCK: usize = 16;
@@ -230,7 +230,13 @@ pub(crate) fn write_unit(
     let mode = board.mode();
     if has_sequences(mode) {
         let found = text.advance(unit);
-        hear(board, found, unit, text.sequence(), text.title(), answers)
+        match found {
+            Found::Nothing => {
+                answers.spend();
+                false
+            }
+            _ => hear(board, found, unit, text.sequence(), text.title(), answers),
+        }
     } else {
         let found = found_alone(mode, unit);
         hear(board, found, unit, text.sequence(), &[], answers)
@@ -253,7 +259,7 @@ pub(crate) fn write_some(
     ensures inside { result.0 ≤ length units.now }
     ensures one { result.1 ≡ true → result.0 ≡ 1 }
 {
-    let n = printable_front(units, run_room(board, text));
+    let n = run_length(board, text, units);
     if 0 < n {
         board.write_run(&units[..n]);
         answers.spend_some(n);
@@ -264,10 +270,17 @@ pub(crate) fn write_some(
     }
 }
 
-// How many units can be written as they are.
-pub(crate) fn run_room(board: &Board, text: &Splitter) -> usize
-    requires { IsPage board.now }
-    ensures { (n : ℕ) → 0 < n → n ≤ result → CanRun board.now n × (text.now.tail ≡ []) }
+// How many units at the front can be written as they are.
+pub(crate) fn run_length(board: &Board, text: &Splitter, units: &[u16]) -> usize
+    requires page { IsPage board.now }
+    requires some { 0 < length units.now }
+    ensures count { result ≤ length units.now }
+    ensures run { 0 < result → CanRun board.now result × (text.now.tail ≡ []) }
+    ensures all { list_all is_printable (take result units.now) ≡ true }
 {
-    if text.is_clear() { board.run_room() } else { 0 }
+    if text.is_clear() && is_plain(units[0]) {
+        printable_front(units, board.run_room())
+    } else {
+        0
+    }
 }

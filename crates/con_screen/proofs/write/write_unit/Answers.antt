@@ -1,8 +1,14 @@
-use Rattle.con_screen.proofs.WriteLemmas.{sequence_done, alone_done}
+use Rattle.std.specs.Prelude.{Option, None}
+use Rattle.con_screen.proofs.WriteLemmas.{sequence_done, sequence_none, alone_done}
 use Rattle.con_screen.proofs.write.write_unit.Goals as goal
 
-pub returns-then-has_sequences-clause-done : goal.returns-then-has_sequences-clause-done
-returns-then-has_sequences-clause-done c =
+pub returns-in-Nothing-clause-done : goal.returns-in-Nothing-clause-done
+returns-in-Nothing-clause-done c =
+    let items = rw c.in-Nothing.is at c.advance-found.ensures.spoken in
+    sequence_none _ c.args.answers.now _ c.args.unit _ _ c.mode-mode.ensures c.if-has_sequences.ensures items c.advance-found.ensures.rest c.spend.ensures
+
+pub returns-in_default-clause-done : goal.returns-in_default-clause-done
+returns-in_default-clause-done c =
     let effect = rw c.sequence.ensures at c.hear.ensures.effect in
     let told = rw (c.sequence.ensures, c.title.ensures.title) at c.hear.ensures.told in
     let switch = rw c.sequence.ensures at c.hear.ensures.switch in
