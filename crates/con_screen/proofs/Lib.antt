@@ -6,3 +6,5 @@ pub mod RunLemmas
 pub mod TabLemmas
 pub mod FitLemmas
 pub mod WordLemmas
+pub mod EchoLemmas
+pub mod PlaceLemmas

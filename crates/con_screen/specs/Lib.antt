@@ -21,3 +21,4 @@ pub mod BoardLending
 pub mod ScreenLending
 pub mod Fit
 pub mod FitView
+pub mod Echo

@@ -2,6 +2,8 @@
 ghost use Rattle.std.specs.Prelude.{◌≡◌, IfOk};
 ghost use Rattle.con_screen.specs.Page.{IsPage};
 
+mod echo;
+
 use crate::{Answers, Screen};
 use con_units::{Code, Coord, Rect, Size};
 use std::alloc::Global;
