@@ -7,3 +7,5 @@ pub mod TabLemmas
 pub mod FitLemmas
 pub mod WordLemmas
 pub mod ScanLemmas
+pub mod EchoLemmas
+pub mod PlaceLemmas

@@ -18,7 +18,7 @@ either : (b : Bool) (x y : Page) (m : Sides) → sides x ≡ m → sides y ≡ m
 either true x y m h k = h
 either false x y m h k = k
 
-down_in_sides : (p : Page) (o : Option Margins) → sides (down_in p o) ≡ sides p
+pub down_in_sides : (p : Page) (o : Option Margins) → sides (down_in p o) ≡ sides p
 down_in_sides p None = search either depth 14
 down_in_sides p (Some g) = search either depth 14
 

@@ -22,3 +22,4 @@ pub mod BoardLending
 pub mod ScreenLending
 pub mod Fit
 pub mod FitView
+pub mod Echo

@@ -1,12 +1,13 @@
 //! A screen without its unfinished text.
-ghost use Rattle.std.specs.Prelude.{IfOk, ◌≡◌, ℕ, ◌+◌, ◌<◌, ◌≤◌, ◌*◌, ◌^◌, ◌&&◌, ◌==◌, length, true};
-ghost use Rattle.con_screen.specs.Page.{IsPage, place, row_start, row_end, blank, erased, rows_up, rows_down, region_first, region_end, row_down, down, shown, least_shift, unlate};
+ghost use Rattle.std.specs.Prelude.{IfOk, ◌≡◌, ℕ, ◌+◌, ◌<◌, ◌≤◌, ◌*◌, ◌^◌, ◌&&◌, ◌==◌, None, length, true};
+ghost use Rattle.con_screen.specs.Page.{IsPage, place, row_start, row_end, blank, erased, rows_up, rows_down, region_first, region_end, row_down, down, down_in, shown, least_shift, unlate};
 ghost use Rattle.con_screen.specs.Effect as now;
 ghost use Rattle.con_screen.specs.Setters.{new_page};
 ghost use Rattle.con_screen.specs.Told.{report_row, report_column};
 
 mod alternate;
 mod apply;
+mod echo;
 mod edit;
 mod motion;
 mod print;
@@ -201,21 +202,28 @@ impl Board {
         }
     }
 
+    // The next row of the buffer, whatever the margins are.
+    pub(crate) fn down_in_buffer(&mut self)
+        requires page { IsPage self.old }
+        ensures effect { self.new ≡ down_in self.old None }
+        ensures page { IsPage self.new }
+    {
+        let height = self.height();
+        if self.y as usize + 1 == height {
+            self.rows_up(0, height, 1);
+        } else {
+            self.y += 1;
+        }
+    }
+
     #[tactic(auto, unfolding(crate::specs::Page::down))]
     pub(crate) fn down(&mut self)
         requires page { IsPage self.old }
         ensures effect { self.new ≡ down self.old }
         ensures page { IsPage self.new }
     {
-        let height = self.height();
         match self.margins {
-            None => {
-                if self.y as usize + 1 == height {
-                    self.rows_up(0, height, 1);
-                } else {
-                    self.y += 1;
-                }
-            }
+            None => self.down_in_buffer(),
             Some(margins) => {
                 let end = self.top as usize + margins.bottom as usize;
                 if self.y as usize + 1 == end {

@@ -12,6 +12,8 @@
 //! - [`Screen::set_cursor`], [`Screen::set_window_origin`], [`Screen::set_attr`], [`Screen::set_mode`],
 //!   [`Screen::set_cursor_info`] set a part; [`Screen::info`] tells what there is to know; [`Screen::grid`] and
 //!   [`Screen::grid_mut`] lend the cells.
+//! - [`Screen::echo`] and [`Screen::echo_end`] show a line that is edited, which begins at an [`Origin`]
+//!   (`specs/Echo.antt`).
 //! - [`Screen::fit`] takes the memory of a resize, and [`Screen::resize`] does it (`specs/Fit.antt`).
 //!
 //! Every call needs a page within its bounds (`IsPage`) and leaves one. Only `new`, `fit` and `Answers::room` take
@@ -24,6 +26,7 @@ pub mod fit;
 pub mod info;
 pub mod margins;
 pub mod mode;
+pub mod origin;
 pub mod pen;
 pub mod screen;
 mod tabs;
@@ -34,4 +37,7 @@ mod write;
 pub use answers::Answers;
 pub use fit::Fit;
 pub use info::Info;
-pub use screen::{Screen, is_switched_whole, is_written_whole};
+pub use origin::Origin;
+pub use screen::{
+    Screen, is_echoed_by_part, is_laid_row_by_row, is_switched_whole, is_written_whole,
+};

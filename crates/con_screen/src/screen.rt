@@ -6,6 +6,7 @@ ghost use Rattle.con_grid.specs.Picture.{IsInside};
 ghost use Rattle.con_screen.specs.Laws.{IsWrittenWhole};
 
 mod alternate;
+mod echo;
 
 use crate::answers::Answers;
 use crate::board::Board;
@@ -17,6 +18,7 @@ pub use alternate::is_switched_whole;
 use con_grid::Grid;
 use con_units::{Code, Coord, OutOfMemory, Size};
 use con_vtgram::Splitter;
+pub use echo::{is_echoed_by_part, is_laid_row_by_row};
 use std::alloc::Global;
 use std::marker::Model;
 

@@ -2,6 +2,7 @@
 ghost use Rattle.std.specs.Prelude.{◌≡◌, IfOk};
 ghost use Rattle.con_screen.specs.Page.{IsPage};
 
+mod echo;
 mod edges;
 
 use crate::{Answers, Screen};
