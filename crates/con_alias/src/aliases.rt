@@ -141,24 +141,16 @@ impl Aliases {
         }
     }
 
-    /// Makes room for [`add`](Aliases::add) of these texts, and changes nothing that is shown.
-    pub fn add_room(
-        &mut self,
+    // Room for an alias, and for the list of a program that has none.
+    fn room(
+        &self,
         program: &Units,
         source: &Units,
         target: &Units,
     ) -> Result<AliasRoom, OutOfMemory>
-        ensures room { IfOk result (λ room. room ≡ room_for self.old program.now source.now target.now) }
-        ensures ok { OnOk result (self.new ≡ with_room self.old) }
-        ensures err { OnErr result (self.new.programs ≡ self.old.programs) }
+        ensures { IfOk result (λ room. room ≡ room_for self.now program.now source.now target.now) }
     {
         let alloc = *self.programs.allocator();
-        if self.spare == 0 {
-            if self.programs.reserve(1).is_err() {
-                return Err(OutOfMemory);
-            }
-            self.spare = 1;
-        }
         if refused(program, source, target) {
             return Ok(AliasRoom {
                 new: None,
@@ -177,6 +169,27 @@ impl Aliases {
             new: Some(new),
             list: Some(list),
         })
+    }
+
+    /// Makes room for [`add`](Aliases::add) of these texts, and changes nothing that is shown.
+    pub fn add_room(
+        &mut self,
+        program: &Units,
+        source: &Units,
+        target: &Units,
+    ) -> Result<AliasRoom, OutOfMemory>
+        ensures room { IfOk result (λ room. room ≡ room_for self.old program.now source.now target.now) }
+        ensures ok { OnOk result (self.new ≡ with_room self.old) }
+        ensures err { OnErr result (self.new ≡ self.old) }
+    {
+        let room = self.room(program, source, target)?;
+        if self.spare == 0 {
+            if self.programs.reserve(1).is_err() {
+                return Err(OutOfMemory);
+            }
+            self.spare = 1;
+        }
+        Ok(room)
     }
 
     /// Adds an alias for a program; a present source keeps its place and its first spelling and takes the new target.

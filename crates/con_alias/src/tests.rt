@@ -76,25 +76,40 @@ fn a_source_in_any_case_and_two_lines(rt: HostRuntime) -> Result<(), Fail> {
     Ok(())
 }
 
+// A target, a line, and the lines that it stands for.
 #[test]
-fn signs_and_what_stays(rt: HostRuntime) -> Result<(), Fail> {
+fn each_rule_of_expansion(rt: HostRuntime) -> Result<(), Fail> {
+    let rows: [(&[u8], &[u8], &[u8]); 19] = [
+        (b"dir", b"x", b"dir\r\n"),
+        (b"dir", b"X a", b"dir\r\n"),
+        (b"dir", b" x", b" x"),
+        (b"dir", b"xy", b"xy"),
+        (b"$2$1", b"x  a   bc", b"bca\r\n"),
+        (b"$9.", b"x 1 2 3 4 5 6 7 8 nine", b"nine.\r\n"),
+        (b"$3.", b"x a b", b".\r\n"),
+        (b"$*.", b"x  -l  a ", b"-l  a .\r\n"),
+        (b"$*.", b"x", b".\r\n"),
+        (b"a$Tb$tc", b"x", b"a\r\nb\r\nc\r\n"),
+        (b"$T", b"x", b"\r\n\r\n"),
+        (b"$$1", b"x a", b"$1\r\n"),
+        (b"$G$g", b"x", b">>\r\n"),
+        (b"$L$l", b"x", b"<<\r\n"),
+        (b"$B$b", b"x", b"||\r\n"),
+        (b"$0$a$", b"x a", b"$0$a$\r\n"),
+        (b"x $*", b"x a", b"x a\r\n"),
+        (b"$1", b"x $*", b"$*\r\n"),
+        (b"$2$9$$$G$l$b$0$t$", b"x a bc", b"bc$><|$0\r\n$\r\n"),
+    ];
     let alloc = rt.alloc();
     let program = bytes(alloc, b"sh")?;
+    let source = bytes(alloc, b"x")?;
     let mut aliases = Aliases::new(alloc);
-    assert!(rt;
-        add_now(
-            &mut aliases,
-            &program,
-            &bytes(alloc, b"x")?,
-            &bytes(alloc, b"$2$9$$$G$l$b$0$t$")?
-        )?
-        .is_none()
-    );
-    let lines = expanded(alloc, &aliases, &program, &bytes(alloc, b"x a bc")?)?;
-    assert_eq!(rt;
-        lines.as_slice(),
-        bytes(alloc, b"bc$><|$0\r\n$\r\n")?.as_slice()
-    );
+    for (target, line, wanted) in rows {
+        let refused = add_now(&mut aliases, &program, &source, &bytes(alloc, target)?)?;
+        assert_eq!(rt; refused, None);
+        let lines = expanded(alloc, &aliases, &program, &bytes(alloc, line)?)?;
+        assert_eq!(rt; lines.as_slice(), bytes(alloc, wanted)?.as_slice(), "for {target:?}");
+    }
     Ok(())
 }
 

@@ -12,7 +12,7 @@ fn link(bytes: Vec<u8>) -> SureSource {
 }
 
 #[test]
-fn bytes_with_and_without_quiet_between(rt: HostRuntime) -> Result<(), Fail> {
+fn bytes_with_quiet_between(rt: HostRuntime) -> Result<(), Fail> {
     let alloc = rt.alloc();
     let bytes = [0x42, 0, 1, 0x1B, 0x51, 0x42, 0, 2, 0x5B, 0x41].to_vec(alloc)?;
     let mut link = link(bytes);
@@ -25,6 +25,21 @@ fn bytes_with_and_without_quiet_between(rt: HostRuntime) -> Result<(), Fail> {
         matches!(&frames[2], Frame::Bytes(bytes) if bytes.as_slice() == [0x5B, 0x41].as_slice())
     );
     assert!(rt; matches!(frames[3], Frame::End));
+    Ok(())
+}
+
+#[test]
+fn bytes_with_nothing_between(rt: HostRuntime) -> Result<(), Fail> {
+    let alloc = rt.alloc();
+    let mut link = link([0x42, 0, 1, 0x1B, 0x42, 0, 2, 0x5B, 0x41].to_vec(alloc)?);
+    let mut frames = Vec::new(alloc);
+    assert!(rt; all_frames(alloc, &mut link, &mut frames).is_ok());
+    assert_eq!(rt; frames.len(), 3);
+    assert!(rt; matches!(&frames[0], Frame::Bytes(bytes) if bytes.as_slice() == [0x1B].as_slice()));
+    assert!(rt;
+        matches!(&frames[1], Frame::Bytes(bytes) if bytes.as_slice() == [0x5B, 0x41].as_slice())
+    );
+    assert!(rt; matches!(frames[2], Frame::End));
     Ok(())
 }
 

@@ -6,3 +6,4 @@ pub mod Work
 pub mod OneRecord
 pub mod Pieces
 pub mod Texts
+pub mod Rest

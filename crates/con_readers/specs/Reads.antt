@@ -57,6 +57,15 @@ pumped al (o ∷ os) rs hs =
     if is_done o.read then (let p = pumped al os rs hs in record p { reads = o ∷ p.reads })
     else (let m = moved al o rs hs in record { reads = m.one ∷ os; records = m.records; histories = m.histories; act = m.act })
 
+abbrev pub is_none_left : List Record → Bool
+is_none_left [] = true
+is_none_left (r ∷ rs) = false
+
+-- nothing is left to do: every read is done, or the first one that is not done has started and no record is left
+abbrev pub is_at_rest : List Open → List Record → Bool
+is_at_rest [] rs = true
+is_at_rest (o ∷ os) rs = if is_done o.read then is_at_rest os rs else (o.started && is_none_left rs)
+
 -- the reads when nothing more can be served, what is left of the records, the histories, and what happened in order
 pub record Settled : Type 0 where
   pub reads : List Open

@@ -4,7 +4,7 @@ ghost use Rattle.con_readers.specs.Lines.{line_text};
 ghost use Rattle.con_readers.specs.Act.{told, Act, typed};
 ghost use Rattle.con_readers.specs.Steps.{is_idle};
 ghost use Rattle.con_readers.specs.Serving.{is_done};
-ghost use Rattle.con_readers.specs.Reads.{Pumped, Queued, begun, settled, settled_after, work, pumped, done_upto, head_text, is_of, is_open, has_done, has_undone, place_of, is_open_line, without, answer_in, all_closed, line_aborted};
+ghost use Rattle.con_readers.specs.Reads.{Pumped, Queued, begun, settled, settled_after, work, pumped, done_upto, is_at_rest, head_text, is_of, is_open, has_done, has_undone, place_of, is_open_line, without, answer_in, all_closed, line_aborted};
 ghost use Rattle.std.specs.List.{position_or_len, position};
 
 use crate::answer::Answer;
@@ -180,6 +180,7 @@ impl Readers {
         ensures histories { histories.new ≡ (pumped aliases.now self.old.reads records.old.items histories.old).histories }
         ensures step { result ≡ told (pumped aliases.now self.old.reads records.old.items histories.old).act }
         ensures idle { is_idle result ≡ not (is_some (pumped aliases.now self.old.reads records.old.items histories.old).act) }
+        ensures rest { is_idle result ≡ is_at_rest self.old.reads records.old.items }
 
         // all steps until Idle come to what `settled` says, and they end
         ensures settles { settled aliases.now self.old.reads records.old.items histories.old ≡ settled_after aliases.now (pumped aliases.now self.old.reads records.old.items histories.old) }
