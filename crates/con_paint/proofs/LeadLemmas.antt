@@ -1,12 +1,13 @@
 -- What appended bytes lead to.
 use Rattle.std.proofs.Common.{◌≡◌, ℕ, ◌+◌, ◌-◌, ◌*◌, ◌<◌, Bool, true, false, not, ◌==◌, ◌||◌, List, [], ◌∷◌, ◌++◌, fold, max, get_or, refl, sym, ap, ◌∙◌, append_assoc, arith}
+use Rattle.std.specs.Prelude.{nat_lt}
 use Rattle.std.proofs.lemmas.List.Sums.{fold-append}
 use Rattle.std.proofs.lemmas.Bool.Decides.{nat_tests}
 use Rattle.con_units.specs.Stored.{stored_unit}
 use Rattle.con_vtgram.specs.Text.{sixteen}
 use Rattle.con_vtgram.specs.declared.item.Item.{Item}
-use Rattle.con_vtgram.specs.declared.item.Item.TheVariants.{Print, Csi}
-use Rattle.con_term.specs.Page.{Screen, erased, place, printed}
+use Rattle.con_vtgram.specs.declared.item.Item.TheVariants.{Print, Control, Csi}
+use Rattle.con_term.specs.Page.{Screen, erased, lowered, place, printed}
 use Rattle.con_term.specs.Pen.{starting_pen, pen_after}
 use Rattle.con_term.specs.Sgr.{pen_by}
 use Rattle.con_term.specs.Effect.{effect, plain_effect, private_effect, line_erased, display_erased, row_end, unpended, gone_to, lifted}
@@ -17,7 +18,7 @@ use Rattle.con_paint.specs.Leads.{Leads}
 use Rattle.con_paint.specs.Pens.{pen_for, numbers_of, IsEnough}
 use Rattle.con_paint.specs.Places.{place_numbers, lift_numbers}
 use Rattle.con_paint.specs.declared.pen.Changes.{Changes}
-use Rattle.con_paint.proofs.SpellLemmas.{spells-append, spells-none, csi_spells, unit_spells, plain_spells, erase_row_spells, erase_rest_spells, hide_spells, show_spells, ground_spells}
+use Rattle.con_paint.proofs.SpellLemmas.{spells-append, spells-none, csi_spells, unit_spells, plain_spells, return_spells, next_row_spells, backspace_spells, erase_row_spells, erase_rest_spells, hide_spells, show_spells, ground_spells}
 use Rattle.con_paint.proofs.PenLemmas.{pen_chosen, small_numbers, all_small-append, one_small}
 
 pub append_none : {A : Type 0} (xs : List A) → xs ++ [] ≡ xs
@@ -94,6 +95,20 @@ erases_row old new s e = leads_one old new _ (Csi (csi [] 0x4B)) s _ (s.w - s.x)
 pub erases_rest : (old new : List ℕ) (s : Screen) → new ≡ old ++ (0x1B ∷ 0x5B ∷ 0x4A ∷ []) → Leads old new s (unpended (erased s (place s) (s.h * s.w))) (s.h * s.w - place s)
 unfolding effect plain_effect display_erased cost plain_cost sixteen
 erases_rest old new s e = leads_one old new _ (Csi (csi [] 0x4A)) s _ (s.h * s.w - place s) e erase_rest_spells refl refl
+
+pub returns_in_row : (old new : List ℕ) (s : Screen) → new ≡ old ++ (0x0D ∷ []) → Leads old new s (record s { x = 0; pending = false }) 0
+unfolding effect cost
+returns_in_row old new s e = leads_one old new _ (Control 13) s _ 0 e return_spells refl refl
+
+pub goes_to_next_row : (old new : List ℕ) (s : Screen) → new ≡ old ++ (0x0D ∷ 0x0A ∷ []) → s.y + 1 < s.h → Leads old new s (record s { x = 0; y = s.y + 1; pending = false }) 0
+unfolding effect cost lowered
+goes_to_next_row old new s e h =
+    let below : nat_lt (s.y + 1) s.h ≡ true = grind (arith, nat_tests) in
+    record { bytes = _; items = Control 13 ∷ Control 10 ∷ []; appended = e; spelled = next_row_spells; screen = rw below refl; count = refl }
+
+pub goes_back : (old new : List ℕ) (s : Screen) → new ≡ old ++ (0x08 ∷ []) → Leads old new s (record s { x = s.x - 1; pending = false }) 0
+unfolding effect cost
+goes_back old new s e = leads_one old new _ (Control 8) s _ 0 e backspace_spells refl refl
 
 pub prints : (old new : List ℕ) (u : ℕ) (s : Screen) → u < 0x10000 → stored_unit u ≡ u → new ≡ old ++ utf8_of u → Leads old new s (printed u s) 1
 unfolding effect cost

@@ -22,6 +22,25 @@ there old s spot x y at known ex ey =
     let cx : s.x ≡ x = k.0 ∙ ex in let cy : s.y ≡ y = k.1 ∙ ey in
     rw (← cx, ← cy, ← k.2) (leads-none old s)
 
+not_unknown : (b : Bool) → not b ≡ false → b ≡ true
+not_unknown true h = refl
+not_unknown false h = cc
+
+-- from a known place to the next row's first column
+pub below : (old new : List ℕ) (s : Screen) (spot : Spot) (x y : ℕ) → IsAt spot s → not spot.known ≡ false → y ≡ spot.y + 1 → x ≡ 0 → y < s.h → (s.y + 1 < s.h → Leads old new s (record s { x = 0; y = s.y + 1; pending = false }) 0) → Leads old new s (record s { x = x; y = y; pending = false }) 0
+below old new s spot x y at known ey ex inside l =
+    let cy : s.y ≡ spot.y = (at.at (not_unknown spot.known known)).1 in
+    let row : s.y + 1 ≡ y = omega (arith, cy, ey) in
+    rw (← row, ex) (l (omega (arith, row, inside)))
+
+-- to the column before it
+pub back : (old new : List ℕ) (s : Screen) (spot : Spot) (x y : ℕ) → IsAt spot s → spot.known ≡ true → spot.y ≡ y → spot.x ≡ x + 1 → Leads old new s (record s { x = s.x - 1; pending = false }) 0 → Leads old new s (record s { x = x; y = y; pending = false }) 0
+back old new s spot x y at known ey ex l =
+    let cx : s.x ≡ spot.x = (at.at known).0 in
+    let cy : s.y ≡ y = (at.at known).1 ∙ ey in
+    let column : s.x - 1 ≡ x = omega (arith, cx, ex) in
+    rw (← cy, ← column) l
+
 -- the cursor's turn, behind a place
 turned : (old mid new : List ℕ) (s t : Screen) (turn visible : Bool) → (turn ≡ false → t.visible ≡ visible) → Leads old mid s t 0 → ((r : Screen) → Leads mid new r (cond turn (record r { visible = visible }) r) 0) → Leads old new s (record t { visible = visible }) 0
 turned old mid new s t true visible h a b = leads_then old mid new s t _ 0 0 0 a (b t) (omega arith)

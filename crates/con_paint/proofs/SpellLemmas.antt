@@ -14,7 +14,7 @@ use Rattle.con_units.specs.SplitLaws.{split_after-append}
 use Rattle.con_vtgram.specs.Text.{grammar, is_front, whole, kept, sixteen, csi_items, is_parameter_unit, is_digit_or_semicolon, is_acting, after_question, is_question}
 use Rattle.con_vtgram.specs.Numbers.{pieces, parameter, parameters, decimal_value}
 use Rattle.con_vtgram.specs.declared.item.Item.{Item}
-use Rattle.con_vtgram.specs.declared.item.Item.TheVariants.{Print, Csi}
+use Rattle.con_vtgram.specs.declared.item.Item.TheVariants.{Print, Control, Csi}
 use Rattle.con_vtgram.specs.SequenceLaws.{first-is_front, first-whole}
 use Rattle.con_term.specs.Play.{units_of}
 use Rattle.con_paint.specs.Bytes.{digits, more_numbers, separated, csi_bytes, utf8_of, ground_bytes}
@@ -296,6 +296,18 @@ unit_spells u fits h = by_size (nat_lt u 0x80) (nat_lt u 0x800) refl refl
 pub plain_spells : Spells (0x1B ∷ 0x5B ∷ 0x6D ∷ []) (Csi (csi [] 0x6D) ∷ [])
 unfolding split_after next is_front whole kept csi_items sixteen parameters pieces
 plain_spells = ascii_spells _ _ refl refl
+
+pub return_spells : Spells (0x0D ∷ []) (Control 13 ∷ [])
+unfolding split_after next is_front whole kept
+return_spells = ascii_spells _ _ refl refl
+
+pub next_row_spells : Spells (0x0D ∷ 0x0A ∷ []) (Control 13 ∷ Control 10 ∷ [])
+unfolding split_after next is_front whole kept
+next_row_spells = ascii_spells _ _ refl refl
+
+pub backspace_spells : Spells (0x08 ∷ []) (Control 8 ∷ [])
+unfolding split_after next is_front whole kept
+backspace_spells = ascii_spells _ _ refl refl
 
 pub erase_row_spells : Spells (0x1B ∷ 0x5B ∷ 0x4B ∷ []) (Csi (csi [] 0x4B) ∷ [])
 unfolding split_after next is_front whole kept csi_items sixteen parameters pieces

@@ -1,5 +1,5 @@
 //! Bytes that a terminal acts on, each call with what they do to a terminal that is between sequences.
-ghost use Rattle.std.specs.Prelude.{◌≡◌, ◌+◌, ◌-◌, ◌*◌, ◌<◌, ◌≤◌, ◌++◌, ◌||◌, length, if◌then◌else◌};
+ghost use Rattle.std.specs.Prelude.{◌≡◌, ◌+◌, ◌-◌, ◌*◌, ◌<◌, ◌≤◌, ◌++◌, ◌||◌, false, length, if◌then◌else◌};
 ghost use Rattle.std.specs.Vec.{vec_len, vec_capacity};
 ghost use Rattle.con_units.specs.Stored.{stored_unit};
 ghost use Rattle.con_term.specs.Pen.{starting_pen};
@@ -93,6 +93,36 @@ pub(crate) fn go_to(out: &mut Vec<u8>, row: u16, column: u16)
     ensures few { vec_len out.new ≤ vec_len out.old + 11 }
 {
     place_bytes(out, row, column);
+}
+
+/// Brings the cursor to the first column of its row.
+pub(crate) fn carriage_return(out: &mut Vec<u8>)
+    requires room { vec_len out.old + 1 ≤ vec_capacity out.old }
+    ensures leads { (s : Screen) → Leads out.old.items out.new.items s (record s { x = 0; pending = false }) 0 }
+    ensures capacity { vec_capacity out.new ≡ vec_capacity out.old }
+    ensures few { vec_len out.new ≤ vec_len out.old + 1 }
+{
+    append(out, b"\r");
+}
+
+/// Brings the cursor to the first column of the next row, where there is one.
+pub(crate) fn next_row(out: &mut Vec<u8>)
+    requires room { vec_len out.old + 2 ≤ vec_capacity out.old }
+    ensures leads { (s : Screen) → s.y + 1 < s.h → Leads out.old.items out.new.items s (record s { x = 0; y = s.y + 1; pending = false }) 0 }
+    ensures capacity { vec_capacity out.new ≡ vec_capacity out.old }
+    ensures few { vec_len out.new ≤ vec_len out.old + 2 }
+{
+    append(out, b"\r\n");
+}
+
+/// Brings the cursor one column back.
+pub(crate) fn backspace(out: &mut Vec<u8>)
+    requires room { vec_len out.old + 1 ≤ vec_capacity out.old }
+    ensures leads { (s : Screen) → Leads out.old.items out.new.items s (record s { x = s.x - 1; pending = false }) 0 }
+    ensures capacity { vec_capacity out.new ≡ vec_capacity out.old }
+    ensures few { vec_len out.new ≤ vec_len out.old + 1 }
+{
+    append(out, b"\x08");
 }
 
 #[tactic(auto, unfolding(crate::specs::Bytes::utf8_of))]

@@ -5,7 +5,7 @@ ghost use Rattle.con_term.specs.Page.{Screen};
 ghost use Rattle.con_paint.specs.Leads.{Leads};
 ghost use Rattle.con_paint.specs.Spot as spots;
 
-use crate::emit::go_to;
+use crate::emit::{backspace, carriage_return, go_to, next_row};
 
 /// A place, counted from 0, where the cursor stands with no wrap pending, if that is known.
 #[derive(Clone, Copy, Debug)]
@@ -53,6 +53,29 @@ pub(crate) fn spot_behind(upto: usize, width: usize, y: u16) -> Spot
     }
 }
 
+// Brings the cursor to a column of its row, where it does not stand there.
+fn go_in_row(out: &mut Vec<u8>, at: Spot, x: u16, y: u16)
+    requires small { (x < 999) × (y < 999) }
+    requires known { at.known ≡ true }
+    requires row { at.y ≡ y }
+    requires room { vec_len out.old + 11 ≤ vec_capacity out.old }
+    ensures leads { (s : Screen) → (x < s.w) × (y < s.h) → spots.IsAt at s → Leads out.old.items out.new.items s (record s { x = x; y = y; pending = false }) 0 }
+    ensures quiet { at.x ≡ x → out.new.items ≡ out.old.items }
+    ensures capacity { vec_capacity out.new ≡ vec_capacity out.old }
+    ensures few { vec_len out.new ≤ vec_len out.old + 11 }
+{
+    if at.x == x {
+        return;
+    }
+    if x == 0 {
+        carriage_return(out);
+    } else if at.x == x + 1 {
+        backspace(out);
+    } else {
+        go_to(out, y + 1, x + 1);
+    }
+}
+
 /// Brings the cursor to a place, counted from 0, where it does not stand there.
 pub(crate) fn go(out: &mut Vec<u8>, at: Spot, x: u16, y: u16)
     requires small { (x < 999) × (y < 999) }
@@ -62,8 +85,13 @@ pub(crate) fn go(out: &mut Vec<u8>, at: Spot, x: u16, y: u16)
     ensures capacity { vec_capacity out.new ≡ vec_capacity out.old }
     ensures few { vec_len out.new ≤ vec_len out.old + 11 }
 {
-    if at.known && at.x == x && at.y == y {
-        return;
+    if !at.known {
+        go_to(out, y + 1, x + 1);
+    } else if at.y == y {
+        go_in_row(out, at, x, y);
+    } else if x == 0 && y == at.y.saturating_add(1) {
+        next_row(out);
+    } else {
+        go_to(out, y + 1, x + 1);
     }
-    go_to(out, y + 1, x + 1);
 }

@@ -86,7 +86,7 @@ fn whole_frame_and_one_changed_cell(rt: HostRuntime) -> Result<(), Fail> {
     let text = two_frames(rt.alloc(), &first, &second)?;
     assert_eq!(rt;
         text.as_str(),
-        "^[!p^[?69l^[?6l^[4l^[20l^[?7h^[r^(B\u{F}^[0m^[?25l^[Ha^[31;40mb^[m^[K^[2Hcdefgh^[3H^[K^[2;2H^[?25h\n^[2;3HX^[2;2H\n6x3 cursor 1,1\n|ab    |\n|cdXfgh|\n|      |\n@0,1+1 0004\n"
+        "^[!p^[?69l^[?6l^[4l^[20l^[?7h^[r^(B\u{F}^[0m^[?25l^[Ha^[31;40mb^[m^[K\r\ncdefgh^[3H^[K^[2;2H^[?25h\n^[2;3HX^[2;2H\n6x3 cursor 1,1\n|ab    |\n|cdXfgh|\n|      |\n@0,1+1 0004\n"
     );
     Ok(())
 }
@@ -125,6 +125,24 @@ fn cursor_alone(rt: HostRuntime) -> Result<(), Fail> {
         text.as_str().ends_with(
             "\n^[3H\n6x3 cursor 0,2\n|      |\n|      |\n|      |\n@0,1+1 4007\n"
         )
+    );
+    Ok(())
+}
+
+// A new row behind a lift begins with CR; the cell before the cursor is emptied between two BS.
+#[test]
+fn short_ways_to_a_place(rt: HostRuntime) -> Result<(), Fail> {
+    let first = view(&rt, rt.alloc(), b"abc   def   ghi   ", 7, 3, 2)?;
+    let second = view(&rt, rt.alloc(), b"def   ghi   jkl   ", 7, 3, 2)?;
+    let text = two_frames(rt.alloc(), &first, &second)?;
+    assert!(rt;
+        text.as_str().ends_with("\n^[S\rjkl\n6x3 cursor 3,2\n|def   |\n|ghi   |\n|jkl   |\n")
+    );
+    let first = view(&rt, rt.alloc(), b"abc               ", 7, 3, 0)?;
+    let second = view(&rt, rt.alloc(), b"ab                ", 7, 2, 0)?;
+    let text = two_frames(rt.alloc(), &first, &second)?;
+    assert!(rt;
+        text.as_str().ends_with("\n\u{8} \u{8}\n6x3 cursor 2,0\n|ab    |\n|      |\n|      |\n")
     );
     Ok(())
 }
