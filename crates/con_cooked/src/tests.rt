@@ -120,3 +120,28 @@ fn lines_of_the_history_by_keys(rt: HostRuntime) -> Result<(), Fail> {
     assert_eq!(rt; read.text(), [98].as_slice());
     Ok(())
 }
+
+#[test]
+fn the_line_is_added_and_its_expansion_answered(rt: HostRuntime) -> Result<(), Fail> {
+    let alloc = rt.alloc();
+    let program = units(alloc, &[112])?;
+    let mut histories = Histories::new(alloc)?;
+    let room = histories.use_room(&program)?;
+    histories.use_of(&program, &[], room);
+    let mut aliases = Aliases::new(alloc);
+    let source = units(alloc, &[108])?;
+    let target = units(alloc, &[100, 36, 42])?;
+    let room = aliases.add_room(&program, &source, &target)?;
+    assert!(rt; aliases.add(&program, &source, &target, room).is_ok());
+    let mut read = Cooked::begin(alloc, units(alloc, &[112])?, 0x0037)?;
+    for unit in [108, 32, 97] {
+        read.press(&key_down(0, unit), &histories);
+    }
+    let answer = read.finish(&mut histories, &aliases);
+    assert_eq!(rt; answer.as_slice(), [100, 97, 13, 10].as_slice());
+    assert_eq!(rt; histories.count(&program), 1);
+    if histories.count(&program) == 1 {
+        assert_eq!(rt; histories.at(&program, 0).as_slice(), [108, 32, 97].as_slice());
+    }
+    Ok(())
+}
