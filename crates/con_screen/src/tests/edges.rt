@@ -23,9 +23,51 @@ fn lettered(rt: &impl Abort, alloc: Global, window: Size) -> Result<Screen, Fail
     Ok(screen)
 }
 
-// In digits: the sides of a window, its origin and the cursor before each text; and behind it, after the cells, its origin
-// and the cursor.
-const EDGES: [(&[u8; 6], &[u8], &str, &[u8; 4]); 92] = [
+fn side(digit: u8) -> u16 {
+    digit.saturating_sub(0x30) as u16
+}
+
+fn number(digit: u8) -> i16 {
+    digit.saturating_sub(0x30) as i16
+}
+
+// A row of the tables. In digits: the sides of a window, its origin and the cursor before a text; and behind it, after the
+// cells, its origin and the cursor.
+fn keeps(
+    rt: &impl Abort,
+    alloc: Global,
+    before: &[u8; 6],
+    text: &[u8],
+    cells: &str,
+    after: &[u8; 4],
+    what: usize,
+) -> Result<(), Fail> {
+    let window = Size {
+        w: side(before[0]),
+        h: side(before[1]),
+    };
+    let origin = Coord {
+        x: number(before[2]),
+        y: number(before[3]),
+    };
+    let cursor = Coord {
+        x: number(before[4]),
+        y: number(before[5]),
+    };
+    let mut screen = lettered(rt, alloc, window)?;
+    screen.set_mode(7)?;
+    screen.set_cursor(cursor)?;
+    screen.set_window_origin(origin)?;
+    let _ = write(rt, alloc, &mut screen, text)?;
+    shows(rt, &screen, cells, what);
+    is_at(rt, &screen, number(after[2]), number(after[3]), what);
+    let window = screen.info().window;
+    assert_eq!(rt; window.left, number(after[0]), "line {what}");
+    assert_eq!(rt; window.top, number(after[1]), "line {what}");
+    Ok(())
+}
+
+const PRINTED: [(&[u8; 6], &[u8], &str, &[u8; 4]); 22] = [
     // printing
     (b"221122", b"X", "abcdefghijXlmnop", b"2132"),
     (b"222233", b"X", "efghijklmnoX    ", b"0203"),
@@ -72,6 +114,17 @@ const EDGES: [(&[u8; 6], &[u8], &str, &[u8; 4]); 92] = [
     (b"221122", b"\x1b[1s\x1b[u", "abcdefghijklmnop", b"0000"),
     (b"221122", b"\x1b7\x1b[H\x1b8", "abcdefghijklmnop", b"1122"),
     (b"221122", b"\x1b8", "abcdefghijklmnop", b"0000"),
+];
+
+#[test]
+fn prints_controls_and_saved_places_keep_to_their_edges(rt: HostRuntime) -> Result<(), Fail> {
+    for (what, (before, text, cells, after)) in PRINTED.iter().enumerate() {
+        keeps(&rt, rt.alloc(), before, text, cells, after, what)?;
+    }
+    Ok(())
+}
+
+const MOVED: [(&[u8; 6], &[u8], &str, &[u8; 4]); 22] = [
     // motions, which the window clamps
     (b"221122", b"\x1b[0A", "abcdefghijklmnop", b"1121"),
     (b"221122", b"\x1b[9A", "abcdefghijklmnop", b"1121"),
@@ -95,6 +148,17 @@ const EDGES: [(&[u8; 6], &[u8], &str, &[u8; 4]); 92] = [
     (b"221111", b"\x1b[2;2H", "abcdefghijklmnop", b"1122"),
     (b"221111", b"\x1b[9;9f", "abcdefghijklmnop", b"1122"),
     (b"221122", b"\x1b[;2f", "abcdefghijklmnop", b"1121"),
+];
+
+#[test]
+fn motions_keep_to_the_window(rt: HostRuntime) -> Result<(), Fail> {
+    for (what, (before, text, cells, after)) in MOVED.iter().enumerate() {
+        keeps(&rt, rt.alloc(), before, text, cells, after, what)?;
+    }
+    Ok(())
+}
+
+const STOPS: [(&[u8; 6], &[u8], &str, &[u8; 4]); 8] = [
     // tab stops
     (b"221121", b"\x1bH\r\x1b[0I", "abcdefghijklmnop", b"1121"),
     (b"221121", b"\x1bH\r\x1b[2I", "abcdefghijklmnop", b"2131"),
@@ -124,6 +188,17 @@ const EDGES: [(&[u8; 6], &[u8], &str, &[u8; 4]); 92] = [
         b"2131",
     ),
     (b"221121", b"\x1bH\x1b[1g\r\t", "abcdefghijklmnop", b"1121"),
+];
+
+#[test]
+fn tab_stops_are_set_and_cleared(rt: HostRuntime) -> Result<(), Fail> {
+    for (what, (before, text, cells, after)) in STOPS.iter().enumerate() {
+        keeps(&rt, rt.alloc(), before, text, cells, after, what)?;
+    }
+    Ok(())
+}
+
+const SHIFTED: [(&[u8; 6], &[u8], &str, &[u8; 4]); 24] = [
     // rows of the region, as wide as the buffer
     (b"221111", b"\x1b[0S", "abcdijkl    mnop", b"1111"),
     (b"221111", b"\x1b[9S", "abcd        mnop", b"1111"),
@@ -144,24 +219,6 @@ const EDGES: [(&[u8; 6], &[u8], &str, &[u8; 4]); 92] = [
         "abcd    efghmnop",
         b"1011",
     ),
-    // cells up to the row's end
-    (b"221111", b"\x1b[0@", "abcde fgijklmnop", b"1111"),
-    (b"221111", b"\x1b[9@", "abcde   ijklmnop", b"1111"),
-    (b"221111", b"\x1b[0P", "abcdegh ijklmnop", b"1111"),
-    (b"221111", b"\x1b[9P", "abcde   ijklmnop", b"1111"),
-    (b"221111", b"\x1b[0X", "abcde ghijklmnop", b"1111"),
-    (b"221111", b"\x1b[9X", "abcde   ijklmnop", b"1111"),
-    // erased cells of the window's rows, and of the cursor's row
-    (b"221121", b"\x1b[0J", "abcdef      mnop", b"1121"),
-    (b"221121", b"\x1b[1J", "abcd   hijklmnop", b"1121"),
-    (b"221121", b"\x1b[2J", "abcd        mnop", b"1121"),
-    (b"221121", b"\x1b[3J", "abcdefghijklmnop", b"1121"),
-    (b"221130", b"\x1b[J", "abcd        mnop", b"1130"),
-    (b"221130", b"\x1b[1J", "abcdefghijklmnop", b"1130"),
-    (b"221103", b"\x1b[J", "abcdefghijklmnop", b"1103"),
-    (b"221103", b"\x1b[1J", "abcd        mnop", b"1103"),
-    (b"221130", b"\x1b[1K", "    efghijklmnop", b"1130"),
-    (b"221103", b"\x1b[0K", "abcdefghijkl    ", b"1103"),
     // margins
     (b"231123", b"\x1b[0;0r", "abcdefghijklmnop", b"1111"),
     (b"231123", b"\x1b[2;4r", "abcdefghijklmnop", b"1123"),
@@ -181,39 +238,39 @@ const EDGES: [(&[u8; 6], &[u8], &str, &[u8; 4]); 92] = [
     (b"211111", b"\x1b[J", "abcde   ijklmnop", b"1111"),
 ];
 
-fn side(digit: u8) -> u16 {
-    digit.saturating_sub(0x30) as u16
+#[test]
+fn rows_move_in_the_region(rt: HostRuntime) -> Result<(), Fail> {
+    for (what, (before, text, cells, after)) in SHIFTED.iter().enumerate() {
+        keeps(&rt, rt.alloc(), before, text, cells, after, what)?;
+    }
+    Ok(())
 }
 
-fn number(digit: u8) -> i16 {
-    digit.saturating_sub(0x30) as i16
-}
+const CHANGED: [(&[u8; 6], &[u8], &str, &[u8; 4]); 16] = [
+    // cells up to the row's end
+    (b"221111", b"\x1b[0@", "abcde fgijklmnop", b"1111"),
+    (b"221111", b"\x1b[9@", "abcde   ijklmnop", b"1111"),
+    (b"221111", b"\x1b[0P", "abcdegh ijklmnop", b"1111"),
+    (b"221111", b"\x1b[9P", "abcde   ijklmnop", b"1111"),
+    (b"221111", b"\x1b[0X", "abcde ghijklmnop", b"1111"),
+    (b"221111", b"\x1b[9X", "abcde   ijklmnop", b"1111"),
+    // erased cells of the window's rows, and of the cursor's row
+    (b"221121", b"\x1b[0J", "abcdef      mnop", b"1121"),
+    (b"221121", b"\x1b[1J", "abcd   hijklmnop", b"1121"),
+    (b"221121", b"\x1b[2J", "abcd        mnop", b"1121"),
+    (b"221121", b"\x1b[3J", "abcdefghijklmnop", b"1121"),
+    (b"221130", b"\x1b[J", "abcd        mnop", b"1130"),
+    (b"221130", b"\x1b[1J", "abcdefghijklmnop", b"1130"),
+    (b"221103", b"\x1b[J", "abcdefghijklmnop", b"1103"),
+    (b"221103", b"\x1b[1J", "abcd        mnop", b"1103"),
+    (b"221130", b"\x1b[1K", "    efghijklmnop", b"1130"),
+    (b"221103", b"\x1b[0K", "abcdefghijkl    ", b"1103"),
+];
 
 #[test]
-fn items_keep_to_their_edges(rt: HostRuntime) -> Result<(), Fail> {
-    for (what, (before, text, cells, after)) in EDGES.iter().enumerate() {
-        let window = Size {
-            w: side(before[0]),
-            h: side(before[1]),
-        };
-        let origin = Coord {
-            x: number(before[2]),
-            y: number(before[3]),
-        };
-        let cursor = Coord {
-            x: number(before[4]),
-            y: number(before[5]),
-        };
-        let mut screen = lettered(&rt, rt.alloc(), window)?;
-        screen.set_mode(7)?;
-        screen.set_cursor(cursor)?;
-        screen.set_window_origin(origin)?;
-        let _ = write(&rt, rt.alloc(), &mut screen, text)?;
-        shows(&rt, &screen, cells, what);
-        is_at(&rt, &screen, number(after[2]), number(after[3]), what);
-        let window = screen.info().window;
-        assert_eq!(rt; window.left, number(after[0]), "line {what}");
-        assert_eq!(rt; window.top, number(after[1]), "line {what}");
+fn cells_change_up_to_their_edges(rt: HostRuntime) -> Result<(), Fail> {
+    for (what, (before, text, cells, after)) in CHANGED.iter().enumerate() {
+        keeps(&rt, rt.alloc(), before, text, cells, after, what)?;
     }
     Ok(())
 }
