@@ -141,7 +141,10 @@ fn the_line_is_added_and_its_expansion_answered(rt: HostRuntime) -> Result<(), F
     assert_eq!(rt; answer.as_slice(), [100, 97, 13, 10].as_slice());
     assert_eq!(rt; histories.count(&program), 1);
     if histories.count(&program) == 1 {
-        assert_eq!(rt; histories.at(&program, 0).as_slice(), [108, 32, 97].as_slice());
+        assert_eq!(rt;
+            histories.at(&program, 0).as_slice(),
+            [108, 32, 97].as_slice()
+        );
     }
     Ok(())
 }

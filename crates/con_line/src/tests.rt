@@ -2,6 +2,7 @@
 ghost use Rattle.std.specs.Prelude.{◌≡◌, length, ◌≤◌};
 
 use crate::{Edit, Line, Press};
+use std::alloc::Global;
 use std::process::Abort;
 use std::test::Fail;
 
@@ -21,6 +22,79 @@ fn pressed(line: &mut Line, keys: &[Press]) {
 fn expect(rt: &impl Abort, line: &Line, text: &[u16], caret: u16) {
     assert_eq!(rt; line.text(), text);
     assert_eq!(rt; line.caret(), caret);
+}
+
+fn units(alloc: Global, text: &[u8]) -> Result<Vec<u16>, Fail> {
+    let mut units = Vec::new(alloc);
+    for byte in text {
+        units.push(*byte as u16)?;
+    }
+    Ok(units)
+}
+
+fn press(line: &mut Line, key: Press, recalled: &[u16]) {
+    if recalled.len() > 1024 {
+        return;
+    }
+    match key {
+        Press::Match => if line.caret() as usize <= recalled.len() {
+            line.press(Press::Match, recalled);
+        },
+        other => {
+            line.press(other, recalled);
+        }
+    }
+}
+
+// The flag, a text and its caret, a key and its line of the history, and the text and the caret then.
+#[test]
+fn each_key_of_the_table(rt: HostRuntime) -> Result<(), Fail> {
+    let rows: [(bool, &[u8], u16, Press, &[u8], &[u8], u16); 28] = [
+        (true, b"abc", 1, Press::Unit(120), b"", b"axbc", 2),
+        (false, b"abc", 1, Press::Unit(120), b"", b"axc", 2),
+        (false, b"abc", 3, Press::Unit(120), b"", b"abcx", 4),
+        (true, b"abc", 2, Press::Left, b"", b"abc", 1),
+        (true, b"abc", 0, Press::Left, b"", b"abc", 0),
+        (true, b"abc", 2, Press::Right, b"", b"abc", 3),
+        (true, b"abc", 3, Press::Right, b"", b"abc", 3),
+        (true, b"ab  cd", 6, Press::WordLeft, b"", b"ab  cd", 4),
+        (true, b"ab  cd", 4, Press::WordLeft, b"", b"ab  cd", 0),
+        (true, b"ab  cd", 1, Press::WordRight, b"", b"ab  cd", 4),
+        (true, b"ab  cd", 3, Press::WordRight, b"", b"ab  cd", 4),
+        (true, b"ab  cd", 4, Press::WordRight, b"", b"ab  cd", 6),
+        (true, b"abc", 2, Press::Home, b"", b"abc", 0),
+        (true, b"abc", 1, Press::End, b"", b"abc", 3),
+        (true, b"abc", 2, Press::Back, b"", b"ac", 1),
+        (true, b"abc", 0, Press::Back, b"", b"abc", 0),
+        (true, b"abc", 1, Press::Delete, b"", b"ac", 1),
+        (true, b"abc", 3, Press::Delete, b"", b"abc", 3),
+        (true, b"abc", 1, Press::Insert, b"", b"abc", 1),
+        (true, b"abc", 2, Press::Clear, b"", b"", 0),
+        (true, b"abc", 1, Press::Recall, b"xy", b"xy", 2),
+        (true, b"abc", 1, Press::Recall, b"", b"abc", 1),
+        (true, b"abc", 1, Press::RestOfLast, b"xyz!", b"ayz!", 4),
+        (true, b"abc", 2, Press::RestOfLast, b"xy", b"abc", 2),
+        (true, b"abc", 1, Press::RestOfLast, b"xy", b"ay", 2),
+        (true, b"abc", 1, Press::Match, b"ayz!", b"ayz!", 1),
+        (true, b"abc", 0, Press::Match, b"", b"abc", 0),
+        (true, b"abc", 1, Press::Nothing, b"", b"abc", 1),
+    ];
+    for (insert, text, caret, key, recalled, wanted, wanted_caret) in rows {
+        let mut line = Line::new(rt.alloc(), insert).ok().ok_or("memory")?;
+        press(&mut line, Press::Recall, &units(rt.alloc(), text)?);
+        press(&mut line, Press::Home, &NO_LINE);
+        for _ in 0..caret {
+            press(&mut line, Press::Right, &NO_LINE);
+        }
+        press(&mut line, key, &units(rt.alloc(), recalled)?);
+        assert_eq!(rt;
+            line.text(),
+            units(rt.alloc(), wanted)?.as_slice(),
+            "for {key:?}"
+        );
+        assert_eq!(rt; line.caret(), wanted_caret, "for {key:?}");
+    }
+    Ok(())
 }
 
 #[test]
