@@ -23,6 +23,8 @@
 mod buffer;
 mod fits;
 mod resize;
+#[cfg(test)]
+mod resize_tests;
 mod room;
 mod screens;
 mod slot;
