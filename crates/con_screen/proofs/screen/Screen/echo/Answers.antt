@@ -1,9 +1,8 @@
-use Rattle.std.proofs.Common.{◌+◌, length, ap, ◌∙◌}
+use Rattle.std.proofs.Common.{ap, ◌∙◌}
 use Rattle.con_screen.specs.Alternate.{sides}
-use Rattle.con_screen.specs.Echo.{part_rule}
 use Rattle.con_screen.specs.Screen.{Screen}
 use Rattle.con_screen.proofs.EchoLemmas.{changed_sides}
 use Rattle.con_screen.proofs.screen.Screen.echo.Goals as goal
 
 pub returns-clause-sides : goal.returns-clause-sides
-returns-clause-sides c = ap sides c.echo.ensures.effect ∙ changed_sides c.self.inside.board c.args.origin (c.args.offset + length c.args.units.now) (part_rule c.self.inside.board c.args.offset c.args.units.now c.args.blanks) c.args.caret ∙ ap (λ (s : Screen). sides s.board) c.self.view_is
+returns-clause-sides c = ap sides c.echo.ensures.effect ∙ changed_sides c.self.inside.board c.args.origin _ _ _ ∙ ap (λ (s : Screen). sides s.board) c.self.view_is
