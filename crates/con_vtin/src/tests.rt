@@ -31,7 +31,7 @@ fn key(vk: u16, unit: u16, state: u32) -> Key {
 
 #[test]
 fn each_row_of_the_table_gives_its_key(rt: HostRuntime) -> Result<(), Fail> {
-    let rows: [(&[u8], u16, u16, u32); 40] = [
+    let rows: [(&[u8], u16, u16, u32); 48] = [
         (b" ", 0x20, 0x20, 0),
         (b"7", 0x37, 0x37, 0),
         (b"q", 0x51, 0x71, 0),
@@ -44,6 +44,7 @@ fn each_row_of_the_table_gives_its_key(rt: HostRuntime) -> Result<(), Fail> {
         (b"\x01", 0x41, 0x01, 0x08),
         (b"\x1A", 0x5A, 0x1A, 0x08),
         (b"\x00", 0x20, 0, 0x08),
+        (b"\x1C", 0, 0x1C, 0x08),
         (b"\x1F", 0, 0x1F, 0x08),
         (b"\xC3\xA9", 0, 0xE9, 0),
         (b"\xFF", 0, 0xFFFD, 0),
@@ -57,9 +58,14 @@ fn each_row_of_the_table_gives_its_key(rt: HostRuntime) -> Result<(), Fail> {
         (b"\x1B[H", 0x24, 0, 0x100),
         (b"\x1B[F", 0x23, 0, 0x100),
         (b"\x1BOP", 0x70, 0, 0),
+        (b"\x1BOQ", 0x71, 0, 0),
+        (b"\x1BOR", 0x72, 0, 0),
         (b"\x1BOS", 0x73, 0, 0),
         (b"\x1B[1;2A", 0x26, 0, 0x110),
         (b"\x1B[1;5C", 0x27, 0, 0x108),
+        (b"\x1B[1;4D", 0x25, 0, 0x112),
+        (b"\x1B[1;6H", 0x24, 0, 0x118),
+        (b"\x1B[1;7B", 0x28, 0, 0x10A),
         (b"\x1B[1;8F", 0x23, 0, 0x11A),
         (b"\x1B[1;3Q", 0x71, 0, 0x02),
         (b"\x1B[2~", 0x2D, 0, 0x100),
@@ -68,9 +74,11 @@ fn each_row_of_the_table_gives_its_key(rt: HostRuntime) -> Result<(), Fail> {
         (b"\x1B[6;1~", 0x22, 0, 0x100),
         (b"\x1B[15~", 0x74, 0, 0),
         (b"\x1B[17~", 0x75, 0, 0),
+        (b"\x1B[18~", 0x76, 0, 0),
         (b"\x1B[19;2~", 0x77, 0, 0x10),
         (b"\x1B[20~", 0x78, 0, 0),
         (b"\x1B[21;4~", 0x79, 0, 0x12),
+        (b"\x1B[23~", 0x7A, 0, 0),
         (b"\x1B[24~", 0x7B, 0, 0),
     ];
     for (bytes, vk, unit, state) in rows {
