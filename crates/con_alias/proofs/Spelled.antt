@@ -1,11 +1,11 @@
 -- A target spelled out step by step.
-use Rattle.std.proofs.Common.{◌≡◌, ℕ, zero, suc, ◌+◌, ◌-◌, ◌<◌, ◌≤◌, ◌==◌, ◌&&◌, nat_lt, Bool, true, false, cond, List, [], ◌∷◌, ◌++◌, length, take, drop, get_or, refl, sym, ap, subst, ◌∙◌, arith, length-append}
+use Rattle.std.proofs.Common.{◌≡◌, ℕ, ◌+◌, ◌-◌, ◌<◌, ◌≤◌, ◌==◌, ◌&&◌, nat_lt, Bool, true, false, cond, List, [], ◌∷◌, ◌++◌, length, drop, get_or, refl, sym, ap, subst, ◌∙◌, arith, length-append}
 use Rattle.std.proofs.lemmas.List.{drop_more, drop-drop}
 use Rattle.std.proofs.lemmas.Bool.{ltb-true, ltb-false}
 use Rattle.std.proofs.Math.ListN.{drop_of_length-le}
 use Rattle.con_alias.specs.declared.expand.Sign.{Sign}
 use Rattle.con_alias.specs.declared.expand.Sign.TheVariants as sign
-use Rattle.con_alias.specs.Expansion.{replaced, sign_of, spelled, line_end, signed_at, width_at, argument, after_spaces}
+use Rattle.con_alias.specs.Expansion.{replaced, sign_of, spelled, line_end, signed_at, width_at}
 
 -- what one step gives
 abbrev pub step_of : List ℕ → List ℕ → ℕ → List ℕ → List ℕ

@@ -1,5 +1,5 @@
 -- What changes of one program's list do to all.
-use Rattle.std.proofs.Common.{◌≡◌, ℕ, ◌-◌, ◌<◌, ◌≤◌, ◌&&◌, Bool, true, false, cond, not, List, [], ◌∷◌, ◌++◌, length, get_or, set, Option, Some, None, is_some, Result, Ok, Err, refl, sym, ap, subst, nat_le, ◌∙◌, arith}
+use Rattle.std.proofs.Common.{◌≡◌, ℕ, ◌-◌, ◌<◌, ◌≤◌, Bool, true, false, cond, not, List, [], ◌∷◌, ◌++◌, length, get_or, set, Option, Some, None, is_some, Result, Ok, Err, refl, sym, ap, subst, ◌∙◌}
 use Rattle.con_units.specs.declared.code.Code.{Code}
 use Rattle.con_units.specs.declared.code.Code.TheVariants as code
 use Rattle.con_alias.specs.Aliases.{Entry, AliasList, AliasTable, Prepared, entry_of, empty_list, find_entry, without_entry, with_entry, is_full, entries_in, place_of, is_known, changed_in, is_bad, is_no_source, is_over, alias_at, added, removed, room_for, add_answer, remove_answer}

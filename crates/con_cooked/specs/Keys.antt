@@ -1,5 +1,5 @@
 -- Which record is which key of an edited line. The codes are the virtual-key codes of the Console API documentation.
-use Rattle.std.specs.Prelude.{ℕ, Bool, not, ◌==◌, ◌||◌, nat_lt, bit_and, if◌then◌else◌}
+use Rattle.std.specs.Prelude.{ℕ, Bool, not, ◌==◌, ◌||◌, bit_and, if◌then◌else◌}
 use Rattle.con_units.specs.Stored.{is_control}
 use Rattle.con_records.specs.declared.record.Record.{Record}
 use Rattle.con_records.specs.declared.record.Record.TheVariants as record_

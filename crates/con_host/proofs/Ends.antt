@@ -1,5 +1,5 @@
 -- How playing ends, by status.
-use Rattle.std.proofs.Common.{◌≡◌, ℕ, ◌<◌, ◌≤◌, List, [], take, length, Option, refl, sym, subst, ap, ◌∙◌, rules, arith, ◌⊎◌, inl, inr}
+use Rattle.std.proofs.Common.{◌≡◌, ℕ, ◌<◌, ◌≤◌, List, length, Option, refl, sym, subst, rules, arith, ◌⊎◌, inl, inr}
 use Rattle.con_outside.specs.Outside.{then_written}
 use Rattle.con_outside.specs.Laws.{then_written-none}
 use Rattle.con_units.specs.declared.place.Size.{Size}

@@ -1,5 +1,5 @@
 -- A piece that was heard.
-use Rattle.std.proofs.Common.{◌≡◌, ℕ, List, ap, sym, ◌∙◌, refl}
+use Rattle.std.proofs.Common.{◌≡◌, ℕ, List, refl}
 use Rattle.std.specs.Prelude.{flat_map}
 use Rattle.con_units.specs.Split.{split_after}
 use Rattle.con_units.specs.Utf8.{utf8}

@@ -1,5 +1,5 @@
 -- How the top call ends where the words are no form.
-use Rattle.std.proofs.Common.{◌≡◌, ℕ, List, [], Option, Some, None, refl, sym}
+use Rattle.std.proofs.Common.{◌≡◌, ℕ, List, [], Option, None, refl}
 use Rattle.con_outside.specs.Outside.{then_written}
 use Rattle.con_host.specs.declared.words.Form.{Form}
 use Rattle.con_host.specs.Ending.{end_line, WroteFront}

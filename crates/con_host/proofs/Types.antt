@@ -1,15 +1,14 @@
 -- How typing ends, by status.
-use Rattle.std.proofs.Common.{◌≡◌, ℕ, ◌<◌, ◌≤◌, List, [], ◌∷◌, ◌++◌, take, length, Option, Some, refl, sym, subst, ap, ◌∙◌, rules, arith, ◌⊎◌, inl, inr}
-use Rattle.std.specs.Prelude.{Result, Ok, Err, OnOk, IfSome, flat_map}
+use Rattle.std.proofs.Common.{◌≡◌, ℕ, ◌<◌, ◌≤◌, List, [], ◌∷◌, ◌++◌, length, Option, refl, sym, subst, ap, ◌∙◌, rules, arith, ◌⊎◌, inl, inr}
+use Rattle.std.specs.Prelude.{Result, Ok, Err, OnOk, flat_map}
 use Rattle.con_outside.specs.Outside.{then_written}
 use Rattle.con_outside.specs.Laws.{then_written-none}
-use Rattle.con_units.specs.Split.{split, split_after}
+use Rattle.con_units.specs.Split.{split}
 use Rattle.con_units.specs.Utf8.{utf8}
 use Rattle.con_term.specs.Play.{units_of}
-use Rattle.con_screens.specs.Buffers.{Buffers}
 use Rattle.con_host.specs.Ending.{end_line, WroteFront}
 use Rattle.con_host.specs.Playing.{Told, IsWhole}
-use Rattle.con_host.specs.Typing.{Typed, Typing, WroteFrame, ShowsBuffers, text_typed, text_units, units_typed, ended, ended_with, cut_units, heard, opening}
+use Rattle.con_host.specs.Typing.{Typed, Typing, WroteFrame, ShowsBuffers, text_typed, units_typed, ended, ended_with, cut_units, heard, opening}
 use Rattle.con_host.specs.TypedInTurn.{units_in_turn, typed_none}
 
 nothing : (bytes : List ℕ) (before : Option (List ℕ)) → WroteFront bytes before before

@@ -1,5 +1,5 @@
 -- The last line of a report.
-use Rattle.std.specs.Prelude.{◌≡◌, ℕ, ◌≤◌, ◌==◌, List, [], ◌∷◌, ◌++◌, length, take, Option, codes, if◌then◌else◌}
+use Rattle.std.specs.Prelude.{◌≡◌, ℕ, ◌≤◌, ◌==◌, List, [], length, take, Option, codes, if◌then◌else◌}
 use Rattle.con_outside.specs.Outside.{then_written}
 
 -- the line that tells a status, where one does

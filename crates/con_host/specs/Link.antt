@@ -1,5 +1,5 @@
 -- How the reading of a link ends.
-use Rattle.std.specs.Prelude.{◌≡◌, ℕ, ◌<◌, ◌≤◌, List, [], length, Option, Some, None, IfSome}
+use Rattle.std.specs.Prelude.{◌≡◌, ℕ, ◌<◌, ◌≤◌, List, [], length, Option, IfSome}
 use Rattle.con_host.specs.declared.reading.Reading.{Reading}
 use Rattle.con_host.specs.declared.reading.Reading.TheVariants as reading
 

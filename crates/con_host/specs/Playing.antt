@@ -1,5 +1,5 @@
 -- How playing ends.
-use Rattle.std.specs.Prelude.{◌≡◌, ℕ, ◌<◌, ◌≤◌, ◌⊎◌, ◌||◌, Bool, List, [], length, Option, Some, None, IfSome, nat_eq, flat_map}
+use Rattle.std.specs.Prelude.{◌≡◌, ℕ, ◌<◌, ◌≤◌, ◌⊎◌, ◌||◌, Bool, List, [], length, Option, IfSome, nat_eq, flat_map}
 use Rattle.con_host.specs.Encoded.{unit_bytes}
 use Rattle.con_outside.specs.Outside.{then_written}
 use Rattle.con_units.specs.declared.place.Size.{Size}

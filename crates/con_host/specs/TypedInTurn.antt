@@ -9,7 +9,7 @@ use Rattle.con_units.specs.SplitLaws.{split_after-append}
 use Rattle.con_term.specs.Play.{units_of}
 use Rattle.con_screen.specs.Told.{nothing_told}
 use Rattle.con_screens.specs.Buffer.{buffer_written}
-use Rattle.con_screens.specs.Buffers.{Buffers, with_buffer}
+use Rattle.con_screens.specs.Buffers.{Buffers}
 use Rattle.con_screens.specs.declared.buffer.Buffer.{Buffer}
 use Rattle.con_host.specs.Typing.{Typing, heard, units_typed}
 use Rattle.con_host.specs.WrittenInTurn.{buffer_in_turn, buffer_nothing}

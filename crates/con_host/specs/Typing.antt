@@ -1,5 +1,5 @@
 -- A text that is typed, and how typing ends.
-use Rattle.std.specs.Prelude.{◌≡◌, ℕ, ◌<◌, ◌≤◌, ◌⊎◌, ◌||◌, Bool, List, [], ◌∷◌, ◌++◌, length, Option, Some, None, IsSomeAnd, nat_eq, flat_map}
+use Rattle.std.specs.Prelude.{◌≡◌, ℕ, ◌<◌, ◌≤◌, ◌⊎◌, ◌||◌, Bool, List, [], ◌∷◌, ◌++◌, length, Option, IsSomeAnd, nat_eq, flat_map}
 use Rattle.con_outside.specs.Outside.{then_written}
 use Rattle.con_units.specs.Split.{split, split_after}
 use Rattle.con_units.specs.Utf8.{utf8}

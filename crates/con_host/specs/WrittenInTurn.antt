@@ -1,5 +1,5 @@
 -- What was told before does not matter to the buffer that a text makes; so units written in turn are the whole written.
-use Rattle.std.proofs.Common.{◌≡◌, ℕ, Bool, true, false, cond, ◌==◌, ◌&&◌, ◌||◌, List, [], ◌∷◌, ◌++◌, Option, Some, None, refl, sym, ap, ◌∙◌, rules, arith}
+use Rattle.std.proofs.Common.{◌≡◌, ℕ, Bool, true, false, cond, ◌==◌, ◌&&◌, ◌||◌, List, [], ◌∷◌, ◌++◌, Option, Some, refl, sym, ap, ◌∙◌, arith}
 use Rattle.std.specs.Prelude.{fold}
 use Rattle.std.proofs.lemmas.List.Sums.{fold-append}
 use Rattle.std.proofs.lemmas.Bool.{and_parts}
@@ -11,9 +11,9 @@ use Rattle.con_vtgram.specs.Spoken.{Spoken}
 use Rattle.con_screen.specs.Page.{Page}
 use Rattle.con_screen.specs.Screen.{Screen}
 use Rattle.con_screen.specs.Effect.{effect, first}
-use Rattle.con_screen.specs.Told.{Told, told_after, told_by, csi_told, private_told, plain_told, switched, is_switch, is_reset, nothing_told}
-use Rattle.con_screen.specs.Written.{Heard, Stage, heard, written, switches, any_switch, split_on}
-use Rattle.con_screens.specs.Buffer.{BufferStage, carried, turned, unit_written, written_on}
+use Rattle.con_screen.specs.Told.{Told, told_after, told_by, csi_told, private_told, plain_told, switched, is_switch, nothing_told}
+use Rattle.con_screen.specs.Written.{Stage, heard, written, switches, any_switch, split_on}
+use Rattle.con_screens.specs.Buffer.{BufferStage, carried, unit_written, written_on}
 use Rattle.con_screens.specs.declared.buffer.Buffer.{Buffer}
 
 page_alone : (p : Page) (t u : Told) (items : List Spoken) → (fold heard (record { page = p; told = t }) items).page ≡ (fold heard (record { page = p; told = u }) items).page

@@ -1,19 +1,15 @@
 -- Buffers stay within their bounds.
-use Rattle.std.proofs.Common.{◌≡◌, ℕ, zero, suc, ◌+◌, ◌-◌, ◌*◌, ◌<◌, ◌≤◌, ◌⊎◌, inl, inr, Bool, true, false, cond, List, [], ◌∷◌, ◌++◌, length, get_or, set, replicate, Option, None, Some, refl, sym, ap, subst, ◌∙◌, arith, length-append}
-use Rattle.std.specs.Prelude.{IsSome, IfSome, is_none, is_some, ◌==◌, nat_lt, ◌%◌, ◌&&◌}
-use Rattle.std.specs.List.{position}
+use Rattle.std.proofs.Common.{◌≡◌, ℕ, zero, suc, ◌+◌, ◌-◌, ◌*◌, ◌<◌, ◌≤◌, inl, inr, Bool, true, false, cond, List, [], ◌∷◌, ◌++◌, length, get_or, set, replicate, Option, None, Some, refl, sym, ap, subst, ◌∙◌, arith, length-append}
+use Rattle.std.specs.Prelude.{IsSome, IfSome, ◌==◌, nat_lt, ◌%◌, ◌&&◌}
 use Rattle.std.specs.Option.{option_map}
-use Rattle.std.proofs.lemmas.List.{get_or-set_same, get_or-set_other, length-set, get_or_default, length-replicate}
-use Rattle.std.proofs.lemmas.Bool.{cases_eq, cases_lt, cond_both, eqb-true, eqb-false}
-use Rattle.con_units.specs.declared.place.Size.{Size}
-use Rattle.con_grid.specs.Picture.{IsPicture}
+use Rattle.std.proofs.lemmas.List.{get_or-set_same, get_or-set_other, length-set, length-replicate}
+use Rattle.std.proofs.lemmas.Bool.{cases_eq, cases_lt, cond_both, eqb-false}
 use Rattle.con_screen.specs.Page.{Page, IsPage}
-use Rattle.con_screen.specs.Pen.{starting_pen}
 use Rattle.con_screen.specs.Screen.{Screen}
-use Rattle.con_screen.specs.Setters.{new_page, default_tabs}
+use Rattle.con_screen.specs.Setters.{default_tabs}
 use Rattle.con_screen.specs.Alternate.{Sides, sides}
 use Rattle.con_screens.specs.Buffer.{IsBuffer, HasWindow, new_buffer, new_screen}
-use Rattle.con_screens.specs.Buffers.{Buffers, AreBuffers, IsLive, buffer_at, with_slot, with_buffer, gone, created, free_id, first_buffers}
+use Rattle.con_screens.specs.Buffers.{Buffers, AreBuffers, IsLive, buffer_at, with_slot, with_buffer, gone, created, first_buffers}
 use Rattle.con_units.specs.declared.view.View.{View}
 use Rattle.con_screens.specs.Buffers.{with_handles}
 use Rattle.con_screens.specs.View.{view_of}

@@ -1,17 +1,17 @@
 -- Resizing place after place.
-use Rattle.std.proofs.Common.{◌≡◌, ℕ, zero, suc, ◌+◌, ◌-◌, ◌*◌, ◌<◌, ◌≤◌, ◌⊎◌, inl, inr, Bool, true, false, not, max, cond, List, [], ◌∷◌, ◌++◌, map, length, get_or, set, Option, None, Some, refl, sym, ap, subst, ◌∙◌, arith}
-use Rattle.std.specs.Prelude.{IfSome, IsSome, ◌==◌}
+use Rattle.std.proofs.Common.{◌≡◌, ℕ, zero, suc, ◌+◌, ◌-◌, ◌<◌, ◌≤◌, inl, inr, Bool, true, false, not, cond, List, [], ◌∷◌, ◌++◌, map, length, get_or, set, Option, None, Some, refl, sym, ap, subst, ◌∙◌, arith}
+use Rattle.std.specs.Prelude.{IfSome, IsSome}
 use Rattle.std.specs.Option.{option_map}
 use Rattle.std.proofs.lemmas.List.{get_or-set_same, get_or-set_other, length-set, get_or_push, get_or_past, get_or_default}
 use Rattle.std.proofs.lemmas.Bool.{cases_eq, cases_lt}
 use Rattle.con_units.specs.declared.place.Size.{Size}
-use Rattle.con_screen.specs.Page.{Page, IsPage, shown}
+use Rattle.con_screen.specs.Page.{IsPage, shown}
 use Rattle.con_screen.specs.Screen.{Screen}
-use Rattle.con_screen.specs.Fit.{refitted, moved_in}
+use Rattle.con_screen.specs.Fit.{refitted}
 use Rattle.con_screens.specs.Buffer.{IsBuffer, HasWindow}
 use Rattle.con_screens.specs.Buffers.{Buffers, AreBuffers, buffer_at}
 use Rattle.con_screens.specs.Slot.{HasPages, HaveWindow}
-use Rattle.con_screens.specs.Resize.{IsSlotFit, target, screen_resized, buffer_resized, all_resized}
+use Rattle.con_screens.specs.Resize.{IsSlotFit, screen_resized, buffer_resized, all_resized}
 use Rattle.con_screens.specs.declared.buffer.Buffer.{Buffer}
 use Rattle.con_screens.specs.declared.fits.BufferFit.{BufferFit}
 

@@ -1,10 +1,9 @@
 -- Writing on, screen after screen.
-use Rattle.std.proofs.Common.{◌≡◌, ℕ, ◌+◌, ◌-◌, ◌<◌, ◌≤◌, Bool, true, false, cond, ◌||◌, List, [], ◌∷◌, ◌++◌, length, take, drop, refl, sym, ap, subst, ◌∙◌, arith}
+use Rattle.std.proofs.Common.{◌≡◌, ℕ, ◌+◌, ◌-◌, ◌<◌, ◌≤◌, true, false, List, [], ◌∷◌, ◌++◌, length, take, drop, refl, sym, ap, subst, ◌∙◌, arith}
 use Rattle.std.specs.Prelude.{fold}
 use Rattle.std.proofs.lemmas.List.{take-append-drop, drop-take, length-drop, take_all, take-take}
 use Rattle.std.proofs.lemmas.List.Sums.{fold-append}
 use Rattle.std.proofs.lemmas.Bool.{or_parts}
-use Rattle.con_screen.specs.Screen.{Screen}
 use Rattle.con_screen.specs.Page.{IsPage}
 use Rattle.con_screen.specs.Told.{Told, Answered}
 use Rattle.con_screen.specs.Written.{Stage, written, switches}

@@ -1,7 +1,6 @@
 -- A screen is lent.
-use Rattle.std.specs.Prelude.{ℕ, Option, None, Some}
+use Rattle.std.specs.Prelude.{ℕ}
 use Rattle.std.specs.Borrow.{Lends, MutBor, Fml}
-use Rattle.std.specs.Option.{option_map}
 use Rattle.con_screen.specs.Screen.{Screen}
 use Rattle.con_screen.specs.contracts.screen.Screen as screen
 use Rattle.con_screens.specs.declared.buffer.Buffer.{Buffer}

@@ -1,6 +1,6 @@
-use Rattle.std.proofs.Common.{◌≡◌, ◌+◌, ◌-◌, ◌*◌, ◌≤◌, ◌∙◌, length, take, drop, arith}
-use Rattle.std.proofs.lemmas.List.{length-take, at_drop_all}
-use Rattle.con_host.proofs.DecodeLemmas.{units_chunk, held_chunk, units_all, held_all, units_end, held_end}
+use Rattle.std.proofs.Common.{◌-◌, ◌∙◌, drop, arith}
+use Rattle.std.proofs.lemmas.List.{length-take}
+use Rattle.con_host.proofs.DecodeLemmas.{units_chunk, held_chunk, units_end, held_end}
 use Rattle.con_host.proofs.decoding.decode.Goals as goal
 
 pub loop-at-preserved : goal.loop-at-preserved

@@ -1,4 +1,4 @@
-use Rattle.std.proofs.Common.{◌≡◌, sym, ◌∙◌, ap}
+use Rattle.std.proofs.Common.{sym, ◌∙◌}
 use Rattle.con_host.proofs.DecodeLemmas.{ascii_units, ascii_held}
 use Rattle.con_host.proofs.decoding.decode_byte.Goals as goal
 

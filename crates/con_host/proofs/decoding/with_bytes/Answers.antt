@@ -1,4 +1,4 @@
-use Rattle.std.proofs.Common.{◌≡◌, ◌+◌, ◌∙◌, refl, arith}
+use Rattle.std.proofs.Common.{◌∙◌, refl, arith}
 use Rattle.con_host.proofs.DecodeLemmas.{pushed_more, pushed_none, pushed_all}
 use Rattle.con_host.proofs.decoding.with_bytes.Goals as goal
 

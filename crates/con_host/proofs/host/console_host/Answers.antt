@@ -1,4 +1,4 @@
-use Rattle.std.proofs.Common.{◌≡◌, [], sym}
+use Rattle.std.proofs.Common.{[]}
 use Rattle.con_outside.specs.Laws.{then_left-none}
 use Rattle.con_host.proofs.Hosts.{no_form}
 use Rattle.con_host.proofs.host.console_host.Goals as goal

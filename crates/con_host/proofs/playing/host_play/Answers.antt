@@ -1,4 +1,4 @@
-use Rattle.std.proofs.Common.{◌≡◌, [], rules}
+use Rattle.std.proofs.Common.{[]}
 use Rattle.con_outside.specs.Laws.{then_left-none}
 use Rattle.con_host.proofs.Ends.{no_memory, ended_link, ended_too_long}
 use Rattle.con_host.proofs.playing.host_play.Goals as goal

@@ -1,4 +1,4 @@
-use Rattle.std.proofs.Common.{◌≡◌, ◌++◌, [], take, refl, rules, arith, length}
+use Rattle.std.proofs.Common.{◌++◌, [], take, refl, arith}
 use Rattle.con_outside.specs.Laws.{then_left-none, then_left-more}
 use Rattle.con_host.proofs.Pieces.{length-more}
 use Rattle.con_host.proofs.reading.read_link.Goals as goal

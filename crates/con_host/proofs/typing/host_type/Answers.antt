@@ -1,4 +1,4 @@
-use Rattle.std.proofs.Common.{◌≡◌, [], ◌∙◌, rules, ap, sym, subst, ℕ, List}
+use Rattle.std.proofs.Common.{◌≡◌, [], sym, subst, ℕ, List}
 use Rattle.con_outside.specs.Laws.{then_left-none}
 use Rattle.con_host.specs.Typing.{Typing, heard, ended, ShowsBuffers}
 use Rattle.con_host.proofs.Types.{no_memory, ended_link, ended_too_long, ended_done, ended_term, ended_memory}

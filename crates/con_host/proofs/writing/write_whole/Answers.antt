@@ -1,4 +1,4 @@
-use Rattle.std.proofs.Common.{◌≡◌, ◌++◌, ◌-◌, take, drop, arith, length, ◌∙◌, ap}
+use Rattle.std.proofs.Common.{◌-◌, take, drop, arith, length, ◌∙◌, ap}
 use Rattle.con_outside.specs.Laws.{then_written-more}
 use Rattle.con_outside.specs.Outside.{then_written}
 use Rattle.con_host.proofs.Pieces.{front_more, fits_more}

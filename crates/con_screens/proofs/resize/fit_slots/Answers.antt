@@ -1,4 +1,4 @@
-use Rattle.std.proofs.Common.{rules, arith, ◌≡◌, ℕ, ◌<◌, ◌≤◌, ◌+◌, None, List, Option, length, get_or, sym, ap, subst, ◌∙◌}
+use Rattle.std.proofs.Common.{arith, ◌+◌, List, Option, length, ap, ◌∙◌}
 use Rattle.std.proofs.lemmas.List.{length_push}
 use Rattle.con_screens.specs.declared.fits.BufferFit.{BufferFit}
 use Rattle.con_screens.proofs.ResizeLemmas.{fits_more, fits_all}

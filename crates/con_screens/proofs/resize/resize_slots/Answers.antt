@@ -1,9 +1,9 @@
-use Rattle.std.proofs.Common.{rules, arith, ◌≡◌, ℕ, ◌<◌, ◌≤◌, ◌+◌, None, Option, length, get_or, sym, ap, subst, ◌∙◌, refl}
+use Rattle.std.proofs.Common.{rules, ◌≡◌, ◌<◌, ◌≤◌, None, Option, length, get_or, sym, ap, subst, ◌∙◌, refl}
 use Rattle.con_screens.specs.Slot.{HasPages}
 use Rattle.con_screens.specs.Resize.{IsSlotFit}
 use Rattle.con_screens.specs.declared.buffer.Buffer.{Buffer}
 use Rattle.con_screens.specs.declared.fits.BufferFit.{BufferFit}
-use Rattle.con_screens.proofs.ResizeLemmas.{ResizedSo, resized_first, resized_more, resized_all, resized_pages, slot_taken, fit_taken}
+use Rattle.con_screens.proofs.ResizeLemmas.{resized_first, resized_more, resized_all, resized_pages, slot_taken, fit_taken}
 use Rattle.con_screens.proofs.resize.resize_slots.Goals as goal
 
 pub loop-at-init : goal.loop-at-init

@@ -1,4 +1,3 @@
-use Rattle.std.proofs.Common.{rules, ◌≡◌}
 use Rattle.con_screens.proofs.KeepLemmas.{written_keeps}
 use Rattle.con_screens.proofs.slot.write_in.Goals as goal
 

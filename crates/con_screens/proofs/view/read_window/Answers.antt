@@ -1,4 +1,4 @@
-use Rattle.std.proofs.Common.{rules, arith, ◌≡◌, ◌<◌, ◌≤◌, ◌+◌, ◌*◌, ◌++◌, List, length, take, drop, suc, subst, refl, sym, ap, ◌∙◌, ℕ, vec_capacity, vec_len, slice_get, Some, append-nil}
+use Rattle.std.proofs.Common.{arith, ◌≡◌, ◌<◌, ◌+◌, ◌*◌, List, length, suc, sym, ap, ◌∙◌, slice_get, Some, append-nil}
 use Rattle.std.proofs.lemmas.Nat.{mul-add-lt}
 use Rattle.con_units.specs.Glyph.{Glyph}
 use Rattle.con_screens.specs.View.{rows_in}

@@ -1,7 +1,7 @@
 -- The program's list changes at its place.
 use Rattle.std.proofs.Common.{◌≡◌, ◌<◌, ◌≤◌, ◌∙◌, List, ℕ, Some, true, false, length, ap, sym, arith}
 use Rattle.std.proofs.lemmas.Bool.{lt-ltb}
-use Rattle.con_alias.specs.Aliases.{AliasTable, Prepared, Entry, entry_of, place_of, is_known, is_bad}
+use Rattle.con_alias.specs.Aliases.{AliasTable, Prepared, entry_of, place_of, is_known, is_bad}
 use Rattle.con_alias.proofs.Tables.{added-at, add_answer-at, add_answer-none, room_for-new}
 use Rattle.con_alias.proofs.aliases.Aliases.add.Goals as goal
 

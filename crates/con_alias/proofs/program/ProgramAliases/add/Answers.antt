@@ -1,7 +1,7 @@
 -- The alias is there, or goes last, or there is no place.
-use Rattle.std.proofs.Common.{◌≡◌, ◌<◌, ◌≤◌, ◌∙◌, List, [], ◌∷◌, ◌++◌, ℕ, not, false, length, get_or, ap, sym, subst, arith}
-use Rattle.con_alias.specs.Aliases.{Entry, AliasList, source_place, with_entry}
-use Rattle.con_alias.proofs.Entries.{with-known, with-full, with-new, full-known, full-new, full-fewer}
+use Rattle.std.proofs.Common.{◌≡◌, ◌<◌, ◌≤◌, ◌∙◌, List, ℕ, not, length, ap, sym, arith}
+use Rattle.con_alias.specs.Aliases.{Entry, AliasList, source_place}
+use Rattle.con_alias.proofs.Entries.{with-known, with-full, with-new, full-known, full-new}
 use Rattle.con_alias.proofs.program.ProgramAliases.add.Goals as goal
 
 pub returns-then-known-len-clause-list : goal.returns-then-known-len-clause-list

@@ -1,5 +1,4 @@
-use Rattle.std.proofs.Common.{◌≡◌, ap, sym, ◌∙◌, ℕ, List}
-use Rattle.con_screens.specs.Buffers.{Buffers}
+use Rattle.std.proofs.Common.{sym}
 use Rattle.con_host.proofs.Types.{on_ok}
 use Rattle.con_host.proofs.Heard.{heard_is}
 use Rattle.con_host.proofs.typing.TypistListener.hear.Goals as goal

@@ -1,7 +1,7 @@
-use Rattle.std.proofs.Common.{rules, arith, ◌≡◌, ◌+◌, ◌-◌, ◌≤◌, ◌<◌, length, take, drop, ap, sym, ◌∙◌, List, ℕ}
-use Rattle.std.proofs.lemmas.List.{length-drop, length-take}
+use Rattle.std.proofs.Common.{arith, ◌-◌, ◌≤◌, length, take, drop, ap, sym}
+use Rattle.std.proofs.lemmas.List.{length-take}
 use Rattle.con_screens.specs.Buffer.{BufferStage, written_on}
-use Rattle.con_screens.proofs.WriteLemmas.{WrittenSo, written_first, written_more, written_all, left_is}
+use Rattle.con_screens.proofs.WriteLemmas.{written_first, written_more, written_all, left_is}
 use Rattle.con_screens.proofs.buffer.Buffer.write.Goals as goal
 
 pub loop-at-init : goal.loop-at-init

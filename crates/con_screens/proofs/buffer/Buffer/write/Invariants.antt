@@ -1,6 +1,4 @@
-use Rattle.std.proofs.Common.{◌≡◌, ◌+◌, ◌-◌, ◌≤◌, length, take}
-use Rattle.con_screen.specs.Page.{IsPage}
-use Rattle.con_screens.specs.Buffer.{written_on, BufferStage}
+use Rattle.std.proofs.Common.{◌-◌, length}
 use Rattle.con_screens.proofs.WriteLemmas.{WrittenSo}
 use Rattle.con_screens.proofs.buffer.Buffer.write.Given as goal
 

@@ -1,8 +1,8 @@
-use Rattle.std.proofs.Common.{rules, arith, ◌≡◌, ◌∙◌, ap, sym, true, false, take, length, Bool}
+use Rattle.std.proofs.Common.{◌≡◌, ◌∙◌, ap, sym, true, false, take}
 use Rattle.con_screen.specs.Screen.{Screen}
 use Rattle.con_screen.specs.Told.{Told, Answered}
 use Rattle.con_screen.specs.Written.{written}
-use Rattle.con_screens.specs.Buffer.{BufferStage, turned}
+use Rattle.con_screens.specs.Buffer.{turned}
 use Rattle.con_screens.specs.declared.buffer.Buffer.{Buffer}
 use Rattle.con_screens.proofs.KeepLemmas.{keeps_shown}
 use Rattle.con_screens.proofs.WriteLemmas.{run_on, switch_one, staged}

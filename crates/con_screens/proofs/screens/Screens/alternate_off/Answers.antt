@@ -1,6 +1,6 @@
-use Rattle.std.proofs.Common.{rules, arith, ◌≡◌, sym, subst, ◌∙◌, ap, ℕ, ◌+◌, ◌-◌}
-use Rattle.con_screens.specs.Buffer.{alternate_on, alternate_off, buffer_written}
-use Rattle.con_screens.specs.Buffers.{Buffers, AreBuffers, IsLive, with_handles, handles_of}
+use Rattle.std.proofs.Common.{sym, subst, ◌-◌}
+use Rattle.con_screens.specs.Buffer.{alternate_off}
+use Rattle.con_screens.specs.Buffers.{Buffers, AreBuffers, IsLive}
 use Rattle.con_screens.specs.Views.{buffers_of}
 use Rattle.con_screens.proofs.KeepLemmas.{keeps_put}
 use Rattle.con_screens.proofs.screens.Screens.alternate_off.Goals as goal

@@ -1,8 +1,8 @@
-use Rattle.std.proofs.Common.{rules, arith, ◌≡◌, ◌<◌, length, Some, set, sym, subst, ◌∙◌, ap, ℕ, ◌+◌}
+use Rattle.std.proofs.Common.{rules, ◌≡◌, ◌<◌, length, Some, set, sym, subst, ◌∙◌, ap, ◌+◌}
 use Rattle.std.proofs.Common.{None}
 use Rattle.std.proofs.lemmas.List.{get_or-set_same}
 use Rattle.con_screens.specs.Buffer.{new_buffer}
-use Rattle.con_screens.specs.Buffers.{Buffers, AreBuffers, created}
+use Rattle.con_screens.specs.Buffers.{Buffers, AreBuffers}
 use Rattle.con_screens.specs.Views.{buffers_of}
 use Rattle.con_screens.specs.declared.buffer.Buffer.{Buffer}
 use Rattle.con_screens.proofs.KeepLemmas.{keeps_created}

@@ -1,6 +1,5 @@
-use Rattle.std.proofs.Common.{rules, arith, ◌≡◌, ◌<◌, ◌≤◌, ◌+◌, ◌++◌, ◌∷◌, [], List, Option, Some, None, length, replicate, refl, sym, ap, subst, ◌∙◌, ℕ, vec_len, vec_capacity, append-nil, append_assoc, length-append}
+use Rattle.std.proofs.Common.{arith, ◌≡◌, ◌+◌, ◌++◌, ◌∷◌, [], List, Option, Some, None, length, replicate, refl, sym, ap, subst, ◌∙◌, ℕ, append-nil, append_assoc}
 use Rattle.std.proofs.lemmas.Grind.{replicate_next}
-use Rattle.std.proofs.lemmas.List.{length-replicate}
 use Rattle.con_screens.specs.Buffer.{new_buffer}
 use Rattle.con_screens.specs.Buffers.{Buffers, AreBuffers, first_buffers}
 use Rattle.con_screens.specs.declared.buffer.Buffer.{Buffer}

@@ -1,6 +1,5 @@
-use Rattle.std.proofs.Common.{rules, arith, ◌≡◌, sym, subst, ◌∙◌, ap, ℕ, ◌+◌, ◌-◌}
-use Rattle.con_screens.specs.Buffer.{alternate_on, alternate_off, buffer_written}
-use Rattle.con_screens.specs.Buffers.{Buffers, AreBuffers, IsLive, with_handles, handles_of}
+use Rattle.std.proofs.Common.{◌≡◌, sym, subst, ap, ℕ, ◌-◌}
+use Rattle.con_screens.specs.Buffers.{Buffers, AreBuffers, IsLive, with_handles}
 use Rattle.con_screens.specs.Views.{buffers_of}
 use Rattle.std.proofs.Common.{cond, true, false}
 use Rattle.std.proofs.lemmas.Bool.{cond-true, cond-false, eq-eqb, ne_eqb}

@@ -1,5 +1,4 @@
-use Rattle.std.proofs.Common.{rules, ◌≡◌, ◌<◌, ◌≤◌, ℕ, List, Option, None, get_or, map, sym, subst, ap, ◌∙◌}
-use Rattle.std.specs.Option.{option_map}
+use Rattle.std.proofs.Common.{◌<◌, ◌≤◌, ℕ, List, Option, None, get_or, sym, subst}
 use Rattle.con_units.specs.declared.place.Size.{Size}
 use Rattle.con_screens.specs.Buffers.{Buffers, AreBuffers, buffer_at}
 use Rattle.con_screens.specs.Slot.{HasPages}

@@ -1,4 +1,4 @@
-use Rattle.std.proofs.Common.{rules, ◌≡◌, sym, subst, ◌∙◌, ap, Option, Some}
+use Rattle.std.proofs.Common.{◌≡◌, sym, subst, Option}
 use Rattle.std.specs.Prelude.{IfSome}
 use Rattle.con_screens.specs.Buffers.{Buffers, IsLive, buffer_at}
 use Rattle.con_screens.specs.View.{view_of}
