@@ -1,8 +1,7 @@
 -- A page in another size is within its bounds.
-use Rattle.std.proofs.Common.{◌≡◌, ℕ, ◌-◌, ◌<◌, ◌≤◌, ◌==◌, Bool, true, List, length, min, refl, arith, sym, ◌∙◌, ap}
+use Rattle.std.proofs.Common.{◌≡◌, ℕ, ◌<◌, ◌==◌, true, length, arith, sym, ◌∙◌, ap}
 use Rattle.std.proofs.lemmas.Bool.{cond_both}
 use Rattle.std.proofs.lemmas.Bool.Decides.{nat_tests}
-use Rattle.con_grid.specs.Picture.{Picture, IsPicture}
 use Rattle.con_screen.specs.Page.{Page, IsPage}
 use Rattle.con_screen.specs.Setters.{default_tabs}
 use Rattle.con_screen.specs.Fit.{Fit, IsFit, moved_in, within}

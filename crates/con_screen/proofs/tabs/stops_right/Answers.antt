@@ -1,4 +1,4 @@
-use Rattle.std.proofs.Common.{◌≤◌, length, arith}
+use Rattle.std.proofs.Common.{length, arith}
 use Rattle.con_screen.specs.Effect as now
 use Rattle.con_screen.proofs.TabLemmas.{stays_there}
 use Rattle.con_screen.proofs.tabs.stops_right.Goals as goal

@@ -1,4 +1,3 @@
-use Rattle.std.specs.Prelude.{Option, None}
 use Rattle.con_screen.proofs.WriteLemmas.{sequence_done, sequence_none, alone_done}
 use Rattle.con_screen.proofs.write.write_unit.Goals as goal
 

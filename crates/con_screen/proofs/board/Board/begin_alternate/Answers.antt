@@ -1,6 +1,5 @@
-use Rattle.std.proofs.Common.{rules, ◌≡◌, ◌*◌, replicate, List, ap, ap₂, sym, subst, ◌∙◌}
+use Rattle.std.proofs.Common.{◌≡◌, ◌*◌, replicate, List, ap, ap₂, sym, subst, ◌∙◌}
 use Rattle.con_units.specs.Glyph.{Glyph}
-use Rattle.con_grid.specs.Picture.{Picture}
 use Rattle.con_screen.specs.Page.{Page, IsPage, blank}
 use Rattle.con_screen.specs.PageView.{page_of}
 use Rattle.con_screen.specs.Setters.{default_tabs}

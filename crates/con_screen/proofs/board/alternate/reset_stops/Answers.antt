@@ -1,6 +1,6 @@
-use Rattle.std.proofs.Common.{rules, ◌≡◌, ℕ, ◌<◌, ◌≤◌, length, get_or, false, arith, sym, ap, ◌∙◌, subst}
+use Rattle.std.proofs.Common.{rules, ◌≡◌, length, arith, ap, ◌∙◌}
 use Rattle.con_screen.specs.Setters.{default_tabs}
-use Rattle.con_screen.proofs.AlternateLemmas.{is_stop, default_from}
+use Rattle.con_screen.proofs.AlternateLemmas.{default_from}
 use Rattle.con_screen.proofs.board.alternate.reset_stops.Goals as goal
 
 pub returns : goal.returns

@@ -1,4 +1,4 @@
-use Rattle.std.proofs.Common.{rules, ◌≡◌, ap, sym, ◌∙◌, take}
+use Rattle.std.proofs.Common.{ap, ◌∙◌, take}
 use Rattle.con_screen.specs.Alternate.{sides}
 use Rattle.con_screen.specs.Screen.{Screen}
 use Rattle.con_screen.specs.ScreenView.{screen_of}
