@@ -1,2 +1,4 @@
 pub mod Extremes
 pub mod EncodeLemmas
+pub mod MaskLemmas
+pub mod NearLemmas

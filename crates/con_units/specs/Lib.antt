@@ -1,13 +1,26 @@
-pub mod Code
-pub mod Stored
+-- ---- What a reader must believe: public contracts cite these.
+-- Attributes, shades and cells.
+pub mod Shade
 pub mod Attr
-pub mod Split
-pub mod Utf8
-pub mod Held
+pub mod Stored
 pub mod Glyph
-pub mod Laws
-pub mod Natural
+-- Rows, views, places and sizes.
+pub mod View
 pub mod Rect
+pub mod Natural
+pub mod Limits
+-- Texts.
+pub mod Units
+pub mod Plain
+pub mod Decimal
+pub mod Split
+pub mod Laws
+pub mod Utf8
+-- The numbers of refusals.
+pub mod Code
+-- ---- The code's own words, and laws that are proved.
+pub mod Held
 pub mod Past
+pub mod PenLaws
 pub mod SplitLaws
 pub mod ReadLaws

@@ -1,7 +1,8 @@
 //! Cells, and the units that they may hold.
-ghost use Rattle.std.specs.Prelude.{◌≡◌};
+ghost use Rattle.std.specs.Prelude.{◌≡◌, true};
+ghost use Rattle.con_units.specs.Plain.{is_plain};
 ghost use Rattle.con_units.specs.Stored.{stored_unit};
-ghost use Rattle.con_units.specs.Glyph.{cell_of};
+ghost use Rattle.con_units.specs.Glyph.{cell_of, plain_cell};
 
 use crate::attr::Attr;
 use std::marker::Model;
@@ -27,8 +28,8 @@ pub fn stored(unit: u16) -> u16
     }
 }
 
-/// A cell of a screen: a unit that it shows, and an attribute word.
-#[derive(Clone, Copy, Debug)]
+/// A cell of a screen: a unit that it shows, and an attribute.
+#[derive(Clone, Copy, Debug, PartialEq, Eq)]
 pub struct Cell {
     unit: u16,
     attr: Attr,
@@ -41,11 +42,11 @@ impl Model for Cell {
 
     ghost Value = { Glyph };
 
-    ghost view = { λ c. record { unit = c.unit; word = c.attr } };
+    ghost view = { λ c. record { unit = c.unit; attr = c.attr } };
 
     ghost invariant = { λ c. stored_unit c.unit ≡ c.unit };
 
-    ghost inverse = { λ c. record { unit = c.unit; attr = c.word } };
+    ghost inverse = { λ c. record { unit = c.unit; attr = c.attr } };
 }
 
 impl Cell {
@@ -59,6 +60,15 @@ impl Cell {
         }
     }
 
+    /// A cell that shows a unit of printable ASCII, which is stored as it is.
+    #[tactic(auto, unfolding(crate::specs::Stored::is_shown, unicode_width::specs::Width::char_width))]
+    pub fn of_plain(unit: u16, attr: Attr) -> Cell
+        requires { is_plain unit ≡ true }
+        ensures { result ≡ cell_of unit attr }
+    {
+        Cell { unit, attr }
+    }
+
     /// The unit that it shows.
     pub fn unit(self) -> u16
         ensures value { result ≡ self.unit }
@@ -67,10 +77,20 @@ impl Cell {
         self.unit
     }
 
-    /// Its attribute word.
+    /// Its attribute.
     pub fn attr(self) -> Attr
-        ensures { result ≡ self.word }
+        ensures { result ≡ self.attr }
     {
         self.attr
+    }
+
+    /// The same cell with plain shades, as a client reads it.
+    pub fn plain(self) -> Cell
+        ensures { result ≡ plain_cell self }
+    {
+        Cell {
+            unit: self.unit,
+            attr: self.attr.plain(),
+        }
     }
 }

@@ -20,6 +20,7 @@ pub mod code;
 pub mod lists;
 pub mod past;
 pub mod place;
+pub mod shade;
 #[cfg(test)]
 mod tests;
 pub mod utf8;
@@ -31,5 +32,6 @@ pub use code::{Code, OutOfMemory};
 pub use lists::{Bytes, Marks, Rows, Units};
 pub use past::Past;
 pub use place::{Coord, Rect, Size, clip, index_of};
+pub use shade::{Shade, is_near_by_parts, near};
 pub use utf8::{Decoded, Utf8, is_inverse_of_encoding, is_read_by_cases, is_read_however_cut};
 pub use view::{BufferId, Frame, FrameFault, Sight, View};

@@ -1,6 +1,19 @@
 use crate::*;
 use std::test::Fail;
 
+// The colours that stand for the indices 16 to 255: for each red of 0 to 5 and each green a line by blue, then the greys.
+const NEAREST: [u8; 240] = [
+    0, 0, 0, 1, 1, 9, 0, 0, 0, 1, 1, 9, 0, 0, 0, 1, 1, 9, 2, 2, 2, 3, 3, 11, 2, 2, 2, 3, 3, 11, 10,
+    10, 10, 11, 11, 11, 0, 0, 0, 1, 1, 9, 0, 0, 0, 1, 1, 9, 0, 0, 0, 1, 1, 9, 2, 2, 2, 3, 3, 11, 2,
+    2, 2, 3, 3, 11, 10, 10, 10, 11, 11, 11, 0, 0, 0, 1, 1, 9, 0, 0, 0, 1, 1, 9, 0, 0, 0, 1, 1, 9,
+    2, 2, 2, 3, 3, 11, 2, 2, 2, 3, 3, 11, 10, 10, 10, 11, 11, 11, 4, 4, 4, 5, 5, 13, 4, 4, 4, 5, 5,
+    13, 4, 4, 4, 5, 5, 13, 6, 6, 6, 7, 7, 15, 6, 6, 6, 7, 7, 15, 14, 14, 14, 15, 15, 15, 4, 4, 4,
+    5, 5, 13, 4, 4, 4, 5, 5, 13, 4, 4, 4, 5, 5, 13, 6, 6, 6, 7, 7, 15, 6, 6, 6, 7, 7, 15, 14, 14,
+    14, 15, 15, 15, 12, 12, 12, 13, 13, 13, 12, 12, 12, 13, 13, 13, 12, 12, 12, 13, 13, 13, 14, 14,
+    14, 15, 15, 15, 14, 14, 14, 15, 15, 15, 14, 14, 14, 15, 15, 15, 0, 0, 0, 0, 0, 0, 8, 8, 8, 8,
+    8, 8, 7, 7, 7, 7, 7, 7, 15, 15, 15, 15, 15, 15,
+];
+
 #[test]
 fn units_of_one_column_are_stored_as_they_are(rt: HostRuntime) {
     for (unit, shown) in [
@@ -128,4 +141,26 @@ fn a_list_in_proofs_alone_has_no_bytes(rt: HostRuntime) {
     past.push(7u16);
     assert_eq!(rt; size_of::<Past<u16>>(), 0);
     assert_eq!(rt; index_of(3), 3);
+}
+
+#[test]
+fn each_index_has_its_nearest_colour(rt: HostRuntime) -> Result<(), Fail> {
+    let mut found = Vec::new(rt.alloc());
+    for index in 16..=255 {
+        found.push(near(index))?;
+    }
+    assert_eq!(rt; found.as_slice(), NEAREST.as_slice());
+    is_near_by_parts();
+    Ok(())
+}
+
+#[tactic(auto, unfolding(crate::specs::Shade::near))]
+#[test]
+fn a_cell_keeps_its_shades_in_eight_bytes(rt: HostRuntime) {
+    let attr = Attr::shaded(0xC09C, Shade::Index(196), Shade::Index(21));
+    let cell = Cell::new(0x41, attr);
+    assert_eq!(rt; cell.attr().fore(), Shade::Index(196));
+    assert_eq!(rt; cell.attr().back(), Shade::of(21));
+    assert_eq!(rt; cell.plain(), Cell::new(0x41, Attr::of(0xC09C)));
+    assert_eq!(rt; size_of::<Cell>(), 8);
 }

@@ -1,10 +1,11 @@
 //! UTF-8, byte by byte.
-ghost use Rattle.std.specs.Prelude.{◌≡◌, ℕ, ◌+◌, ◌*◌, ◌<◌, ◌≤◌, ◌++◌, List, [], ◌∷◌, length, option_to_list};
+ghost use Rattle.std.specs.Prelude.{◌≡◌, ℕ, ◌+◌, ◌*◌, ◌<◌, ◌≤◌, ◌++◌, List, [], ◌∷◌, length, option_to_list, false, true, IfSome, IfNone};
 ghost use Rattle.std.specs.Char.{InScalarRange, IsScalar, encode_utf8};
 ghost use Rattle.con_units.specs.Split.{begun, next, split, split_after, with_items};
 ghost use Rattle.con_units.specs.Held.{held_bytes, IsHeld};
 ghost use Rattle.con_units.specs.Laws.{IsReadSo};
-ghost use Rattle.con_units.specs.Utf8.{utf8, may_follow, is_continuation};
+ghost use Rattle.con_units.specs.Utf8.{utf8, may_follow, is_continuation, is_cut_character, whole_character};
+ghost use Rattle.std.specs.Option.{option_map};
 
 use std::marker::Model;
 
@@ -93,6 +94,43 @@ fn begin(byte: u8) -> (Held, Option<char>)
     }
 }
 
+// What is held and a byte more, where they still are the front of a character.
+fn longer(held: Held, byte: u8) -> Option<Held>
+    requires held { IsHeld held }
+    requires begun { ¬ (held_bytes held ≡ []) }
+    ensures some { IfSome result (λ h. (held_bytes h ≡ held_bytes held ++ byte ∷ []) × IsHeld h × (is_cut_character (held_bytes held ++ byte ∷ []) ≡ true)) }
+    ensures none { IfNone result (is_cut_character (held_bytes held ++ byte ∷ []) ≡ false) }
+{
+    match held {
+        Held::One(a) if 0xE0 <= a && follows(a, byte) => Some(Held::Two(a, byte)),
+        Held::Two(a, b) if 0xF0 <= a && continues(byte) => Some(Held::Three(a, b, byte)),
+        _ => None,
+    }
+}
+
+// The character that a byte makes whole after what is held.
+fn completed(held: Held, byte: u8) -> Option<char>
+    requires held { IsHeld held }
+    requires begun { ¬ (held_bytes held ≡ []) }
+    ensures { whole_character (held_bytes held ++ byte ∷ []) ≡ option_map (λ c. c ∷ []) result }
+{
+    match held {
+        Held::One(a) if a < 0xE0 && continues(byte) => {
+            Some(character((a as u32 - 0xC0) * 64 + (byte as u32 - 0x80)))
+        }
+        Held::Two(a, b) if a < 0xF0 && continues(byte) => Some(character(
+            (a as u32 - 0xE0) * 4096 + (b as u32 - 0x80) * 64 + (byte as u32 - 0x80),
+        )),
+        Held::Three(a, b, c) if continues(byte) => Some(character(
+            (a as u32 - 0xF0) * 262144
+                + (b as u32 - 0x80) * 4096
+                + (c as u32 - 0x80) * 64
+                + (byte as u32 - 0x80),
+        )),
+        _ => None,
+    }
+}
+
 // What a byte gives after what is held.
 #[tactic(auto, unfolding(crate::specs::Split::next))]
 fn step(held: Held, byte: u8) -> (Held, Decoded)
@@ -101,66 +139,26 @@ fn step(held: Held, byte: u8) -> (Held, Decoded)
     ensures tail { held_bytes result.0 ≡ (next utf8 (held_bytes held) byte).tail }
     ensures held { IsHeld result.0 }
 {
-    let whole = match held {
-        Held::Nothing => {
-            let (held, first) = begin(byte);
-            return (
-                held,
-                Decoded {
-                    first,
-                    second: None,
-                },
-            );
+    if let Held::Nothing = held {
+        let (held, first) = begin(byte);
+        let second = None;
+        return (held, Decoded { first, second });
+    }
+    if let Some(held) = longer(held, byte) {
+        let first = None;
+        let second = None;
+        return (held, Decoded { first, second });
+    }
+    match completed(held, byte) {
+        Some(c) => {
+            let first = Some(c);
+            let second = None;
+            (Held::Nothing, Decoded { first, second })
         }
-        Held::One(a) if a < 0xE0 && continues(byte) => {
-            Some(character((a as u32 - 0xC0) * 64 + (byte as u32 - 0x80)))
-        }
-        Held::One(a) if 0xE0 <= a && follows(a, byte) => {
-            return (
-                Held::Two(a, byte),
-                Decoded {
-                    first: None,
-                    second: None,
-                },
-            );
-        }
-        Held::Two(a, b) if a < 0xF0 && continues(byte) => Some(character(
-            (a as u32 - 0xE0) * 4096 + (b as u32 - 0x80) * 64 + (byte as u32 - 0x80),
-        )),
-        Held::Two(a, b) if 0xF0 <= a && continues(byte) => {
-            return (
-                Held::Three(a, b, byte),
-                Decoded {
-                    first: None,
-                    second: None,
-                },
-            );
-        }
-        Held::Three(a, b, c) if continues(byte) => Some(character(
-            (a as u32 - 0xF0) * 262144
-                + (b as u32 - 0x80) * 4096
-                + (c as u32 - 0x80) * 64
-                + (byte as u32 - 0x80),
-        )),
-        _ => None,
-    };
-    match whole {
-        Some(c) => (
-            Held::Nothing,
-            Decoded {
-                first: Some(c),
-                second: None,
-            },
-        ),
         None => {
             let (held, second) = begin(byte);
-            (
-                held,
-                Decoded {
-                    first: Some('\u{FFFD}'),
-                    second,
-                },
-            )
+            let first = Some('\u{FFFD}');
+            (held, Decoded { first, second })
         }
     }
 }

@@ -1,0 +1,17 @@
+-- Texts of units, compared.
+use Rattle.std.specs.Prelude.{ℕ, Bool, List, [], ◌∷◌, nat_eq, if◌then◌else◌}
+use Rattle.std.specs.Cmp.Lexicographic.{pointwise}
+use Rattle.std.specs.List.{common_prefix_len}
+
+-- texts are compared exactly
+abbrev pub same_units : List ℕ → List ℕ → Bool
+same_units = pointwise nat_eq
+
+-- the first place at which two texts differ
+abbrev pub first_difference : List ℕ → List ℕ → ℕ
+first_difference = common_prefix_len nat_eq
+
+-- the first item that meets the test, changed
+abbrev pub changed_where : {A : Type 0} → (A → Bool) → (A → A) → List A → List A
+changed_where test f [] = []
+changed_where test f (x ∷ xs) = if test x then f x ∷ xs else x ∷ changed_where test f xs
