@@ -1,5 +1,5 @@
 -- What the outside gives and takes, where it tells, and how often it has failed.
-use Rattle.std.specs.Prelude.{ℕ, ◌<◌, ◌≤◌, ◌⊎◌, List, ◌++◌, Option, option_map}
+use Rattle.std.specs.Prelude.{ℕ, ◌≡◌, ◌<◌, ◌≤◌, ◌⊎◌, List, ◌++◌, length, take, Option, option_map}
 
 -- a count of failures rose, or stands at the greatest number that it can hold
 abbrev pub Rose : ℕ → ℕ → Type 0
@@ -12,3 +12,7 @@ then_left front left = option_map (λ rest. front ++ rest) left
 -- what was written, and then these bytes, where it is told
 abbrev pub then_written : Option (List ℕ) → List ℕ → Option (List ℕ)
 then_written written bytes = option_map (λ front. front ++ bytes) written
+
+-- what was written is a front of the bytes
+abbrev pub WroteFront : List ℕ → Option (List ℕ) → Option (List ℕ) → Type 0
+WroteFront bytes before now = (n : ℕ) × (n ≤ length bytes) × (now ≡ then_written before (take n bytes))
