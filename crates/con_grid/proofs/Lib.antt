@@ -1,5 +1,6 @@
 pub mod FillLemmas
-pub mod MarksLemmas
+pub mod StampLemmas
 pub mod ResizedLemmas
 pub mod RingLemmas
 pub mod PlainLemmas
+pub mod PartLemmas

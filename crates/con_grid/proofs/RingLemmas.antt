@@ -2,9 +2,10 @@
 use Rattle.std.proofs.Common.{◌≡◌, ℕ, ◌+◌, ◌-◌, ◌<◌, ◌≤◌, List, None, [], ◌∷◌, ◌++◌, length, take, drop, replicate, get_or, set, refl, sym, ap, ◌∙◌, append_assoc, arith}
 use Rattle.std.proofs.lemmas.List.{same_lists, places, take-append-drop, length-replicate, length-map, take_more_set, drop-set-lt}
 use Rattle.std.proofs.lemmas.Grind.{common_steps}
+use Rattle.con_units.specs.Attr.{Attribute}
 use Rattle.con_units.specs.Glyph.{Glyph, cell_of as glyph_of}
 use Rattle.con_grid.specs.Picture.{Picture, written_over, part_of, lifted, lowered, filled, part_lifted, part_lowered, units_put, glyphs_of}
-use Rattle.con_grid.proofs.MarksLemmas.{length-lifted, length-lowered}
+use Rattle.con_grid.proofs.StampLemmas.{length-lifted, length-lowered}
 use Rattle.con_grid.specs.Ring.{turned, IsSpot, IsIndex}
 
 pub length-turned : (s : List Glyph) (t : ℕ) → length (turned s t) ≡ length s
@@ -124,7 +125,7 @@ fill_spot s r t from upto at c spot same =
     let e : at + (upto - from) - at ≡ upto - from = omega arith in
     rw (e, ← same) (spot.over (replicate (upto - from) c) (length-replicate (upto - from) c))
 
-pub units_spot : (s r : List Glyph) (t from at : ℕ) (us : List ℕ) (w : ℕ) → IsSpot s t from (from + length us) at → turned s t ≡ r → turned (units_put s at us w) t ≡ units_put r from us w
+pub units_spot : (s r : List Glyph) (t from at : ℕ) (us : List ℕ) (w : Attribute) → IsSpot s t from (from + length us) at → turned s t ≡ r → turned (units_put s at us w) t ≡ units_put r from us w
 unfolding units_put
 units_spot s r t from at us w spot same =
     let e : from + length us - from ≡ length us = omega arith in
@@ -167,5 +168,5 @@ part_all xs r from upto by c order inside all is =
 pub with_same : (q p : Picture) (xs ys : List Glyph) → q ≡ record p { cells = xs } → xs ≡ ys → q ≡ record p { cells = ys }
 with_same q p xs ys e same = e ∙ rw same refl
 
-pub made_same : (q : Picture) (w h : ℕ) (xs ys : List Glyph) → q ≡ record { width = w; height = h; cells = xs; clean = None } → xs ≡ ys → q ≡ record { width = w; height = h; cells = ys; clean = None }
-made_same q w h xs ys e same = e ∙ rw same refl
+pub made_same : (q : Picture) (w h m n : ℕ) (xs ys : List Glyph) → q ≡ record { width = w; height = h; cells = xs; now = m; moment = None } → m ≡ n → xs ≡ ys → q ≡ record { width = w; height = h; cells = ys; now = n; moment = None }
+made_same q w h m n xs ys e number same = e ∙ rw (number, same) refl

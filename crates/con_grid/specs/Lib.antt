@@ -1,5 +1,10 @@
+-- ---- What a reader must believe: public contracts cite these.
+-- A grid, and what changes it.
 pub mod Picture
-pub mod Marks
-pub mod Run
+-- The stamps of rows.
+pub mod Stamps
+-- A part of a row that is as it was.
+pub mod Parts
+-- ---- The code's own words.
+pub mod Inside
 pub mod Ring
-pub mod Plain

@@ -1,28 +1,31 @@
 -- A grid of cells as contracts see it, and what changes it.
 use Rattle.std.specs.Prelude.{ℕ, ℤ, pos, negsuc, ◌≡◌, ◌+◌, ◌-◌, ◌*◌, ◌/◌, ◌%◌, ◌<◌, ◌≤◌, ◌≤ℤ◌, nat_lt, List, ◌++◌, length, take, drop, map, replicate, min, slice_index_or, if◌then◌else◌, Option, None, Some}
 use Rattle.std.specs.List.{range_with_len}
+use Rattle.con_units.specs.Attr.{Attribute}
 use Rattle.con_units.specs.Glyph.{Glyph, cell_of as glyph_of}
+use Rattle.con_units.specs.View.{row_of}
 use Rattle.con_units.specs.Natural.{natural}
 use Rattle.con_units.specs.declared.place.Coord.{Coord}
 
--- The cells row by row, and those that stood there when the marks were last cleared; None where they never were.
+-- The cells row by row, the number, and the cells at the moment when it was last raised; None where it never was.
 pub record Picture : Type 0 where
   pub width : ℕ
   pub height : ℕ
   pub cells : List Glyph
-  pub clean : Option (List Glyph)
-
--- the cells of one row
-abbrev pub row_of : ℕ → List Glyph → ℕ → List Glyph
-row_of width cells y = take width (drop (y * width) cells)
+  pub now : ℕ
+  pub moment : Option (List Glyph)
 
 abbrev pub IsRowOf : Option (List Glyph) → ℕ → List Glyph → ℕ → Type 0
 IsRowOf None width cells y = ⊥
 IsRowOf (Some before) width cells y = row_of width cells y ≡ row_of width before y
 
--- the row is what it was when the marks were last cleared
+-- the row is what it was when the number was last raised
 abbrev pub IsUntouched : Picture → ℕ → Type 0
-IsUntouched p y = IsRowOf p.clean p.width p.cells y
+IsUntouched p y = IsRowOf p.moment p.width p.cells y
+
+-- the number becomes n; where it is raised, the moment is now
+abbrev pub raised : Picture → ℕ → Picture
+raised p n = if nat_lt p.now n then record p { now = n; moment = Some p.cells } else p
 
 -- the place is one of the picture's
 pub record IsInside (p : Picture) (at : Coord) : Type 0 where
@@ -74,13 +77,13 @@ part_lowered cells from upto n fill = written_over cells from upto (lowered (par
 abbrev pub cell_of : List Glyph → ℕ → ℕ → ℕ → Glyph → Glyph
 cell_of cells width x y blank = if nat_lt x width then slice_index_or cells (y * width + x) blank else blank
 
--- the cells that show the units in a word
-abbrev pub glyphs_of : List ℕ → ℕ → List Glyph
-glyphs_of units word = map (λ u. glyph_of u word) units
+-- the cells that show the units in an attribute
+abbrev pub glyphs_of : List ℕ → Attribute → List Glyph
+glyphs_of units attr = map (λ u. glyph_of u attr) units
 
--- the cells from one place on show the units in a word
-unfoldable pub units_put : List Glyph → ℕ → List ℕ → ℕ → List Glyph
-units_put cells at units word = written_over cells at (at + length units) (glyphs_of units word)
+-- the cells from one place on show the units in an attribute
+unfoldable pub units_put : List Glyph → ℕ → List ℕ → Attribute → List Glyph
+units_put cells at units attr = written_over cells at (at + length units) (glyphs_of units attr)
 
 -- the rows from one up to another are lowered by a number of rows, or lifted where it is negative; what leaves them is
 -- gone, and what is freed becomes `fill`
@@ -93,6 +96,6 @@ rows_shifted p first end (negsuc n) fill = record p { cells = part_lifted p.cell
 unfoldable pub resized_cells : List Glyph → ℕ → ℕ → ℕ → ℕ → Glyph → List Glyph
 resized_cells cells width w h lost fill = map (λ k. cell_of cells width (k % w) (k / w + lost) fill) (range_with_len 0 (w * h))
 
--- a picture of another size, of which no row is known to be what it was
+-- a picture of another size with the same number, of which no row is known to be what it was
 abbrev pub resized : Picture → ℕ → ℕ → ℕ → Glyph → Picture
-resized p w h lost fill = record { width = w; height = h; cells = resized_cells p.cells p.width w h lost fill; clean = None }
+resized p w h lost fill = record { width = w; height = h; cells = resized_cells p.cells p.width w h lost fill; now = p.now; moment = None }

@@ -1,31 +1,34 @@
 //! The grid.
 ghost use Rattle.std.specs.Prelude.{◌≡◌, ℕ, ◌+◌, ◌-◌, ◌*◌, ◌<◌, ◌≤◌, ◌^◌, Some, None, slice_set, slice_get, length, replicate, true, false, IfOk};
-ghost use Rattle.con_grid.specs.Picture.{IsInside, IsPicture, IsUntouched, place, filled, part_lifted, part_lowered, lifted, rows_shifted, units_put, resized, cell_of};
-ghost use Rattle.con_grid.specs.Plain.{is_plain};
+ghost use Rattle.con_grid.specs.Picture.{IsInside, IsPicture, IsUntouched, place, filled, part_lifted, part_lowered, lifted, raised, rows_shifted, units_put, resized, cell_of};
+ghost use Rattle.con_grid.specs.Parts.{PartsFollowRows};
+ghost use Rattle.con_units.specs.Plain.{is_plain};
 ghost use Rattle.std.specs.List.{list_all};
 
 use crate::parts;
 use crate::ring::Ring;
+use crate::stamps::Stamps;
 use con_units::{Attr, Cell, Coord, OutOfMemory, Size, index_of};
 use std::alloc::Global;
 use std::marker::Model;
 use std::snapshot::Snapshot;
 
-// The cells when the marks were last cleared, in proofs alone.
+// The cells when the number was last raised, in proofs alone.
 #[derive(Drop)]
-enum Clean {
+enum Moment {
     Never,
     At(Snapshot<Ring>),
 }
 
-/// A grid of cells. A row that differs from what it was when the marks were last cleared is marked.
+/// A grid of cells with a number, and a stamp for each row. A row that is not stamped with the number is what it was when
+/// the number was last raised.
 #[derive(Drop)]
 pub struct Grid {
     width: usize,
     height: usize,
     cells: Ring,
-    marks: Vec<bool>,
-    clean: Snapshot<Clean>,
+    stamps: Stamps,
+    moment: Snapshot<Moment>,
 }
 
 impl Model for Grid {
@@ -33,7 +36,7 @@ impl Model for Grid {
 
     ghost Value = { Picture };
 
-    ghost use Rattle.con_grid.specs.Marks.{picture_of, IsGrid};
+    ghost use Rattle.con_grid.specs.Inside.{picture_of, IsGrid};
 
     ghost view = { picture_of };
 
@@ -78,22 +81,32 @@ impl Grid {
         self.cells.get(index_of(at.y) * self.width + index_of(at.x))
     }
 
-    /// Whether a row is marked.
-    pub fn marked(&self, row: u16) -> bool
-        requires { row < self.now.height }
-        ensures { result ≡ false → IsUntouched self.now row }
+    /// Its number, 0 at first.
+    pub fn now(&self) -> u64
+        ensures { result ≡ self.now.now }
     {
-        self.marks[row as usize]
+        self.stamps.now()
     }
 
-    /// Clears the marks.
-    pub fn clear_marks(&mut self)
-        ensures grid { self.new ≡ record self.old { clean = Some self.old.cells } }
+    /// A row's stamp, at most the number. Where it is less, the row is what it was when the number was last raised.
+    pub fn stamp(&self, row: u16) -> u64
+        requires { row < self.now.height }
+        ensures bound { result ≤ self.now.now }
+        ensures untouched { result < self.now.now → IsUntouched self.now row }
+    {
+        self.stamps.at(row as usize)
+    }
+
+    /// Raises the number, or leaves it. No cell and no stamp changes.
+    pub fn set_now(&mut self, number: u64)
+        requires { self.old.now ≤ number }
+        ensures grid { self.new ≡ raised self.old number }
         ensures picture { IsPicture self.new }
     {
-        let height = self.height;
-        parts::mark(&mut self.marks, 0, height, false);
-        self.clean = Snapshot::of(&Clean::At(Snapshot::of(&self.cells)));
+        if self.stamps.now() < number {
+            self.moment = Snapshot::of(&Moment::At(Snapshot::of(&self.cells)));
+        }
+        self.stamps.set_now(number);
     }
 
     /// Writes a cell over the cells from one place up to another.
@@ -105,7 +118,7 @@ impl Grid {
     {
         let width = self.width;
         self.cells.fill(from, upto, cell);
-        parts::mark_run(&mut self.marks, width, from, upto);
+        self.stamps.stamp_run(width, from, upto);
     }
 
     /// Lifts the cells from one place up to another.
@@ -117,7 +130,7 @@ impl Grid {
     {
         let width = self.width;
         self.cells.lift_part(from, upto, by, cell);
-        parts::mark_run(&mut self.marks, width, from, upto);
+        self.stamps.stamp_run(width, from, upto);
     }
 
     /// Lowers the cells from one place up to another.
@@ -129,7 +142,7 @@ impl Grid {
     {
         let width = self.width;
         self.cells.lower_part(from, upto, by, cell);
-        parts::mark_run(&mut self.marks, width, from, upto);
+        self.stamps.stamp_run(width, from, upto);
     }
 
     /// Writes a cell at a place in the list of cells.
@@ -140,10 +153,10 @@ impl Grid {
     {
         let y = at / self.width;
         self.cells.put(at, cell);
-        self.marks[y] = true;
+        self.stamps.stamp_row(y);
     }
 
-    /// Writes the cells that show the units in a word, from a place in the list of cells on.
+    /// Writes the cells that show the units in an attribute, from a place in the list of cells on.
     pub fn put_units(&mut self, at: usize, units: &[u16], attr: Attr)
         requires { at + length units.now ≤ length self.old.cells }
         ensures grid { self.new ≡ record self.old { cells = units_put self.old.cells at units.now attr } }
@@ -151,10 +164,10 @@ impl Grid {
     {
         let width = self.width;
         self.cells.put_units(at, units, attr);
-        parts::mark_run(&mut self.marks, width, at, at + units.len());
+        self.stamps.stamp_run(width, at, at + units.len());
     }
 
-    /// Writes the cells that show units of printable ASCII in a word, from a place in the list of cells on.
+    /// Writes the cells that show units of printable ASCII in an attribute, from a place in the list of cells on.
     pub fn put_plain(&mut self, at: usize, units: &[u16], attr: Attr)
         requires inside { at + length units.now ≤ length self.old.cells }
         requires plain { list_all is_plain units.now ≡ true }
@@ -163,7 +176,7 @@ impl Grid {
     {
         let width = self.width;
         self.cells.put_plain(at, units, attr);
-        parts::mark_run(&mut self.marks, width, at, at + units.len());
+        self.stamps.stamp_run(width, at, at + units.len());
     }
 
     /// Where a cell stands in the list of cells.
@@ -226,41 +239,38 @@ impl Grid {
         }
     }
 
-    /// A grid of one cell, each row of which is marked.
+    /// A grid of one cell, with the number 0, and each row of which is stamped 0.
     pub fn new(alloc: Global, size: Size, cell: Cell) -> Result<Grid, OutOfMemory>
         requires some { (0 < size.w) × (0 < size.h) }
         requires few { (size.w ≤ 512) × (size.h ≤ 2048) }
-        ensures grid { IfOk result (λ g. g ≡ record { width = size.w; height = size.h; cells = replicate (size.w * size.h) cell; clean = None }) }
+        ensures grid { IfOk result (λ g. g ≡ record { width = size.w; height = size.h; cells = replicate (size.w * size.h) cell; now = 0; moment = None }) }
         ensures picture { IfOk result (λ g. IsPicture g) }
     {
         let cells = Ring::new(alloc, size.w as usize * size.h as usize, cell)?;
-        Grid::of(alloc, size, cells)
+        Grid::of(alloc, size, cells, 0)
     }
 
-    // A grid of these cells, each row of which is marked.
-    fn of(alloc: Global, size: Size, cells: Ring) -> Result<Grid, OutOfMemory>
+    // A grid of these cells, each row of which is stamped with its number.
+    fn of(alloc: Global, size: Size, cells: Ring, number: u64) -> Result<Grid, OutOfMemory>
         requires some { (0 < size.w) × (0 < size.h) }
         requires few { (size.w ≤ 512) × (size.h ≤ 2048) }
         requires cells { length cells ≡ size.w * size.h }
-        ensures grid { IfOk result (λ g. g ≡ record { width = size.w; height = size.h; cells = cells; clean = None }) }
+        ensures grid { IfOk result (λ g. g ≡ record { width = size.w; height = size.h; cells = cells; now = number; moment = None }) }
         ensures picture { IfOk result (λ g. IsPicture g) }
     {
         let width = size.w as usize;
         let height = size.h as usize;
-        let mut marks = Vec::new(alloc);
-        if marks.resize(height, true).is_err() {
-            return Err(OutOfMemory);
-        }
+        let stamps = Stamps::new(alloc, height, number)?;
         Ok(Grid {
             width,
             height,
             cells,
-            marks,
-            clean: Snapshot::of(&Clean::Never),
+            stamps,
+            moment: Snapshot::of(&Moment::Never),
         })
     }
 
-    /// A grid of another size, each row of which is marked. Its row y is this grid's row y + `lost`, cut or filled with
+    /// A grid of another size, each row of which is stamped with this grid's number. Its row y is this grid's row y + `lost`, cut or filled with
     /// `cell` on the right; where there is no such row, it is of `cell`.
     pub fn resized(&self, size: Size, lost: u16, cell: Cell) -> Result<Grid, OutOfMemory>
         requires some { (0 < size.w) × (0 < size.h) }
@@ -281,7 +291,13 @@ impl Grid {
             lost as usize,
             cell,
         );
-        let grid = Grid::of(alloc, size, Ring::of(block))?;
+        let number = self.stamps.now();
+        let grid = Grid::of(alloc, size, Ring::of(block), number)?;
         Ok(grid)
     }
 }
+
+/// Where a row is what it was when the number was last raised, each part of it is.
+pub fn is_untouched_in_parts()
+    ensures { PartsFollowRows }
+{}

@@ -1,8 +1,7 @@
-//! Changes of cells that lie in a row, and of marks.
-ghost use Rattle.std.specs.Prelude.{◌≡◌, ℕ, ◌+◌, ◌-◌, ◌*◌, ◌<◌, ◌≤◌, ◌++◌, ◌^◌, length, take, drop, replicate, true, slice_index_or, IfOk};
+//! Changes of cells that lie in a row.
+ghost use Rattle.std.specs.Prelude.{◌≡◌, ℕ, ◌+◌, ◌-◌, ◌*◌, ◌<◌, ◌≤◌, ◌++◌, ◌^◌, length, take, drop, replicate, true, IfOk};
 ghost use Rattle.con_grid.specs.Picture.{filled, lifted, lowered, part_lifted, part_lowered, glyphs_of, units_put, resized_cells};
-ghost use Rattle.con_grid.specs.Run.{CoversRun};
-ghost use Rattle.con_grid.specs.Plain.{is_plain};
+ghost use Rattle.con_units.specs.Plain.{is_plain};
 ghost use Rattle.std.specs.List.{list_all};
 
 use crate::ring::Ring;
@@ -30,44 +29,6 @@ pub fn fill(cells: &mut [Cell], from: usize, upto: usize, cell: Cell)
     for at in from..upto {
         cells[at] = cell;
     }
-}
-
-/// Sets the marks of the rows from one up to another.
-pub fn mark(marks: &mut [bool], from: usize, upto: usize, on: bool)
-    requires order { from ≤ upto }
-    requires inside { upto ≤ length marks.old }
-    ensures { marks.new ≡ take from marks.old ++ (replicate (upto - from) on ++ drop upto marks.old) }
-{
-    for at in from..upto {
-        marks[at] = on;
-    }
-}
-
-// Marks a row.
-fn mark_one(marks: &mut [bool], row: usize)
-    requires { row < length marks.old }
-    ensures { marks.new ≡ take row marks.old ++ (replicate (row + 1 - row) true ++ drop (row + 1) marks.old) }
-{
-    marks[row] = true;
-}
-
-/// Marks the rows of the cells from one place up to another.
-pub fn mark_run(marks: &mut [bool], width: usize, from: usize, upto: usize)
-    requires wide { 0 < width }
-    requires order { from ≤ upto }
-    requires inside { upto ≤ width * length marks.old }
-    ensures { CoversRun marks.old marks.new width from upto }
-{
-    if from == upto {
-        return;
-    }
-    let first = from / width;
-    let last = (upto - 1) / width;
-    if first == last {
-        mark_one(marks, first);
-        return;
-    }
-    mark(marks, first, last + 1, true);
 }
 
 /// Lifts all cells.
@@ -112,7 +73,7 @@ pub fn lower_part(cells: &mut [Cell], from: usize, upto: usize, by: usize, cell:
     lower(&mut cells[from..upto], by, cell);
 }
 
-/// Makes the cells those that show the units in a word.
+/// Makes the cells those that show the units in an attribute.
 pub fn show(row: &mut [Cell], units: &[u16], attr: Attr)
     requires { length row.old ≡ length units.now }
     ensures { row.new ≡ glyphs_of units.now attr }
@@ -122,7 +83,7 @@ pub fn show(row: &mut [Cell], units: &[u16], attr: Attr)
     }
 }
 
-/// Writes the cells that show the units in a word, from one place on.
+/// Writes the cells that show the units in an attribute, from one place on.
 #[tactic(auto, unfolding(crate::specs::Picture::units_put))]
 pub fn put_units(cells: &mut [Cell], at: usize, units: &[u16], attr: Attr)
     requires { at + length units.now ≤ length cells.old }
@@ -131,26 +92,18 @@ pub fn put_units(cells: &mut [Cell], at: usize, units: &[u16], attr: Attr)
     show(&mut cells[at..at + units.len()], units, attr);
 }
 
-// The unit itself. Where a cell of it is made, the compiler sees that it is stored as it is.
-fn bounded(unit: u16) -> u16
-    requires { is_plain unit ≡ true }
-    ensures { result ≡ unit }
-{
-    unit.max(0x20).min(0x7E)
-}
-
-/// Makes the cells those that show units of printable ASCII in a word, many at a time.
+/// Makes the cells those that show units of printable ASCII in an attribute, many at a time.
 pub fn show_plain(row: &mut [Cell], units: &[u16], attr: Attr)
     requires same { length row.old ≡ length units.now }
     requires plain { list_all is_plain units.now ≡ true }
     ensures { row.new ≡ glyphs_of units.now attr }
 {
     for (k, unit) in units.iter().enumerate() {
-        row[k] = Cell::new(bounded(*unit), attr);
+        row[k] = Cell::of_plain(*unit, attr);
     }
 }
 
-/// Writes the cells that show units of printable ASCII in a word, from one place on.
+/// Writes the cells that show units of printable ASCII in an attribute, from one place on.
 #[tactic(auto, unfolding(crate::specs::Picture::units_put))]
 pub fn put_plain(cells: &mut [Cell], at: usize, units: &[u16], attr: Attr)
     requires inside { at + length units.now ≤ length cells.old }

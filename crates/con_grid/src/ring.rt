@@ -3,7 +3,7 @@ ghost use Rattle.std.specs.Prelude.{◌≡◌, ◌+◌, ◌*◌, ◌<◌, ◌≤
 ghost use Rattle.con_units.specs.Glyph.{Glyph};
 ghost use Rattle.con_grid.specs.Picture.{filled, units_put, lifted, part_lifted, part_lowered};
 ghost use Rattle.con_grid.specs.Ring.{turned, IsSpot, IsIndex};
-ghost use Rattle.con_grid.specs.Plain.{is_plain};
+ghost use Rattle.con_units.specs.Plain.{is_plain};
 ghost use Rattle.std.specs.List.{list_all};
 
 use crate::parts;
@@ -129,7 +129,7 @@ impl Ring {
         parts::fill(&mut self.block, at, at + (upto - from), cell);
     }
 
-    /// Writes the cells that show the units in a word, from one place on.
+    /// Writes the cells that show the units in an attribute, from one place on.
     pub fn put_units(&mut self, at: usize, units: &[u16], attr: Attr)
         requires { at + length units.now ≤ length self.old }
         ensures { self.new ≡ units_put self.old at units.now attr }
@@ -138,7 +138,7 @@ impl Ring {
         parts::put_units(&mut self.block, from, units, attr);
     }
 
-    /// Writes the cells that show units of printable ASCII in a word, from one place on.
+    /// Writes the cells that show units of printable ASCII in an attribute, from one place on.
     pub fn put_plain(&mut self, at: usize, units: &[u16], attr: Attr)
         requires inside { at + length units.now ≤ length self.old }
         requires plain { list_all is_plain units.now ≡ true }

@@ -1,29 +1,38 @@
 -- Reading rows.
 use Rattle.std.proofs.Common.{◌≡◌, ℕ, suc, zero, ◌+◌, ◌-◌, ◌*◌, ◌<◌, ◌≤◌, inl, inr, nat_lt, false, Some, List, [], ◌∷◌, ◌++◌, length, take, drop, get_or, slice_get, refl, sym, ap, ◌∙◌, arith, append_assoc, length-append, length-drop, append-nil}
-use Rattle.std.proofs.lemmas.List.{take_more, get_or-drop, length-take, length-take-le}
-use Rattle.std.proofs.lemmas.Option.{get_or_from_slice_get}
+use Rattle.std.proofs.lemmas.List.{take_more, get_or-drop, length-take, length-take-le, length-map}
+use Rattle.std.specs.Option.{option_map}
+use Rattle.std.proofs.lemmas.Option.{get_or_from_slice_get, slice_get-map}
 use Rattle.std.proofs.lemmas.Nat.{mul-add-lt}
 use Rattle.std.proofs.Math.Nat.{mul-le-mul_right}
-use Rattle.con_units.specs.Glyph.{Glyph}
+use Rattle.con_units.specs.Glyph.{Glyph, plain_cell}
+use Rattle.con_units.specs.View.{row_part}
 use Rattle.con_grid.specs.Picture.{Picture, IsPicture}
 use Rattle.std.proofs.lemmas.Bool.{and_cases, ltb-false}
 use Rattle.con_units.specs.declared.place.Rect.{Rect}
 use Rattle.con_rects.specs.Area.{area_in, has_cells}
-use Rattle.con_rects.specs.Rules.{blank, row_part, rows_part, area_cells, rect_cells}
+use Rattle.con_rects.specs.Rules.{blank, rows_part, area_cells, rect_cells, as_read}
 use Rattle.con_rects.specs.declared.area.Area.{Area}
+
+-- a grid as it is read has its size
+pub read_picture : (p : Picture) → IsPicture p → IsPicture (as_read p)
+read_picture p ok = record { wide = ok.wide; tall = ok.tall; at_most_wide = ok.at_most_wide; at_most_tall = ok.at_most_tall; cells = length-map p.cells plain_cell ∙ ok.cells }
+
+pub read_at : (p : Picture) (at : ℕ) (was : Glyph) → slice_get p.cells at ≡ Some was → slice_get (as_read p).cells at ≡ Some (plain_cell was)
+read_at p at was h = slice_get-map plain_cell p.cells at ∙ ap (option_map plain_cell) h
 
 -- a row's cells are in the list of cells
 row_inside : (p : Picture) (y : ℕ) → IsPicture p → y < p.height → y * p.width + p.width ≤ length p.cells
 row_inside p y ok h = let le : y + 1 ≤ p.height = omega arith in omega (arith, mul-le-mul_right p.width le, ok.cells)
 
-length-row_part : (p : Picture) (left right y : ℕ) → IsPicture p → left ≤ right → right ≤ p.width → y < p.height → length (row_part p left right y) ≡ right - left
+length-row_part : (p : Picture) (left right y : ℕ) → IsPicture p → left ≤ right → right ≤ p.width → y < p.height → length (row_part p.width p.cells left (right - left) y) ≡ right - left
 length-row_part p left right y ok order wide tall =
     length-take-le (right - left) (drop (y * p.width + left) p.cells) (rw (length-drop (y * p.width + left) p.cells) (omega (arith, row_inside p y ok tall)))
 
 pub length-rows_part : (p : Picture) (left right y n : ℕ) → IsPicture p → left ≤ right → right ≤ p.width → y + n ≤ p.height → length (rows_part p left right y n) ≡ n * (right - left)
 length-rows_part p left right y zero ok order wide tall = omega arith
 length-rows_part p left right y (suc n) ok order wide tall =
-    length-append (rows_part p left right y n) (row_part p left right (y + n))
+    length-append (rows_part p left right y n) (row_part p.width p.cells left (right - left) (y + n))
     ∙ omega (arith, length-rows_part p left right y n ok order wide (omega arith), length-row_part p left right (y + n) ok order wide (omega arith))
 
 -- what a loop over the rows of an area and their columns has read
@@ -49,7 +58,7 @@ pub read_next : (p : Picture) (left right top y : ℕ) → top ≤ y → read_so
 read_next p left right top y low =
     let next : y + 1 - top ≡ suc (y - top) = omega arith in
     let here : top + (y - top) ≡ y = omega arith in
-    rw next (ap (λ k. rows_part p left right top (y - top) ++ row_part p left right k) (sym here))
+    rw next (ap (λ k. rows_part p left right top (y - top) ++ row_part p.width p.cells left (right - left) k) (sym here))
 
 -- the capacity suffices for one more
 pub read_room : (p : Picture) (left right top bottom x y : ℕ) → IsPicture p → left ≤ x → x < right → right ≤ p.width → top ≤ y → y < bottom → bottom ≤ p.height → length (read_so p left right top x y) < (right - left) * (bottom - top)
@@ -66,7 +75,7 @@ no_columns : (p : Picture) (left right y n : ℕ) → right ≤ left → rows_pa
 no_columns p left right y zero h = refl
 no_columns p left right y (suc n) h =
     let none : right - left ≡ 0 = omega arith in
-    ap (λ (c : List Glyph). c ++ row_part p left right (y + n)) (no_columns p left right y n h) ∙ ap (λ k. take k (drop ((y + n) * p.width + left) p.cells)) none
+    ap (λ (c : List Glyph). c ++ row_part p.width p.cells left (right - left) (y + n)) (no_columns p left right y n h) ∙ ap (λ k. take k (drop ((y + n) * p.width + left) p.cells)) none
 
 pub no_cells : (p : Picture) (a : Area) → has_cells a ≡ false → area_cells p a ≡ []
 no_cells p a none = elim (and_cases (nat_lt a.left a.right) (nat_lt a.top a.bottom) none) [
@@ -76,6 +85,6 @@ no_cells p a none = elim (and_cases (nat_lt a.left a.right) (nat_lt a.top a.bott
       ap (λ n. rows_part p a.left a.right a.top n) no
 ]
 
-pub rect_cells_is : (p : Picture) (r : Rect) → area_cells p (area_in r p.width p.height) ≡ rect_cells p r
+pub rect_cells_is : (p : Picture) (r : Rect) → area_cells (as_read p) (area_in r p.width p.height) ≡ rect_cells p r
 unfolding rect_cells
 rect_cells_is p r = refl

@@ -9,6 +9,7 @@ use Rattle.con_units.specs.Natural.{natural}
 use Rattle.con_units.specs.declared.place.Rect.{Rect}
 use Rattle.con_grid.specs.Picture.{Picture, IsPicture}
 use Rattle.con_rects.specs.Area.{area_in, has_cells, covers, is_within, wide, tall, cell_count}
+use Rattle.con_units.specs.Glyph.{plain_cell}
 use Rattle.con_rects.specs.Rules.{blank, rect_rule, rect_written, redrawn}
 use Rattle.con_rects.specs.declared.area.Area.{Area}
 use Rattle.con_rects.proofs.AreaLemmas.{IsWithin, within_sides, within_from, covers_is, area_only}
@@ -47,7 +48,7 @@ rect_only p r a cells some a_is = λ j inside out'.
 
 -- inside it a cell becomes the given one
 pub rect_cell : (p : Picture) (r : Rect) (cells : List Glyph) (x y : ℕ) → x < p.width → y < p.height → IsWithin (area_in r p.width p.height) x y
-    → get_or cells (natural (pos y -ℤ r.top) * wide r + natural (pos x -ℤ r.left)) blank ≡ flat p (rect_rule p r cells) (y * p.width + x)
+    → plain_cell (get_or cells (natural (pos y -ℤ r.top) * wide r + natural (pos x -ℤ r.left)) blank) ≡ flat p (rect_rule p r cells) (y * p.width + x)
 rect_cell p r cells x y x_in y_in i =
     sym (flat_at p (rect_rule p r cells) x y x_in ∙ cond-true (covers r (pos x) (pos y)) _ _ (covers_is r p.width p.height x y x_in y_in ∙ within_from (area_in r p.width p.height) x y i))
 

@@ -2,11 +2,11 @@
 use Rattle.std.specs.Prelude.{ℕ, pos, ◌+◌, ◌*◌, ◌-◌, List, length, replicate, take, drop, min, slice_index_or, Bool, nat_le, nat_lt, int_le, ◌&&◌, if◌then◌else◌}
 use Rattle.con_units.specs.Glyph.{Glyph}
 use Rattle.con_units.specs.Stored.{stored_unit}
-use Rattle.con_units.specs.Attr.{masked}
+use Rattle.con_units.specs.Attr.{plain}
 use Rattle.con_units.specs.Natural.{natural}
 use Rattle.con_units.specs.declared.place.Coord.{Coord}
 use Rattle.con_grid.specs.Picture.{Picture, place}
-use Rattle.con_rects.specs.Rules.{cell_at, redrawn}
+use Rattle.con_rects.specs.Rules.{cell_at, redrawn, as_read}
 
 -- whether a grid has a place
 abbrev pub has_place : Picture → Coord → Bool
@@ -24,12 +24,12 @@ run_count p at n = min n (run_length p at)
 abbrev pub in_run : ℕ → ℕ → ℕ → Bool
 in_run from n k = nat_le from k && nat_lt k (from + n)
 
--- a cell with another unit, and a cell with another word
+-- a cell with another unit and the same attribute, and a cell with another word and plain shades
 abbrev pub with_unit : Glyph → ℕ → Glyph
 with_unit g unit = record g { unit = stored_unit unit }
 
 abbrev pub with_word : Glyph → ℕ → Glyph
-with_word g word = record g { word = masked word }
+with_word g word = record g { attr = plain word }
 
 -- the new cell of a column and a row when n cells from a place on take one value each, in their order
 abbrev pub run_rule : Picture → ℕ → ℕ → (Glyph → ℕ → Glyph) → List ℕ → ℕ → ℕ → Glyph
@@ -55,6 +55,6 @@ unit_filled p at n unit = run_written p at with_unit (replicate n unit)
 unfoldable pub word_filled : Picture → Coord → ℕ → ℕ → Picture
 word_filled p at n word = run_written p at with_word (replicate n word)
 
--- the first n cells of a run, or all where it has fewer
+-- the first n cells of a run, or all where it has fewer, as they are read
 abbrev pub run_cells : Picture → Coord → ℕ → List Glyph
-run_cells p at n = take (run_count p at n) (drop (place p at) p.cells)
+run_cells p at n = take (run_count p at n) (drop (place p at) (as_read p).cells)

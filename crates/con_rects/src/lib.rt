@@ -19,8 +19,6 @@ mod area;
 mod reads;
 mod runs;
 mod scroll;
-#[cfg(test)]
-mod tests;
 mod writes;
 
 pub use area::used;

@@ -1,8 +1,8 @@
 //! Reading the cells of a rectangle or a run.
-ghost use Rattle.std.specs.Prelude.{true, take, drop, ◌≡◌, ℕ, ◌+◌, ◌-◌, ◌*◌, ◌<◌, ◌≤◌, [], min, length, vec_capacity, IfOk, IfErr};
+ghost use Rattle.std.specs.Prelude.{true, take, drop, ◌≡◌, ℕ, ◌+◌, ◌-◌, ◌*◌, ◌<◌, ◌≤◌, [], min, length, vec_capacity, slice_get, Some, IfOk, IfErr};
 ghost use Rattle.con_units.specs.declared.code.Code.TheVariants.{Limit};
 ghost use Rattle.con_rects.specs.Area.{area_in, has_cells, area_size, used_size, used_rect, columns_of, rows_of};
-ghost use Rattle.con_rects.specs.Rules.{area_cells, rect_cells};
+ghost use Rattle.con_rects.specs.Rules.{area_cells, rect_cells, as_read};
 ghost use Rattle.con_rects.specs.Runs.{run_count, run_cells};
 
 use crate::area::{Area, area_of};
@@ -10,24 +10,33 @@ use crate::runs::{room_from, start_of};
 use con_grid::Grid;
 use con_units::{Cell, Code, Coord, Rect};
 
+// The cell at a place, with plain shades.
+fn read_cell(grid: &Grid, at: usize) -> Cell
+    requires { at < length grid.now.cells }
+    ensures { slice_get (as_read grid.now).cells at ≡ Some result }
+{
+    grid.at(at).plain()
+}
+
 fn read_area(grid: &Grid, area: &Area, out: &mut Vec<Cell>)
     requires right { area.now.right ≤ grid.now.width }
     requires bottom { area.now.bottom ≤ grid.now.height }
     requires some { has_cells area.now ≡ true }
     requires empty { out.old.items ≡ [] }
     requires spare { area_size area.now ≤ vec_capacity out.old }
-    ensures cells { out.new.items ≡ area_cells grid.now area.now }
+    ensures cells { out.new.items ≡ area_cells (as_read grid.now) area.now }
     ensures capacity { vec_capacity out.new ≡ vec_capacity out.old }
 {
     let width = grid.size().w as usize;
     for y in area.top..area.bottom {
         for x in area.left..area.right {
-            out.push_reserved(grid.at(y * width + x));
+            out.push_reserved(read_cell(grid, y * width + x));
         }
     }
 }
 
-/// Reads the part of a rectangle that the grid has, row by row, and tells that part.
+/// Reads the part of a rectangle that the grid has, row by row and with plain shades, and tells that part
+/// (`ReadConsoleOutput`).
 ///
 /// `Limit` says that this part has more than 16,384 cells.
 pub fn read_rect(grid: &Grid, rect: Rect, out: &mut Vec<Cell>) -> Result<Rect, Code>
@@ -51,15 +60,16 @@ fn read_cells(grid: &Grid, from: usize, n: usize, out: &mut Vec<Cell>)
     requires inside { 0 < n → from + n ≤ length grid.now.cells }
     requires empty { out.old.items ≡ [] }
     requires spare { n ≤ vec_capacity out.old }
-    ensures cells { out.new.items ≡ take n (drop from grid.now.cells) }
+    ensures cells { out.new.items ≡ take n (drop from (as_read grid.now).cells) }
 {
     let _size = grid.size();
     for k in 0..n {
-        out.push_reserved(grid.at(from + k));
+        out.push_reserved(read_cell(grid, from + k));
     }
 }
 
-/// Reads n cells row by row from a start, or as many as there are, and tells how many.
+/// Reads n cells row by row from a start, or as many as there are, with plain shades, and tells how many
+/// (`ReadConsoleOutputCharacter`, `ReadConsoleOutputAttribute`).
 ///
 /// A start outside the grid reads none. `Limit` says that there are more than 16,384.
 pub fn read_run(grid: &Grid, from: Coord, n: u32, out: &mut Vec<Cell>) -> Result<u32, Code>

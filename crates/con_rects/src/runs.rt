@@ -109,7 +109,8 @@ fn write_words(grid: &mut Grid, from: usize, n: usize, words: &[u16])
     }
 }
 
-/// Writes units over cells row by row from a start, as far as there are cells, and tells over how many.
+/// Writes units over cells row by row from a start, as far as there are cells, and tells over how many. Their attributes
+/// stay (`WriteConsoleOutputCharacter`).
 ///
 /// A start outside the grid changes none. `Limit` says that there are more than 16,384.
 pub fn write_run_units(grid: &mut Grid, from: Coord, units: &[u16]) -> Result<u32, Code>
@@ -126,7 +127,8 @@ pub fn write_run_units(grid: &mut Grid, from: Coord, units: &[u16]) -> Result<u3
     Ok(count as u32)
 }
 
-/// Writes words over cells row by row from a start, as far as there are cells, and tells over how many.
+/// Writes words with plain shades over cells row by row from a start, as far as there are cells, and tells over how many
+/// (`WriteConsoleOutputAttribute`).
 ///
 /// A start outside the grid changes none. `Limit` says that there are more than 16,384.
 pub fn write_run_attrs(grid: &mut Grid, from: Coord, words: &[u16]) -> Result<u32, Code>
@@ -143,7 +145,8 @@ pub fn write_run_attrs(grid: &mut Grid, from: Coord, words: &[u16]) -> Result<u3
     Ok(count as u32)
 }
 
-/// Writes a unit over n cells row by row from a start, or over as many as there are, and tells how many.
+/// Writes a unit over n cells row by row from a start, or over as many as there are, and tells how many. Their attributes
+/// stay (`FillConsoleOutputCharacter`).
 pub fn fill_units(grid: &mut Grid, from: Coord, n: u32, unit: u16) -> u32
     ensures count { result ≡ run_count grid.old from n }
     ensures grid { grid.new ≡ unit_filled grid.old from n unit }
@@ -155,7 +158,8 @@ pub fn fill_units(grid: &mut Grid, from: Coord, n: u32, unit: u16) -> u32
     count as u32
 }
 
-/// Writes a word over n cells row by row from a start, or over as many as there are, and tells how many.
+/// Writes a word with plain shades over n cells row by row from a start, or over as many as there are, and tells how many
+/// (`FillConsoleOutputAttribute`).
 pub fn fill_attrs(grid: &mut Grid, from: Coord, n: u32, word: u16) -> u32
     ensures count { result ≡ run_count grid.old from n }
     ensures grid { grid.new ≡ word_filled grid.old from n word }

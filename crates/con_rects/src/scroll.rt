@@ -1,5 +1,6 @@
 //! Scrolling a rectangle.
 ghost use Rattle.std.specs.Prelude.{◌≡◌, ℕ, ◌+◌, ◌-◌, ◌*◌, ◌<◌, ◌≤◌, true, false};
+ghost use Rattle.con_units.specs.Glyph.{plain_cell};
 ghost use Rattle.con_grid.specs.Picture.{IsPicture};
 ghost use Rattle.con_rects.specs.Area.{area_in, has_cells};
 ghost use Rattle.con_rects.specs.Rules.{redrawn};
@@ -181,7 +182,7 @@ fn fill_out(grid: &mut Grid, from: &Area, to: &Area, fill: Cell)
 /// Moves the cells of the part of `source` that the grid has, so that the corner of `source` comes to `dest`,
 /// and fills what they leave. Nothing outside `clip` changes, if there is one.
 pub fn scroll_rect(grid: &mut Grid, source: Rect, clip: Option<Rect>, dest: Coord, fill: Cell)
-    ensures grid { grid.new ≡ scrolled grid.old source clip dest fill }
+    ensures grid { grid.new ≡ scrolled grid.old source clip dest (plain_cell fill) }
     ensures picture { IsPicture grid.new }
 {
     let size = grid.size();
@@ -194,5 +195,5 @@ pub fn scroll_rect(grid: &mut Grid, source: Rect, clip: Option<Rect>, dest: Coor
     let to = common_of(&moved, &limits);
     let from = common_of(&area, &limits);
     move_into(grid, &to, &shift);
-    fill_out(grid, &from, &to, fill);
+    fill_out(grid, &from, &to, fill.plain());
 }

@@ -1,6 +1,7 @@
 //! Writing over the cells of a rectangle.
 ghost use Rattle.std.specs.Prelude.{true, ◌≡◌, ℕ, ℤ, pos, ◌-ℤ◌, ◌+◌, ◌*◌, ◌<◌, ◌≤◌, ◌^◌, length, slice_index_or, IfOk, IfErr};
 ghost use Rattle.con_units.specs.Natural.{natural};
+ghost use Rattle.con_units.specs.Glyph.{plain_cell};
 ghost use Rattle.con_units.specs.declared.code.Code.TheVariants.{Limit};
 ghost use Rattle.con_grid.specs.Picture.{IsPicture};
 ghost use Rattle.con_rects.specs.Area.{area_in, has_cells, used_size, used_rect, cell_count, wide};
@@ -19,16 +20,16 @@ pub fn along(from: i16, at: usize) -> usize
     if by < 0 { 0 } else { by as usize }
 }
 
-/// The given cell of a rectangle for a place of it.
+/// The given cell of a rectangle for a place of it, with plain shades.
 fn given(rect: &Rect, cells: &[Cell], x: usize, y: usize) -> Cell
     requires x { x < 512 }
     requires y { y < 2048 }
     requires has { natural (pos y -ℤ rect.now.top) * wide rect.now + natural (pos x -ℤ rect.now.left) < length cells.now }
-    ensures { result ≡ slice_index_or cells.now (natural (pos y -ℤ rect.now.top) * wide rect.now + natural (pos x -ℤ rect.now.left)) blank }
+    ensures { result ≡ plain_cell (slice_index_or cells.now (natural (pos y -ℤ rect.now.top) * wide rect.now + natural (pos x -ℤ rect.now.left)) blank) }
 {
     let row = along(rect.top, y);
     let column = along(rect.left, x);
-    cells[row * wide_of(rect) + column]
+    cells[row * wide_of(rect) + column].plain()
 }
 
 fn write_area(grid: &mut Grid, area: &Area, rect: &Rect, cells: &[Cell])
@@ -46,7 +47,8 @@ fn write_area(grid: &mut Grid, area: &Area, rect: &Rect, cells: &[Cell])
     }
 }
 
-/// Writes cells, which are given row by row, over the part of a rectangle that the grid has, and tells that part.
+/// Writes cells, which are given row by row, with plain shades over the part of a rectangle that the grid has, and tells
+/// that part (`WriteConsoleOutput`).
 ///
 /// `Limit` says that this part has more than 16,384 cells.
 pub fn write_rect(grid: &mut Grid, rect: Rect, cells: &[Cell]) -> Result<Rect, Code>

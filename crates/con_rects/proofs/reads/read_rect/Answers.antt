@@ -1,6 +1,6 @@
 use Rattle.std.proofs.Common.{arith, ◌≡◌, ◌≤◌, ap, sym, ◌∙◌}
 use Rattle.con_rects.specs.Area.{area_in, rect_of, area_size}
-use Rattle.con_rects.specs.Rules.{area_cells}
+use Rattle.con_rects.specs.Rules.{area_cells, as_read}
 use Rattle.con_rects.proofs.AreaLemmas.{area_in_same}
 use Rattle.con_rects.proofs.ReadLemmas.{rect_cells_is, no_cells}
 use Rattle.con_rects.proofs.reads.read_rect.Goals as goal
@@ -11,8 +11,8 @@ returns-clause-done c =
     let p = c.args.grid.now in
     let a : c.area_of-area.result ≡ area_in c.args.rect p.width p.height = c.area_of-area.ensures ∙ area_in_same c.args.rect c.size-size.ensures.width c.size-size.ensures.height in
     let few : area_size (area_in c.args.rect p.width p.height) ≤ 16384 = omega (arith, sym (ap area_size a), c.count.ensures, c.if-count-gt16384.false) in
-    let cells : c.if-has_cells.out.items ≡ area_cells p c.area_of-area.result = elim c.if-has_cells.branch [
+    let cells : c.if-has_cells.out.items ≡ area_cells (as_read p) c.area_of-area.result = elim c.if-has_cells.branch [
       | then-has_cells w ↦ ap (λ (v : _). v.items) w.out-is ∙ w.read_area.ensures.cells
-      | else-has_cells w ↦ ap (λ (v : _). v.items) w.out-is ∙ c.requires.empty ∙ sym (no_cells p c.area_of-area.result (sym w.if-has_cells.ensures))
+      | else-has_cells w ↦ ap (λ (v : _). v.items) w.out-is ∙ c.requires.empty ∙ sym (no_cells (as_read p) c.area_of-area.result (sym w.if-has_cells.ensures))
     ] in
-    (few, c.rect.ensures ∙ ap rect_of a, cells ∙ ap (area_cells p) a ∙ rect_cells_is p c.args.rect)
+    (few, c.rect.ensures ∙ ap rect_of a, cells ∙ ap (area_cells (as_read p)) a ∙ rect_cells_is p c.args.rect)

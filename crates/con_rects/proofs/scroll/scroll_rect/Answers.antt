@@ -2,6 +2,7 @@ use Rattle.std.proofs.Common.{arith, ◌≡◌, ◌∙◌, ap, ap₂}
 use Rattle.con_grid.specs.Picture.{Picture}
 use Rattle.con_rects.specs.Area.{area_in}
 use Rattle.con_rects.specs.Rules.{redrawn}
+use Rattle.con_rects.specs.Scroll.{scrolled}
 use Rattle.con_rects.specs.Moves.{clip_area, common, shifted, shift_to, move_rule, free_rule}
 use Rattle.con_rects.specs.declared.area.Area.{Area}
 use Rattle.con_rects.proofs.AreaLemmas.{area_in_same}
@@ -31,5 +32,5 @@ returns-clause-grid c =
     let to : c.common_of-to.result ≡ common (shifted (area_in c.args.source p.width p.height) (shift_to c.args.source c.args.dest)) (clip_area c.args.clip p.width p.height) = c.common_of-to.ensures ∙ ap₂ common moved limits in
     let from : c.common_of-from.result ≡ common (area_in c.args.source p.width p.height) (clip_area c.args.clip p.width p.height) = c.common_of-from.ensures ∙ ap₂ common a limits in
     let mid = c.move_into.ensures.grid ∙ ap₂ (λ t u. redrawn p (move_rule p t u)) to s in
-    let after : Picture → Area → Area → Picture = λ q f t. redrawn q (free_rule q f t c.args.fill) in
-    c.fill_out.ensures.grid ∙ ap (λ q. after q c.common_of-from.result c.common_of-to.result) mid ∙ ap₂ (after _) from to ∙ scrolled_is p c.args.source c.args.clip c.args.dest c.args.fill c.size-size.ensures.picture
+    let after : Picture → Area → Area → Picture = λ q f t. redrawn q (free_rule q f t c.plain.result) in
+    c.fill_out.ensures.grid ∙ ap (λ q. after q c.common_of-from.result c.common_of-to.result) mid ∙ ap₂ (after _) from to ∙ scrolled_is p c.args.source c.args.clip c.args.dest c.plain.result c.size-size.ensures.picture ∙ ap (λ g. scrolled p c.args.source c.args.clip c.args.dest g) c.plain.ensures

@@ -1,18 +1,15 @@
 use Rattle.std.proofs.Common.{arith, ◌≤◌, length, ◌∙◌}
 use Rattle.std.proofs.lemmas.Grind.{common_steps}
-use Rattle.con_grid.specs.Marks.{picture_of}
-use Rattle.con_grid.proofs.MarksLemmas.{marks_now, lifted_keeps}
+use Rattle.con_grid.specs.Inside.{picture_of}
+use Rattle.con_grid.proofs.StampLemmas.{lifted_keeps, renumbered}
 use Rattle.con_grid.proofs.grid.Grid.lift.Goals as goal
 
 pub invariant_of-self : goal.invariant_of-self
 invariant_of-self c =
     let inside : c.args.upto ≤ length c.self.inside.cells = grind (arith, common_steps) in
-    let covers = rw c.deref_mut.ensures.value at c.mark_run.ensures in
-    marks_now _ c.self.inside.marks.len c.self.inside.marks.items c.mark_run.new.marks (c.mark_run.auto.marks ∙ c.deref_mut.ensures.len)
-    (rw c.lift_part.ensures (lifted_keeps (picture_of c.self.inside) c.self.inside.marks.items _ c.args.from c.args.upto c.args.by c.args.cell c.self.invariant c.requires.order inside covers))
+    rw c.lift_part.ensures (renumbered _ _ (lifted_keeps (picture_of c.self.inside) c.self.inside.stamps _ c.args.from c.args.upto c.args.by c.args.cell c.self.invariant c.requires.order inside c.stamp_run.ensures))
 
 pub returns-clause-picture : goal.returns-clause-picture
 returns-clause-picture c =
     let inside : c.args.upto ≤ length c.self.inside.cells = grind (arith, common_steps) in
-    let covers = rw c.deref_mut.ensures.value at c.mark_run.ensures in
-    rw c.lift_part.ensures (lifted_keeps (picture_of c.self.inside) c.self.inside.marks.items _ c.args.from c.args.upto c.args.by c.args.cell c.self.invariant c.requires.order inside covers).picture
+    rw (c.lift_part.ensures, c.stamp_run.ensures.same) (lifted_keeps (picture_of c.self.inside) c.self.inside.stamps _ c.args.from c.args.upto c.args.by c.args.cell c.self.invariant c.requires.order inside c.stamp_run.ensures).picture

@@ -3,7 +3,7 @@ use Rattle.std.proofs.lemmas.Grind.{common_steps}
 use Rattle.con_units.specs.Glyph.{Glyph}
 use Rattle.con_grid.specs.Picture.{lifted}
 use Rattle.con_grid.specs.Ring.{turned}
-use Rattle.con_grid.proofs.MarksLemmas.{whole}
+use Rattle.con_grid.proofs.StampLemmas.{whole}
 use Rattle.con_grid.proofs.RingLemmas.{lift_turns, turned-none}
 use Rattle.con_grid.proofs.ring.Ring.lift.Goals as goal
 

@@ -1,6 +1,6 @@
 use Rattle.std.proofs.Common.{◌≡◌, ◌-◌, length, ap, arith, ◌∙◌}
 use Rattle.std.proofs.lemmas.Grind.{common_steps}
-use Rattle.con_grid.proofs.MarksLemmas.{whole}
+use Rattle.con_grid.proofs.StampLemmas.{whole}
 use Rattle.con_grid.proofs.RingLemmas.{in_block, lift_spot, part_all, length-turned}
 use Rattle.con_grid.proofs.ring.Ring.lift_part.Goals as goal
 

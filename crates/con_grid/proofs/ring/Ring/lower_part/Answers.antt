@@ -1,5 +1,5 @@
 use Rattle.std.proofs.Common.{◌∙◌}
-use Rattle.con_grid.proofs.MarksLemmas.{whole}
+use Rattle.con_grid.proofs.StampLemmas.{whole}
 use Rattle.con_grid.proofs.RingLemmas.{in_block, lower_spot}
 use Rattle.con_grid.proofs.ring.Ring.lower_part.Goals as goal
 

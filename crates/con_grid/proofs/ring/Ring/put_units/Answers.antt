@@ -1,5 +1,5 @@
 use Rattle.std.proofs.Common.{rules, ◌≤◌, ◌+◌, length, ◌∙◌}
-use Rattle.con_grid.proofs.MarksLemmas.{whole}
+use Rattle.con_grid.proofs.StampLemmas.{whole}
 use Rattle.con_grid.proofs.RingLemmas.{in_block, units_spot}
 use Rattle.con_grid.proofs.ring.Ring.put_units.Goals as goal
 
