@@ -6,3 +6,4 @@ pub mod StringLemmas
 pub mod TitleLemmas
 pub mod SpokenLemmas
 pub mod PlainLemmas
+pub mod FewLemmas

@@ -4,6 +4,7 @@ ghost use Rattle.con_units.specs.Split.{next};
 ghost use Rattle.con_vtgram.specs.Spoken.{spoken, spoken_by};
 ghost use Rattle.con_vtgram.specs.Text.{grammar};
 ghost use Rattle.con_vtgram.specs.State.{item_of};
+ghost use Rattle.con_vtgram.specs.Few.{AreFew};
 
 use crate::automaton::{Phase, Sequence, step};
 use crate::found::Found;
@@ -110,3 +111,8 @@ impl Splitter {
         }
     }
 }
+
+/// Each unit completes at most one item, and a title has at most 255 units.
+pub fn completes_one_item()
+    ensures { AreFew }
+{}
