@@ -7,12 +7,13 @@ use Rattle.std.proofs.lemmas.List.{length-take-le, length-drop, length-append, l
 use Rattle.std.proofs.lemmas.List.FromFn.{fill_by_all, get_or-map-range_with_len, length-map-range_with_len}
 use Rattle.std.proofs.lemmas.Grind.{common_steps}
 use Rattle.std.proofs.lemmas.List.Sums.{common_prefix_len-le}
+use Rattle.con_units.specs.Attr.{Attribute}
 use Rattle.con_units.specs.Glyph.{Glyph, cell_of}
 use Rattle.std.proofs.lemmas.Int.{ints}
 use Rattle.std.proofs.Math.Nat.{mul-le-mul_right, lt-div-mul-add}
 use Rattle.con_units.specs.Natural.{natural}
 use Rattle.con_grid.specs.Picture.{filled, units_put, written_over, glyphs_of, lifted, part_lifted}
-use Rattle.con_screen.specs.Page.{Page, IsPage, word, blank, shown}
+use Rattle.con_screen.specs.Page.{Page, IsPage, attr, blank, shown}
 use Rattle.con_screen.specs.Alternate.{sides}
 use Rattle.con_screen.specs.Echo.{origin_in, origin_after, cursor_at, rows_above, rows_past, scrolled, fallen, ruled, drawn_by, first_difference, texts_rule, part_rule, changed, echoed, part_echoed, ended}
 use Rattle.con_screen.proofs.SidesLemmas.{down_in_sides}
@@ -54,44 +55,44 @@ no_lt a b e = grind (arith, nat_tests)
 
 -- Place 0 stands in cell s - hid; the units from place off on are put, of which the first `skip` lie above row 0, and n
 -- blanks behind them.
-record Shows (cells : List Glyph) (s hid off : ℕ) (us : List ℕ) (n w : ℕ) (b : Glyph) (after : List Glyph) : Type 0 where
+record Shows (cells : List Glyph) (s hid off : ℕ) (us : List ℕ) (n : ℕ) (w : Attribute) (b : Glyph) (after : List Glyph) : Type 0 where
   long : length after ≡ length cells
   cell : (i : ℕ) → i < length cells → get_or after i b ≡ cond (nat_lt (i + hid) s) (get_or cells i b) (cond (nat_lt (i + hid - s) off) (get_or cells i b) (cond (nat_lt (i + hid - s) (off + length us)) (cell_of (get_or us (i + hid - s - off) 0) w) (cond (nat_lt (i + hid - s) (off + length us + n)) b (get_or cells i b))))
 
 abbrev put_from : ℕ → ℕ → ℕ → List ℕ → List ℕ
 put_from s hid off us = drop (min (hid - (s + off)) (length us)) us
 
-abbrev after_put : List Glyph → ℕ → ℕ → ℕ → List ℕ → ℕ → List Glyph
+abbrev after_put : List Glyph → ℕ → ℕ → ℕ → List ℕ → Attribute → List Glyph
 after_put cells s hid off us w = units_put cells (s + off - hid) (put_from s hid off us) w
 
-abbrev after_all : List Glyph → ℕ → ℕ → ℕ → List ℕ → ℕ → ℕ → Glyph → List Glyph
+abbrev after_all : List Glyph → ℕ → ℕ → ℕ → List ℕ → ℕ → Attribute → Glyph → List Glyph
 after_all cells s hid off us n w b = filled (after_put cells s hid off us w) (s + off + length us - hid) (min (s + off + length us + n - hid) (length cells)) b
 
-glyphs_length : (us : List ℕ) (w : ℕ) → length (glyphs_of us w) ≡ length us
+glyphs_length : (us : List ℕ) (w : Attribute) → length (glyphs_of us w) ≡ length us
 glyphs_length us w = length-map us (λ u. cell_of u w)
 
 put_count : (s hid off : ℕ) (us : List ℕ) → length (put_from s hid off us) ≡ length us - min (hid - (s + off)) (length us)
 put_count s hid off us = length-drop (min (hid - (s + off)) (length us)) us
 
-put_length : (cells : List Glyph) (s hid off : ℕ) (us : List ℕ) (w : ℕ) → s + (off + length us) < length cells + hid → length (after_put cells s hid off us w) ≡ length cells
+put_length : (cells : List Glyph) (s hid off : ℕ) (us : List ℕ) (w : Attribute) → s + (off + length us) < length cells + hid → length (after_put cells s hid off us w) ≡ length cells
 unfolding units_put
 put_length cells s hid off us w room =
     let count = put_count s hid off us in
     over_length cells (glyphs_of (put_from s hid off us) w) (s + off - hid) (s + off - hid + length (put_from s hid off us)) (omega arith) (omega (arith, count, room)) (glyphs_length (put_from s hid off us) w ∙ omega arith)
 
 -- a cell before those that are put, and one behind them
-put_outside : (cells : List Glyph) (s hid off : ℕ) (us : List ℕ) (w i : ℕ) (d : Glyph) → s + (off + length us) < length cells + hid → i + hid < s + off → get_or (after_put cells s hid off us w) i d ≡ get_or cells i d
+put_outside : (cells : List Glyph) (s hid off : ℕ) (us : List ℕ) (w : Attribute) (i : ℕ) (d : Glyph) → s + (off + length us) < length cells + hid → i + hid < s + off → get_or (after_put cells s hid off us w) i d ≡ get_or cells i d
 unfolding units_put
 put_outside cells s hid off us w i d room h =
     over_before cells (glyphs_of (put_from s hid off us) w) (s + off - hid) (s + off - hid + length (put_from s hid off us)) i d (omega (arith, room)) (omega (arith, h))
 
-put_behind : (cells : List Glyph) (s hid off : ℕ) (us : List ℕ) (w i : ℕ) (d : Glyph) → s + (off + length us) < length cells + hid → s + off + length us ≤ i + hid → get_or (after_put cells s hid off us w) i d ≡ get_or cells i d
+put_behind : (cells : List Glyph) (s hid off : ℕ) (us : List ℕ) (w : Attribute) (i : ℕ) (d : Glyph) → s + (off + length us) < length cells + hid → s + off + length us ≤ i + hid → get_or (after_put cells s hid off us w) i d ≡ get_or cells i d
 unfolding units_put
 put_behind cells s hid off us w i d room h =
     let count = put_count s hid off us in
     over_behind cells (glyphs_of (put_from s hid off us) w) (s + off - hid) (s + off - hid + length (put_from s hid off us)) i d (omega (arith, room)) (glyphs_length (put_from s hid off us) w ∙ omega arith) (omega arith) (omega (arith, count, h))
 
-put_inside : (cells : List Glyph) (s hid off : ℕ) (us : List ℕ) (w i : ℕ) (d : Glyph) → s + (off + length us) < length cells + hid → s + off ≤ i + hid → i + hid < s + (off + length us) → get_or (after_put cells s hid off us w) i d ≡ cell_of (get_or us (i + hid - s - off) 0) w
+put_inside : (cells : List Glyph) (s hid off : ℕ) (us : List ℕ) (w : Attribute) (i : ℕ) (d : Glyph) → s + (off + length us) < length cells + hid → s + off ≤ i + hid → i + hid < s + (off + length us) → get_or (after_put cells s hid off us w) i d ≡ cell_of (get_or us (i + hid - s - off) 0) w
 unfolding units_put
 put_inside cells s hid off us w i d room h k =
     let count = put_count s hid off us in
@@ -102,7 +103,7 @@ put_inside cells s hid off us w i d room h k =
     ∙ get_or-map (λ u. cell_of u w) shown at 0 d (omega (arith, count, h, k))
     ∙ ap (λ u. cell_of u w) (get_or-drop (min (hid - (s + off)) (length us)) us at 0 ∙ ap (λ m. get_or us m 0) here)
 
-shows_all : (cells : List Glyph) (s hid off : ℕ) (us : List ℕ) (n w : ℕ) (b : Glyph) → s + (off + length us) < length cells + hid → Shows cells s hid off us n w b (after_all cells s hid off us n w b)
+shows_all : (cells : List Glyph) (s hid off : ℕ) (us : List ℕ) (n : ℕ) (w : Attribute) (b : Glyph) → s + (off + length us) < length cells + hid → Shows cells s hid off us n w b (after_all cells s hid off us n w b)
 unfolding filled
 shows_all cells s hid off us n w b room =
     let e : ℕ = s + off + length us - hid in
@@ -175,7 +176,7 @@ none_scrolled p o end ok none =
 
 -- ---- the whole
 
-drawn_is : (p : Page) (o : Origin) (offset n : ℕ) (us : List ℕ) (after : List Glyph) → Shows p.grid.cells (natural o.y * p.grid.width + o.x) (rows_above o.y * p.grid.width) offset us n (word p) (blank p) after
+drawn_is : (p : Page) (o : Origin) (offset n : ℕ) (us : List ℕ) (after : List Glyph) → Shows p.grid.cells (natural o.y * p.grid.width + o.x) (rows_above o.y * p.grid.width) offset us n (attr p) (blank p) after
     → record p { grid = record p.grid { cells = after } } ≡ drawn_by p o (part_rule p offset us n)
 unfolding drawn_by
 drawn_is p o offset n us after s =
@@ -183,18 +184,18 @@ drawn_is p o offset n us after s =
     ap (λ (cells : List Glyph). record p { grid = record p.grid { cells = cells } }) (fill_by_all f after (length p.grid.cells) (blank p) s.long s.cell)
 
 -- the same of numbers and units that are equal to those
-pub drawn_so : (p : Page) (o : Origin) (offset n : ℕ) (us part : List ℕ) (at skip e u w : ℕ) → natural o.y * p.grid.width + o.x + (offset + length us) < length p.grid.cells + rows_above o.y * p.grid.width
+pub drawn_so : (p : Page) (o : Origin) (offset n : ℕ) (us part : List ℕ) (at skip e u : ℕ) (w : Attribute) → natural o.y * p.grid.width + o.x + (offset + length us) < length p.grid.cells + rows_above o.y * p.grid.width
     → at ≡ natural o.y * p.grid.width + o.x + offset - rows_above o.y * p.grid.width
     → skip ≡ min (rows_above o.y * p.grid.width - (natural o.y * p.grid.width + o.x + offset)) (length us)
     → part ≡ take (length us - skip) (drop skip us)
     → e ≡ natural o.y * p.grid.width + o.x + offset + length us - rows_above o.y * p.grid.width
     → u ≡ min (natural o.y * p.grid.width + o.x + offset + length us + n - rows_above o.y * p.grid.width) (length p.grid.cells)
-    → w ≡ word p
+    → w ≡ attr p
     → record p { grid = record p.grid { cells = filled (units_put p.grid.cells at part w) e u (blank p) } } ≡ drawn_by p o (part_rule p offset us n)
 drawn_so p o offset n us part at skip e u w room at_is skip_is part_is e_is u_is w_is =
     let rest : take (length us - skip) (drop skip us) ≡ drop skip us = take_all (length us - skip) (drop skip us) (omega (arith, length-drop skip us)) in
     rw (part_is, rest, at_is, skip_is, e_is, u_is, w_is)
-    (drawn_is p o offset n us _ (shows_all p.grid.cells (natural o.y * p.grid.width + o.x) (rows_above o.y * p.grid.width) offset us n (word p) (blank p) room))
+    (drawn_is p o offset n us _ (shows_all p.grid.cells (natural o.y * p.grid.width + o.x) (rows_above o.y * p.grid.width) offset us n (attr p) (blank p) room))
 
 pub changed_sides : (p : Page) (o : Origin) (end : ℕ) (rule : ℕ → Glyph → Glyph) (caret : ℕ) → sides (changed p o end rule caret) ≡ sides p
 unfolding changed drawn_by shown
@@ -256,17 +257,17 @@ same_rules p old new k was =
     let old_end : ℕ = length new + (length old - length new) in
     rw (part_ends old new)
     (choose (nat_lt k d) was was
-    (cond (nat_lt k (length new)) (cell_of (get_or (changed_part old new) (k - d) 0) (word p)) (cond (nat_lt k old_end) (blank p) was))
-    (cond (nat_lt k (length new)) (cell_of (get_or new k 0) (word p)) (cond (nat_lt k (length old)) (blank p) was))
+    (cond (nat_lt k (length new)) (cell_of (get_or (changed_part old new) (k - d) 0) (attr p)) (cond (nat_lt k old_end) (blank p) was))
+    (cond (nat_lt k (length new)) (cell_of (get_or new k 0) (attr p)) (cond (nat_lt k (length old)) (blank p) was))
     (λ e. refl)
-    (λ e. choose (nat_lt k (length new)) (cell_of (get_or (changed_part old new) (k - d) 0) (word p)) (cell_of (get_or new k 0) (word p))
+    (λ e. choose (nat_lt k (length new)) (cell_of (get_or (changed_part old new) (k - d) 0) (attr p)) (cell_of (get_or new k 0) (attr p))
     (cond (nat_lt k old_end) (blank p) was)
     (cond (nat_lt k (length old)) (blank p) was)
-    (λ f. ap (λ u. cell_of u (word p)) (part_at old new k (no_lt k d e)))
+    (λ f. ap (λ u. cell_of u (attr p)) (part_at old new k (no_lt k d e)))
     (λ f. ap (λ t. cond t (blank p) was) (rest_test k (length old) (length new) (no_lt k (length new) f)))))
 
 pub echoed_by_part : (s : Screen) (o : Origin) (old new : List ℕ) (caret : ℕ) → part_echoed s o (first_difference old new) (changed_part old new) (length old - length new) caret ≡ echoed s o old new caret
 echoed_by_part s o old new caret =
-    let rule : ℕ → Glyph → Glyph = part_rule s.board (first_difference old new) (changed_part old new) (length old - length new) in
-    ap (λ end. record { screen = record s { board = changed s.board o end rule caret }; origin = origin_after s.board o end }) (part_ends old new)
-    ∙ ap (λ (p : Page). record { screen = record s { board = p }; origin = origin_after s.board o (length new) }) (same_changed s.board o rule (texts_rule s.board old new) (length new) caret (same_rules s.board old new))
+    let rule : ℕ → Glyph → Glyph = part_rule s.page (first_difference old new) (changed_part old new) (length old - length new) in
+    ap (λ end. record { screen = record s { page = changed s.page o end rule caret }; origin = origin_after s.page o end }) (part_ends old new)
+    ∙ ap (λ (p : Page). record { screen = record s { page = p }; origin = origin_after s.page o (length new) }) (same_changed s.page o rule (texts_rule s.page old new) (length new) caret (same_rules s.page old new))

@@ -9,3 +9,5 @@ pub mod WordLemmas
 pub mod ScanLemmas
 pub mod EchoLemmas
 pub mod PlaceLemmas
+pub mod ToldLemmas
+pub mod PenLemmas

@@ -6,13 +6,14 @@ use Rattle.std.proofs.lemmas.Nat.{mul-add-lt}
 use Rattle.std.proofs.lemmas.Bool.Decides.{nat_tests}
 use Rattle.std.proofs.lemmas.List.{take_all, take-append-drop, length-take-le, length-drop, length-set, take_more_set, drop-set-lt}
 use Rattle.con_grid.specs.Picture.{units_put}
+use Rattle.con_units.specs.Attr.{Attribute}
 use Rattle.con_units.specs.Glyph.{Glyph, cell_of}
 use Rattle.con_units.specs.Stored.{is_control}
 use Rattle.con_units.specs.Split.{next, split_after}
 use Rattle.con_vtgram.specs.Text.{is_front, whole, is_acting}
 use Rattle.con_vtgram.specs.Spoken.{Spoken, spoken, spoken_by}
 use Rattle.con_vtgram.specs.declared.item.Item.TheVariants as items
-use Rattle.con_screen.specs.Page.{Page, IsPage, place, word, shown, least_shift}
+use Rattle.con_screen.specs.Page.{Page, IsPage, place, attr, shown, least_shift}
 use Rattle.con_screen.specs.Print.{printed, wrapped, put, advanced}
 use Rattle.con_screen.specs.Effect.{effect, act, follow}
 use Rattle.con_screen.specs.Told.{Told, Answered, told_after, is_switch}
@@ -134,20 +135,20 @@ unfolding is_switch
 no_switch [] = refl
 no_switch (u ∷ us) = no_switch us
 
-pub run_written : (s : Screen) (t : Told) (us : List ℕ) → s.text ≡ [] → CanRun s.board (length us) → list_all is_printable us ≡ true → written s t us ≡ record { screen = record { board = ran s.board us; text = [] }; told = t }
+pub run_written : (s : Screen) (t : Told) (us : List ℕ) → s.text ≡ [] → CanRun s.page (length us) → list_all is_printable us ≡ true → written s t us ≡ record { screen = record { page = ran s.page us; text = [] }; told = t }
 unfolding written
-run_written s t us none can all = rw (none, split_printable s.board.mode us all, run_heard s.board t us can) refl
+run_written s t us none can all = rw (none, split_printable s.page.mode us all, run_heard s.page t us can) refl
 
 pub run_switches : (s : Screen) (us : List ℕ) → s.text ≡ [] → list_all is_printable us ≡ true → switches s us ≡ false
 unfolding switches
-run_switches s us none all = rw (none, split_printable s.board.mode us all) (no_switch us)
+run_switches s us none all = rw (none, split_printable s.page.mode us all) (no_switch us)
 
 over : (cells : List Glyph) (c : Glyph) (at upto : ℕ) (part : List Glyph) → at < length cells → at < upto → take (at + 1) (set cells at c) ++ (part ++ drop upto (set cells at c)) ≡ take at cells ++ ((c ∷ part) ++ drop upto cells)
 over cells c at upto part inside order =
     rw (take_more_set cells at c inside, drop-set-lt upto cells at c order) (append_assoc (take at cells) (c ∷ []) (part ++ drop upto cells))
 
 -- the units, put one by one, are put at once
-pub run_cells_put : (cells : List Glyph) (at w : ℕ) (us : List ℕ) → at + length us ≤ length cells → run_cells cells at w us ≡ units_put cells at us w
+pub run_cells_put : (cells : List Glyph) (at : ℕ) (w : Attribute) (us : List ℕ) → at + length us ≤ length cells → run_cells cells at w us ≡ units_put cells at us w
 unfolding units_put
 run_cells_put cells at w [] inside = let e : at + 0 ≡ at = omega arith in rw e (sym (take-append-drop at cells))
 run_cells_put cells at w (u ∷ us) inside =
@@ -160,15 +161,15 @@ run_inside : (p : Page) (n : ℕ) → IsPage p → CanRun p n → place p + n �
 run_inside p n ok can = rw ok.grid.cells (let lt = mul-add-lt p.y p.grid.width (p.x + n) p.grid.height ok.row can.inside in omega (arith, lt))
 
 -- the cells of the units, put from the cursor on
-pub ran_put : (p : Page) (us : List ℕ) (at w : ℕ) → IsPage p → CanRun p (length us) → at ≡ place p → w ≡ word p
-    → record p { grid = record p.grid { cells = units_put p.grid.cells at us w }; x = p.x + length us } ≡ ran p us
+pub ran_put : (p : Page) (us : List ℕ) (at : ℕ) (a : Attribute) → IsPage p → CanRun p (length us) → at ≡ place p → a ≡ attr p
+    → record p { grid = record p.grid { cells = units_put p.grid.cells at us a }; x = p.x + length us } ≡ ran p us
 unfolding ran
-ran_put p us at w ok can at_is w_is = rw (at_is, w_is, run_cells_put p.grid.cells (place p) (word p) us (run_inside p (length us) ok can)) refl
+ran_put p us at a ok can at_is a_is = rw (at_is, a_is, run_cells_put p.grid.cells (place p) (attr p) us (run_inside p (length us) ok can)) refl
 
 -- several units, as code has them
-pub run_done : (s : Screen) (a b : Answered) (us : List ℕ) (page : Page) → s.text ≡ [] → CanRun s.board (length us) → list_all is_printable us ≡ true → page ≡ ran s.board us → b ≡ record a { room = a.room - length us } → DoneSome s a us page s.text b false
+pub run_done : (s : Screen) (a b : Answered) (us : List ℕ) (page : Page) → s.text ≡ [] → CanRun s.page (length us) → list_all is_printable us ≡ true → page ≡ ran s.page us → b ≡ record a { room = a.room - length us } → DoneSome s a us page s.text b false
 run_done s a b us page none can all page_is told_is = let e = run_written s a.told us none can all in record {
-  page_is = page_is ∙ sym (ap (λ (g : Stage). g.screen.board) e);
+  page_is = page_is ∙ sym (ap (λ (g : Stage). g.screen.page) e);
   tail_is = none ∙ sym (ap (λ (g : Stage). g.screen.text) e);
   told_is = told_is ∙ rw e refl;
   switch_is = sym (run_switches s us none all);
@@ -193,7 +194,7 @@ take-add (suc i) n (x ∷ xs) = let e : suc i + n ≡ suc (i + n) = omega arith 
 
 -- some more units
 pub stands_some : (s : Screen) (a : Answered) (units : List ℕ) (i n : ℕ) (now : Screen) (page : Page) (tail : List ℕ) (answered further : Answered) (b : Bool) → i + n ≤ length units → Stands s a units i now answered
-    → DoneSome now answered (take n (take (length units - i) (drop i units))) page tail further b → MoreSome s a units (i + n) (record { board = page; text = tail }) further b
+    → DoneSome now answered (take n (take (length units - i) (drop i units))) page tail further b → MoreSome s a units (i + n) (record { page = page; text = tail }) further b
 stands_some s a units i n now page tail answered further b le h whole_done =
     let whole_is : take (length units - i) (drop i units) ≡ drop i units = take_all (length units - i) (drop i units) (omega (arith, length-drop i units)) in
     let done = rw whole_is at whole_done in
@@ -211,7 +212,7 @@ pub take_one : (us : List ℕ) → 0 < length us → take 1 us ≡ get_or us 0 0
 take_one [] h = absurd (omega arith)
 take_one (u ∷ us) h = refl
 
-pub run_some : (s : Screen) (a b : Answered) (units : List ℕ) (n : ℕ) (page : Page) → n ≤ length units → CanRun s.board n × (s.text ≡ []) → list_all is_printable (take n units) ≡ true → page ≡ ran s.board (take n units) → b ≡ record a { room = a.room - n }
+pub run_some : (s : Screen) (a b : Answered) (units : List ℕ) (n : ℕ) (page : Page) → n ≤ length units → CanRun s.page n × (s.text ≡ []) → list_all is_printable (take n units) ≡ true → page ≡ ran s.page (take n units) → b ≡ record a { room = a.room - n }
     → DoneSome s a (take n units) page s.text b false
 run_some s a b units n page le can all page_is told_is =
     let long : length (take n units) ≡ n = length-take-le n units le in

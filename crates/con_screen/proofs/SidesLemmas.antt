@@ -103,6 +103,6 @@ unfolding heard
 fold_sides b [] = refl
 fold_sides b (i ∷ is) = fold_sides (heard b i) is ∙ effect_sides b.page i.item
 
-pub written_sides : (s : Screen) (t : Told) (us : List ℕ) → sides (written s t us).screen.board ≡ sides s.board
+pub written_sides : (s : Screen) (t : Told) (us : List ℕ) → sides (written s t us).screen.page ≡ sides s.page
 unfolding written
-written_sides s t us = fold_sides (record { page = s.board; told = t }) (split_on s us).items
+written_sides s t us = fold_sides (record { page = s.page; told = t }) (split_on s us).items

@@ -3,8 +3,9 @@ use Rattle.std.proofs.Common.{◌≡◌, ℕ, ◌+◌, ◌*◌, ◌/◌, ◌%◌
 use Rattle.std.proofs.lemmas.Nat.{and_block, and_mask, and_assoc}
 use Rattle.std.proofs.lemmas.Nat.Bits.{and_high}
 use Rattle.std.proofs.lemmas.Bool.Decides.{nat_tests}
-use Rattle.con_units.specs.Attr.{masked}
-use Rattle.con_screen.specs.Pen.{word_of}
+use Rattle.con_units.specs.Attr.{masked, plain}
+use Rattle.con_units.specs.declared.shade.Shade.TheVariants as shade
+use Rattle.con_screen.specs.Pen.{word_of, attr_of}
 use Rattle.con_screen.specs.Setters.{pen_of_word}
 
 halves : (a r : ℕ) → r < 2 ^ 8 → bit_and (a * 2 ^ 8 + r) 0xC0FF ≡ (a / 2 ^ 6 % 2 ^ 2) * 2 ^ 6 * 2 ^ 8 + r % 2 ^ 8
@@ -40,6 +41,6 @@ word_back w =
     let h = high w in
     rw (a, b, masked_is w) (omega (arith, l, h))
 
--- the word of the pen of a word
-pub word_of_word : (w : ℕ) → masked (word_of (pen_of_word w)) ≡ masked w
-word_of_word w = ap masked (word_back w) ∙ and_assoc 0xC0FF w 0xC0FF
+-- the attribute of the pen of a word
+pub attr_of_word : (w : ℕ) → attr_of (pen_of_word w) ≡ plain w
+attr_of_word w = ap plain (word_back w) ∙ ap (λ n. record { word = n; fore = shade.Plain; back = shade.Plain }) (and_assoc 0xC0FF w 0xC0FF)

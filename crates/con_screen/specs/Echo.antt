@@ -3,7 +3,7 @@ use Rattle.std.specs.Prelude.{ℕ, ℤ, pos, negsuc, ◌≡◌, ◌+◌, ◌-◌
 use Rattle.std.specs.List.{range_with_len, common_prefix_len}
 use Rattle.con_units.specs.Natural.{natural}
 use Rattle.con_units.specs.Glyph.{Glyph, cell_of}
-use Rattle.con_screen.specs.Page.{Page, word, blank, with_cells, rows_up, down_in, shown}
+use Rattle.con_screen.specs.Page.{Page, attr, blank, with_cells, rows_up, down_in, shown}
 use Rattle.con_screen.specs.Fit.{within}
 use Rattle.con_screen.specs.Screen.{Screen}
 use Rattle.con_screen.specs.declared.origin.Origin.{Origin}
@@ -69,7 +69,7 @@ first_difference = common_prefix_len nat_eq
 abbrev pub texts_rule : Page → List ℕ → List ℕ → ℕ → Glyph → Glyph
 texts_rule p old new k was =
     if nat_lt k (first_difference old new) then was
-    else if nat_lt k (length new) then cell_of (slice_index new k) (word p)
+    else if nat_lt k (length new) then cell_of (slice_index new k) (attr p)
     else if nat_lt k (length old) then blank p
     else was
 
@@ -77,7 +77,7 @@ texts_rule p old new k was =
 abbrev pub part_rule : Page → ℕ → List ℕ → ℕ → ℕ → Glyph → Glyph
 part_rule p offset units blanks k was =
     if nat_lt k offset then was
-    else if nat_lt k (offset + length units) then cell_of (slice_index units (k - offset)) (word p)
+    else if nat_lt k (offset + length units) then cell_of (slice_index units (k - offset)) (attr p)
     else if nat_lt k (offset + length units + blanks) then blank p
     else was
 
@@ -101,15 +101,15 @@ pub record Echoed : Type 0 where
 -- a line whose text was `old` and is `new`
 abbrev pub echoed : Screen → Origin → List ℕ → List ℕ → ℕ → Echoed
 echoed s o old new caret = record {
-  screen = record s { board = changed s.board o (length new) (texts_rule s.board old new) caret };
-  origin = origin_after s.board o (length new);
+  screen = record s { page = changed s.page o (length new) (texts_rule s.page old new) caret };
+  origin = origin_after s.page o (length new);
 }
 
 -- the same from its units from `offset` on, and how many places behind them become blank
 abbrev pub part_echoed : Screen → Origin → ℕ → List ℕ → ℕ → ℕ → Echoed
 part_echoed s o offset units blanks caret = record {
-  screen = record s { board = changed s.board o (offset + length units) (part_rule s.board offset units blanks) caret };
-  origin = origin_after s.board o (offset + length units);
+  screen = record s { page = changed s.page o (offset + length units) (part_rule s.page offset units blanks) caret };
+  origin = origin_after s.page o (offset + length units);
 }
 
 -- the line ends: the cursor goes to the place of its length, then to column 0 and down without margins

@@ -17,7 +17,7 @@ pub record Fit : Type 0 where
 abbrev pub lost_rows : Page → ℕ → ℕ
 lost_rows p h = min (p.grid.height - h) (p.y - (h - 1))
 
--- the cells that stay; new ones are spaces in the pen's word
+-- the cells that stay; new ones are spaces in the pen's attribute
 abbrev pub refitted_grid : Page → Size → Picture
 refitted_grid p buffer = resized p.grid buffer.w buffer.h (lost_rows p buffer.h) (blank p)
 

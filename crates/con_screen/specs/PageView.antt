@@ -1,6 +1,6 @@
--- A board as contracts see it.
+-- A page as contracts see it.
 use Rattle.con_screen.specs.Page.{Page}
-use Rattle.con_screen.specs.declared.board.Board.TheInside.{Inside}
+use Rattle.con_screen.specs.declared.page.Page.TheInside.{Inside}
 
 abbrev pub page_of : Inside → Page
 page_of b = record {

@@ -1,5 +1,5 @@
 //! What a write tells beside the screen.
-ghost use Rattle.std.specs.Prelude.{◌≡◌, ℕ, ◌+◌, ◌-◌, ◌*◌, ◌<◌, ◌≤◌, ◌++◌, ◌∷◌, [], Some, None, IsSome, IsTrue, ◌↔◌, IfOk, OnOk, vec_len, vec_capacity, length};
+ghost use Rattle.std.specs.Prelude.{◌≡◌, ℕ, ◌+◌, ◌-◌, ◌*◌, ◌<◌, ◌≤◌, ◌++◌, ◌∷◌, [], Some, None, IsSome, IsTrue, ◌↔◌, IfOk, OnOk, OnErr, max, vec_len, vec_capacity, length};
 ghost use Rattle.con_screen.specs.Told.{Told, Answered, nothing_told, decimal, cursor_report, device_report, reported};
 
 use con_units::OutOfMemory;
@@ -128,7 +128,8 @@ impl Answers {
     /// The title that was set last, at most 255 units.
     pub fn title(&self) -> &[u16]
         requires { IsSome self.now.told.title }
-        ensures { self.now.told.title ≡ Some result.now }
+        ensures title { self.now.told.title ≡ Some result.now }
+        ensures short { length result.now ≤ 255 }
     {
         self.title.as_slice()
     }
@@ -147,17 +148,39 @@ impl Answers {
         self.alternate
     }
 
-    /// Forgets what was told, for a write of so many units. Takes memory only where it never had room for as many; where
-    /// there is none, it has told nothing.
-    pub fn clear(&mut self, units: usize) -> Result<(), OutOfMemory>
+    /// Makes room for a write of so many units, beside what was told. Takes memory; where there is none, nothing changes.
+    pub fn reserve(&mut self, units: usize) -> Result<(), OutOfMemory>
         requires { units ≤ 16777216 }
-        ensures cleared { OnOk result (self.new ≡ record { told = nothing_told; room = units }) }
-        ensures nothing { self.new.told ≡ nothing_told }
+        ensures reserved { OnOk result (self.new ≡ record self.old { room = max self.old.room units }) }
+        ensures refused { OnErr result (self.new ≡ self.old) }
+    {
+        if self.room < units {
+            if self.reports.reserve(10 * units).is_err() {
+                return Err(OutOfMemory);
+            }
+            self.room = units;
+        }
+        Ok(())
+    }
+
+    /// Forgets what was told. The room stays, and no memory is taken.
+    pub fn forget(&mut self)
+        ensures { self.new ≡ record self.old { told = nothing_told } }
     {
         self.reports.clear();
         self.titled = false;
         self.cursor_keys = None;
         self.alternate = None;
+    }
+
+    /// Forgets what was told, and has room for a write of so many units. Takes memory; where there is none, it has told
+    /// nothing.
+    pub fn clear(&mut self, units: usize) -> Result<(), OutOfMemory>
+        requires { units ≤ 16777216 }
+        ensures cleared { OnOk result (self.new ≡ record { told = nothing_told; room = units }) }
+        ensures nothing { self.new.told ≡ nothing_told }
+    {
+        self.forget();
         self.room = 0;
         if self.reports.reserve(10 * units).is_err() {
             return Err(OutOfMemory);

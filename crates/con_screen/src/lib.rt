@@ -15,23 +15,23 @@
 //! - [`Screen::echo`] and [`Screen::echo_end`] show a line that is edited, which begins at an [`Origin`]
 //!   (`specs/Echo.antt`).
 //! - [`Screen::fit`] takes the memory of a resize, and [`Screen::resize`] does it (`specs/Fit.antt`).
+//! - Cells are written and erased in the pen's attribute: a word of sixteen colours, and for each of foreground and background
+//!   an index of the table of 256 where the pen has one (`specs/Pen.antt`).
 //!
-//! Every call needs a page within its bounds (`IsPage`) and leaves one. Only `new`, `fit` and `Answers::room` take
-//! memory. Nothing is said of how the cells look on a terminal.
+//! Every call needs a page within its bounds (`IsPage`) and leaves one. Only `new`, `fit`, and of [`Answers`] `room`,
+//! `reserve` and `clear` take memory. Nothing is said of how the cells look on a terminal.
 #![tactic(auto)]
 
 pub mod answers;
-mod board;
 pub mod fit;
 pub mod info;
 pub mod margins;
 pub mod mode;
 pub mod origin;
+mod page;
 pub mod pen;
 pub mod screen;
 mod tabs;
-#[cfg(test)]
-mod tests;
 mod write;
 
 pub use answers::Answers;
@@ -39,5 +39,6 @@ pub use fit::Fit;
 pub use info::Info;
 pub use origin::Origin;
 pub use screen::{
-    Screen, is_echoed_by_part, is_laid_row_by_row, is_switched_whole, is_written_whole,
+    Screen, is_echoed_by_part, is_laid_row_by_row, is_switched_whole, is_told_within,
+    is_written_whole,
 };

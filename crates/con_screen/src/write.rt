@@ -14,8 +14,8 @@ ghost use Rattle.con_screen.specs.Run.{is_printable, CanRun};
 ghost use Rattle.con_screen.specs.Effect.{effect};
 
 use crate::answers::Answers;
-use crate::board::Board;
 use crate::mode::Mode;
+use crate::page::Page;
 use con_vtgram::{Csi, Found, Splitter, is_plain, plain_count};
 
 // How many units are looked at together.
@@ -134,13 +134,13 @@ pub(crate) fn tell_private(csi: &Csi, answers: &mut Answers)
     }
 }
 
-pub(crate) fn tell_plain(board: &Board, csi: &Csi, answers: &mut Answers)
-    requires page { IsPage board.now }
+pub(crate) fn tell_plain(page: &Page, csi: &Csi, answers: &mut Answers)
+    requires page { IsPage page.now }
     requires room { 0 < answers.old.room }
-    ensures { answers.new ≡ record { told = tells.plain_told board.now answers.old.told csi.now; room = answers.old.room - 1 } }
+    ensures { answers.new ≡ record { told = tells.plain_told page.now answers.old.told csi.now; room = answers.old.room - 1 } }
 {
     if csi.last == 0x6E && csi.params[0] == 6 {
-        answers.tell_cursor(board.report_row(), board.report_column());
+        answers.tell_cursor(page.report_row(), page.report_column());
     } else if csi.last == 0x63 && csi.params[0] == 0 {
         answers.tell_device();
     } else {
@@ -149,16 +149,16 @@ pub(crate) fn tell_plain(board: &Board, csi: &Csi, answers: &mut Answers)
 }
 
 #[tactic(auto, unfolding(crate::specs::Told::csi_told))]
-pub(crate) fn tell_csi(board: &Board, csi: &Csi, answers: &mut Answers)
-    requires page { IsPage board.now }
+pub(crate) fn tell_csi(page: &Page, csi: &Csi, answers: &mut Answers)
+    requires page { IsPage page.now }
     requires room { 0 < answers.old.room }
-    ensures { answers.new ≡ record { told = tells.csi_told board.now answers.old.told csi.now; room = answers.old.room - 1 } }
+    ensures { answers.new ≡ record { told = tells.csi_told page.now answers.old.told csi.now; room = answers.old.room - 1 } }
 {
     if csi.inter == 0 {
         if csi.private {
             tell_private(csi, answers);
         } else {
-            tell_plain(board, csi, answers);
+            tell_plain(page, csi, answers);
         }
     } else if is_reset(csi) {
         answers.tell_keys(false);
@@ -168,48 +168,48 @@ pub(crate) fn tell_csi(board: &Board, csi: &Csi, answers: &mut Answers)
 }
 
 // What a control sequence does and tells, and whether it switches.
-pub(crate) fn hear_sequence(board: &mut Board, csi: &Csi, answers: &mut Answers) -> bool
-    requires page { IsPage board.old }
+pub(crate) fn hear_sequence(page: &mut Page, csi: &Csi, answers: &mut Answers) -> bool
+    requires page { IsPage page.old }
     requires room { 0 < answers.old.room }
-    ensures page { IsPage board.new }
-    ensures effect { board.new ≡ effect board.old (item.Csi csi.now) }
-    ensures told { answers.new ≡ record { told = tells.csi_told board.old answers.old.told csi.now; room = answers.old.room - 1 } }
+    ensures page { IsPage page.new }
+    ensures effect { page.new ≡ effect page.old (item.Csi csi.now) }
+    ensures told { answers.new ≡ record { told = tells.csi_told page.old answers.old.told csi.now; room = answers.old.room - 1 } }
     ensures switch { result ≡ tells.is_switch (item.Csi csi.now) }
 {
-    tell_csi(board, csi, answers);
-    board.apply_sequence(csi);
+    tell_csi(page, csi, answers);
+    page.apply_sequence(csi);
     is_switch(csi)
 }
 
 // What the item that a unit completes does and tells, and whether it switches.
 #[tactic(auto, unfolding(crate::specs::Told::told_after, crate::specs::Told::is_switch))]
 pub(crate) fn hear(
-    board: &mut Board,
+    page: &mut Page,
     found: Found,
     unit: u16,
     csi: &Csi,
     title: &[u16],
     answers: &mut Answers,
 ) -> bool
-    requires page { IsPage board.old }
+    requires page { IsPage page.old }
     requires room { 0 < answers.old.room }
     requires short { length title.now ≤ 255 }
-    ensures page { IsPage board.new }
-    ensures effect { board.new ≡ effect_if board.old (item_of found unit csi.now) }
-    ensures told { answers.new ≡ record { told = told_if board.old answers.old.told title.now (item_of found unit csi.now); room = answers.old.room - 1 } }
+    ensures page { IsPage page.new }
+    ensures effect { page.new ≡ effect_if page.old (item_of found unit csi.now) }
+    ensures told { answers.new ≡ record { told = told_if page.old answers.old.told title.now (item_of found unit csi.now); room = answers.old.room - 1 } }
     ensures switch { result ≡ switch_if (item_of found unit csi.now) }
 {
     match found {
-        Found::Sequence => return hear_sequence(board, csi, answers),
+        Found::Sequence => return hear_sequence(page, csi, answers),
         Found::Title => {
             answers.tell_title(title);
             return false;
         }
         Found::Nothing => {}
-        Found::Print => board.apply_print(unit),
-        Found::Control => board.apply_control(unit),
-        Found::Escape => board.apply_escape(unit),
-        Found::Charset => board.apply_charset(unit),
+        Found::Print => page.apply_print(unit),
+        Found::Control => page.apply_control(unit),
+        Found::Escape => page.apply_escape(unit),
+        Found::Charset => page.apply_charset(unit),
     }
     answers.spend();
     false
@@ -217,17 +217,17 @@ pub(crate) fn hear(
 
 // Writes a unit.
 pub(crate) fn write_unit(
-    board: &mut Board,
+    page: &mut Page,
     text: &mut Splitter,
     unit: u16,
     answers: &mut Answers,
 ) -> bool
-    requires page { IsPage board.old }
+    requires page { IsPage page.old }
     requires room { 0 < answers.old.room }
-    ensures page { IsPage board.new }
-    ensures done { Done (record { board = board.old; text = text.old.tail }) answers.old unit board.new text.new.tail answers.new result }
+    ensures page { IsPage page.new }
+    ensures done { Done (record { page = page.old; text = text.old.tail }) answers.old unit page.new text.new.tail answers.new result }
 {
-    let mode = board.mode();
+    let mode = page.mode();
     if has_sequences(mode) {
         let found = text.advance(unit);
         match found {
@@ -235,51 +235,51 @@ pub(crate) fn write_unit(
                 answers.spend();
                 false
             }
-            _ => hear(board, found, unit, text.sequence(), text.title(), answers),
+            _ => hear(page, found, unit, text.sequence(), text.title(), answers),
         }
     } else {
         let found = found_alone(mode, unit);
-        hear(board, found, unit, text.sequence(), &[], answers)
+        hear(page, found, unit, text.sequence(), &[], answers)
     }
 }
 
 // Writes some units: a run of printable ones, or one.
 pub(crate) fn write_some(
-    board: &mut Board,
+    page: &mut Page,
     text: &mut Splitter,
     units: &[u16],
     answers: &mut Answers,
 ) -> (usize, bool)
-    requires page { IsPage board.old }
+    requires page { IsPage page.old }
     requires some { 0 < length units.now }
     requires room { length units.now ≤ answers.old.room }
-    ensures page { IsPage board.new }
-    ensures done { DoneSome (record { board = board.old; text = text.old.tail }) answers.old (take result.0 units.now) board.new text.new.tail answers.new result.1 }
+    ensures page { IsPage page.new }
+    ensures done { DoneSome (record { page = page.old; text = text.old.tail }) answers.old (take result.0 units.now) page.new text.new.tail answers.new result.1 }
     ensures count { 0 < result.0 }
     ensures inside { result.0 ≤ length units.now }
     ensures one { result.1 ≡ true → result.0 ≡ 1 }
 {
-    let n = run_length(board, text, units);
+    let n = run_length(page, text, units);
     if 0 < n {
-        board.write_run(&units[..n]);
+        page.write_run(&units[..n]);
         answers.spend_some(n);
         (n, false)
     } else {
-        let switched = write_unit(board, text, units[0], answers);
+        let switched = write_unit(page, text, units[0], answers);
         (1, switched)
     }
 }
 
 // How many units at the front can be written as they are.
-pub(crate) fn run_length(board: &Board, text: &Splitter, units: &[u16]) -> usize
-    requires page { IsPage board.now }
+pub(crate) fn run_length(page: &Page, text: &Splitter, units: &[u16]) -> usize
+    requires page { IsPage page.now }
     requires some { 0 < length units.now }
     ensures count { result ≤ length units.now }
-    ensures run { 0 < result → CanRun board.now result × (text.now.tail ≡ []) }
+    ensures run { 0 < result → CanRun page.now result × (text.now.tail ≡ []) }
     ensures all { list_all is_printable (take result units.now) ≡ true }
 {
     if text.is_clear() && is_plain(units[0]) {
-        printable_front(units, board.run_room())
+        printable_front(units, page.run_room())
     } else {
         0
     }

@@ -12,7 +12,7 @@ impl Screen {
     /// Writes some of the units, at least one, and says how many, and whether the last of them ended a sequence that
     /// switches to the alternate screen or back. Where it did, it was one.
     pub fn write_some(&mut self, units: &[u16], answers: &mut Answers) -> (usize, bool)
-        requires page { IsPage self.old.board }
+        requires page { IsPage self.old.page }
         requires some { 0 < length units.now }
         requires room { length units.now ≤ answers.old.room }
         ensures screen { self.new ≡ (written self.old answers.old.told (take result.0 units.now)).screen }
@@ -21,32 +21,34 @@ impl Screen {
         ensures count { 0 < result.0 }
         ensures inside { result.0 ≤ length units.now }
         ensures one { result.1 ≡ true → result.0 ≡ 1 }
-        ensures page { IsPage self.new.board }
-        ensures sides { sides self.new.board ≡ sides self.old.board }
+        ensures page { IsPage self.new.page }
+        ensures sides { sides self.new.page ≡ sides self.old.page }
     {
-        write_some(&mut self.board, &mut self.text, units, answers)
+        write_some(&mut self.page, &mut self.text, units, answers)
     }
 
     /// Becomes the alternate screen of a main one, as it is when it comes to be shown.
     pub fn begin_alternate(&mut self, main: &Screen)
-        requires page { IsPage self.old.board }
-        requires main { IsPage main.now.board }
+        requires page { IsPage self.old.page }
+        requires main { IsPage main.now.page }
         ensures screen { self.new ≡ alternate_begun self.old main.now }
-        ensures page { IsPage self.new.board }
+        ensures page { IsPage self.new.page }
+        ensures sides { sides self.new.page ≡ sides self.old.page }
     {
-        self.board.begin_alternate(&main.board);
+        self.page.begin_alternate(&main.page);
         self.text.clear();
     }
 
     /// Takes the mode of another screen. Unfinished text goes where sequences do not act; nothing else changes.
     pub fn take_mode(&mut self, other: &Screen)
-        requires page { IsPage self.old.board }
-        requires other { IsPage other.now.board }
-        ensures screen { self.new ≡ mode_taken self.old other.now.board }
-        ensures page { IsPage self.new.board }
+        requires page { IsPage self.old.page }
+        requires other { IsPage other.now.page }
+        ensures screen { self.new ≡ mode_taken self.old other.now.page }
+        ensures page { IsPage self.new.page }
+        ensures sides { sides self.new.page ≡ sides self.old.page }
     {
-        self.board.take_mode(&other.board);
-        if !has_sequences(self.board.mode()) {
+        self.page.take_mode(&other.page);
+        if !has_sequences(self.page.mode()) {
             self.text.clear();
         }
     }

@@ -19,25 +19,25 @@ impl Screen {
         blanks: u16,
         caret: u16,
     ) -> Origin
-        requires page { IsPage self.old.board }
+        requires page { IsPage self.old.page }
         requires end { offset + length units.now < 2 ^ 16 }
         ensures screen { self.new ≡ (part_echoed self.old origin offset units.now blanks caret).screen }
         ensures origin { result ≡ (part_echoed self.old origin offset units.now blanks caret).origin }
-        ensures page { IsPage self.new.board }
-        ensures sides { sides self.new.board ≡ sides self.old.board }
+        ensures page { IsPage self.new.page }
+        ensures sides { sides self.new.page ≡ sides self.old.page }
     {
-        self.board.echo(origin, offset, units, blanks, caret)
+        self.page.echo(origin, offset, units, blanks, caret)
     }
 
     /// Ends a line of this length that begins at `origin`: the cursor goes to the beginning of the row below. A place past
     /// the buffer's end counts as one in its last row.
     pub fn echo_end(&mut self, origin: Origin, length: u16)
-        requires page { IsPage self.old.board }
-        ensures screen { self.new ≡ record self.old { board = ended self.old.board origin length } }
-        ensures page { IsPage self.new.board }
-        ensures sides { sides self.new.board ≡ sides self.old.board }
+        requires page { IsPage self.old.page }
+        ensures screen { self.new ≡ record self.old { page = ended self.old.page origin length } }
+        ensures page { IsPage self.new.page }
+        ensures sides { sides self.new.page ≡ sides self.old.page }
     {
-        self.board.end_line(origin, length);
+        self.page.end_line(origin, length);
     }
 }
 

@@ -5,4 +5,4 @@ use Rattle.con_screen.proofs.EchoLemmas.{changed_sides}
 use Rattle.con_screen.proofs.screen.Screen.echo.Goals as goal
 
 pub returns-clause-sides : goal.returns-clause-sides
-returns-clause-sides c = ap sides c.echo.ensures.effect ∙ changed_sides c.self.inside.board c.args.origin _ _ _ ∙ ap (λ (s : Screen). sides s.board) c.self.view_is
+returns-clause-sides c = ap sides c.echo.ensures.effect ∙ changed_sides c.self.inside.page c.args.origin _ _ _ ∙ ap (λ (s : Screen). sides s.page) c.self.view_is

@@ -7,4 +7,4 @@ use Rattle.con_screen.proofs.screen.Screen.write_some.Goals as goal
 
 pub returns-clause-sides : goal.returns-clause-sides
 returns-clause-sides c =
-    ap sides c.write_some.ensures.done.page_is ∙ written_sides (screen_of c.self.inside) c.args.answers.now.told (take c.write_some.result.0 c.args.units.now) ∙ ap (λ (s : Screen). sides s.board) c.self.view_is
+    ap sides c.write_some.ensures.done.page_is ∙ written_sides (screen_of c.self.inside) c.args.answers.now.told (take c.write_some.result.0 c.args.units.now) ∙ ap (λ (s : Screen). sides s.page) c.self.view_is

@@ -1,0 +1,121 @@
+//! Units that are printed.
+ghost use Rattle.std.specs.Prelude.{◌≡◌, ℕ, ◌<◌, ◌≤◌, length, true};
+ghost use Rattle.std.specs.List.{list_all};
+ghost use Rattle.con_screen.specs.Page.{IsPage};
+ghost use Rattle.con_screen.specs.Print.{drawn, line_of as line_unit, wrapped, put, advanced, printed};
+ghost use Rattle.con_screen.specs.Run.{is_printable, CanRun, ran};
+
+use super::Page;
+use con_units::Cell;
+
+#[tactic(auto, unfolding(crate::specs::Print::line_of))]
+fn line_of(unit: u16) -> u16
+    ensures { result ≡ line_unit unit }
+{
+    match unit {
+        0x6A => 0x2518,
+        0x6B => 0x2510,
+        0x6C => 0x250C,
+        0x6D => 0x2514,
+        0x6E => 0x253C,
+        0x71 => 0x2500,
+        0x74 => 0x251C,
+        0x75 => 0x2524,
+        0x76 => 0x2534,
+        0x77 => 0x252C,
+        0x78 => 0x2502,
+        _ => unit,
+    }
+}
+
+impl Page {
+    pub(crate) fn drawn(&self, unit: u16) -> u16
+        requires { IsPage self.now }
+        ensures { result ≡ drawn self.now unit }
+    {
+        if self.drawing { line_of(unit) } else { unit }
+    }
+
+    #[tactic(auto, unfolding(crate::specs::Print::wrapped))]
+    pub(crate) fn wrap(&mut self)
+        requires page { IsPage self.old }
+        ensures effect { self.new ≡ wrapped self.old }
+        ensures page { IsPage self.new }
+    {
+        if self.late {
+            self.x = 0;
+            self.late = false;
+            self.down();
+        }
+    }
+
+    #[tactic(auto, unfolding(crate::specs::Print::put))]
+    pub(crate) fn put(&mut self, unit: u16)
+        requires page { IsPage self.old }
+        ensures effect { self.new ≡ put unit self.old }
+        ensures page { IsPage self.new }
+    {
+        let at = self.place();
+        let cell = Cell::new(self.drawn(unit), self.pen.attr());
+        self.grid.put(at, cell);
+    }
+
+    #[tactic(auto, unfolding(crate::specs::Print::advanced))]
+    pub(crate) fn advance(&mut self)
+        requires page { IsPage self.old }
+        ensures effect { self.new ≡ advanced self.old }
+        ensures page { IsPage self.new }
+    {
+        if (self.x as usize) + 1 < self.width() {
+            self.x += 1;
+        } else if self.mode.wrap {
+            if self.mode.keeps_column {
+                self.late = true;
+            } else {
+                self.x = 0;
+                self.down();
+            }
+        }
+    }
+
+    #[tactic(auto, unfolding(crate::specs::Print::printed))]
+    pub(crate) fn print(&mut self, unit: u16)
+        requires page { IsPage self.old }
+        ensures effect { self.new ≡ printed unit self.old }
+        ensures page { IsPage self.new }
+    {
+        self.wrap();
+        self.put(unit);
+        self.advance();
+    }
+
+    /// How many printable units can be written as they are from the cursor on.
+    pub(crate) fn run_room(&self) -> usize
+        requires { IsPage self.now }
+        ensures { (n : ℕ) → 0 < n → n ≤ result → CanRun self.now n }
+    {
+        let x = self.x as usize;
+        let left = self.left as usize;
+        let top = self.top as usize;
+        let y = self.y as usize;
+        if self.late || self.drawing || x < left || y < top || top + self.h as usize <= y {
+            return 0;
+        }
+        let end = self.width().min(left + self.w as usize);
+        if end <= x + 1 { 0 } else { end - x - 1 }
+    }
+
+    /// Writes printable units from the cursor on.
+    pub(crate) fn write_run(&mut self, units: &[u16])
+        requires page { IsPage self.old }
+        requires given { CanRun self.old (length units.now) }
+        requires printable { list_all is_printable units.now ≡ true }
+        ensures effect { self.new ≡ ran self.old units.now }
+        ensures page { IsPage self.new }
+    {
+        let at = self.place();
+        let attr = self.pen.attr();
+        self.grid.put_plain(at, units, attr);
+        self.x += units.len() as u16;
+    }
+}

@@ -1,0 +1,21 @@
+//! Tests of con_screen and con_vtgram, by a caller: texts, lines and sizes whose effect was worked out by hand from the rules of ECMA-48
+//! and of the console's virtual terminal sequences. A table is a list of rows, each with the line of text that shows what
+//! it leaves; the lines of a table are compared at once.
+#![tactic(auto)]
+
+#[cfg(test)]
+mod edges;
+#[cfg(test)]
+mod effects;
+#[cfg(test)]
+mod lines;
+#[cfg(test)]
+mod rows;
+#[cfg(test)]
+mod setters;
+#[cfg(test)]
+mod texts;
+#[cfg(test)]
+mod told;
+#[cfg(test)]
+mod words;
