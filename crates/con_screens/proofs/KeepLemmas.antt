@@ -1,70 +1,23 @@
 -- Buffers stay within their bounds.
-use Rattle.std.proofs.Common.{◌≡◌, ℕ, zero, suc, ◌+◌, ◌-◌, ◌*◌, ◌<◌, ◌≤◌, inl, inr, Bool, true, false, cond, List, [], ◌∷◌, ◌++◌, length, get_or, set, replicate, Option, None, Some, refl, sym, ap, subst, ◌∙◌, arith, length-append}
+use Rattle.std.proofs.Common.{◌≡◌, ℕ, zero, suc, ◌+◌, ◌*◌, ◌<◌, ◌≤◌, Bool, true, false, cond, List, [], ◌∷◌, ◌++◌, length, get_or, set, replicate, Option, None, Some, refl, sym, ap, subst, ◌∙◌, arith, length-append}
 use Rattle.std.specs.Prelude.{IsSome, IfSome, ◌==◌, nat_lt, ◌%◌, ◌&&◌}
 use Rattle.std.specs.Option.{option_map}
-use Rattle.std.proofs.lemmas.List.{get_or-set_same, get_or-set_other, length-set, length-replicate}
-use Rattle.std.proofs.lemmas.Bool.{cases_eq, cases_lt, cond_both, eqb-false}
+use Rattle.std.proofs.lemmas.List.{get_or-set_other, length-set, length-replicate}
+use Rattle.std.proofs.lemmas.Bool.{cond_both, eqb-false}
 use Rattle.con_screen.specs.Page.{Page, IsPage}
 use Rattle.con_screen.specs.Screen.{Screen}
 use Rattle.con_screen.specs.Setters.{default_tabs}
 use Rattle.con_screen.specs.Alternate.{Sides, sides}
 use Rattle.con_screens.specs.Buffer.{IsBuffer, HasWindow, new_buffer, new_screen}
-use Rattle.con_screens.specs.Buffers.{Buffers, AreBuffers, IsLive, buffer_at, with_slot, with_buffer, gone, created, first_buffers}
+use Rattle.con_screens.specs.Buffers.{Buffers, AreBuffers, IsLive, buffer_at, screen_in, screen_at, with_slot, gone, created, first_buffers}
 use Rattle.con_units.specs.declared.view.View.{View}
 use Rattle.con_screens.specs.Buffers.{with_handles}
 use Rattle.con_screens.specs.View.{view_of}
 use Rattle.con_screens.specs.Slot.{HasPages, Keeps}
+use Rattle.con_screens.specs.LentLaws.{some_not_none, live_within, set_each, keeps_slot, some_mapped, is_mapped, keeps_shown}
+use Rattle.con_screens.specs.Stamps.{Remembered, remembered, all_remembered}
+use Rattle.con_screens.specs.StampLaws.{mapped_same}
 use Rattle.con_screens.specs.declared.buffer.Buffer.{Buffer}
-
-some_not_none : IsSome {T = Buffer} None → ⊥
-some_not_none h = cc
-
-past_end : (xs : List (Option Buffer)) (i : ℕ) → length xs ≤ i → get_or xs i None ≡ None
-past_end [] i h = refl
-past_end (x ∷ xs) zero h = absurd (omega arith)
-past_end (x ∷ xs) (suc i) h = past_end xs i (omega arith)
-
--- a live buffer's id is a place
-pub live_within : (xs : List (Option Buffer)) (i : ℕ) → IsSome (get_or xs i None) → i < length xs
-live_within xs i live = elim (cases_lt i (length xs)) [
-  | inl lt ↦ lt
-  | inr ge ↦ absurd (some_not_none (subst (λ (o : Option Buffer). IsSome o) (past_end xs i ge) live))
-]
-
--- a fact of each place, after one was written
-set_each : (P : Option Buffer → Type 0) (xs : List (Option Buffer)) (i j : ℕ) (o : Option Buffer) → i < length xs → P o → P (get_or xs j None) → P (get_or (set xs i o) j None)
-set_each P xs i j o within new old = elim (cases_eq j i) [
-  | inl e ↦ subst P (sym (ap (λ k. get_or (set xs i o) k None) e ∙ get_or-set_same xs i o None within)) new
-  | inr ne ↦ subst P (sym (get_or-set_other xs i j o None ne)) old
-]
-
-pub keeps_slot : (s : Buffers) (id : ℕ) (o : Option Buffer) → AreBuffers s → IsLive s id → IsSome o → IfSome o (IsBuffer s.w s.h s.births) → AreBuffers (with_slot s id o)
-keeps_slot s id o are live some is =
-    let within : id < length s.slots = live_within s.slots id live in
-    record {
-      eight = length-set s.slots id o ∙ are.eight;
-      main = set_each (λ (v : Option Buffer). IsSome v) s.slots id 0 o within some are.main;
-      active = set_each (λ (v : Option Buffer). IsSome v) s.slots id s.active o within some are.active;
-      some = are.some;
-      few = are.few;
-      each = λ k. set_each (λ (v : Option Buffer). IfSome v (IsBuffer s.w s.h s.births)) s.slots id k o within is (are.each k);
-    }
-
-some_mapped : (o : Option Buffer) (f : Buffer → Buffer) → IsSome o → IsSome (option_map f o)
-some_mapped None f h = absurd (some_not_none h)
-some_mapped (Some b) f h = refl
-
-is_mapped : (o : Option Buffer) (f : Buffer → Buffer) (P : Buffer → Type 0) → ((b : Buffer) → P b → P (f b)) → IfSome o P → IfSome (option_map f o) P
-is_mapped None f P keep h = h
-is_mapped (Some b) f P keep h = keep b h
-
-pub keeps_with : (s : Buffers) (id : ℕ) (f : Buffer → Buffer) → AreBuffers s → IsLive s id → ((b : Buffer) → IsBuffer s.w s.h s.births b → IsBuffer s.w s.h s.births (f b)) → AreBuffers (with_buffer s id f)
-keeps_with s id f are live keep =
-    keeps_slot s id (option_map f (buffer_at s id)) are live (some_mapped (buffer_at s id) f live) (is_mapped (buffer_at s id) f (IsBuffer s.w s.h s.births) keep (are.each id))
-
-pub keeps_mapped : (s : Buffers) (id : ℕ) (f : Buffer → Buffer) (new : Option Buffer) → AreBuffers s → IsLive s id → new ≡ option_map f (buffer_at s id) → IfSome new (IsBuffer s.w s.h s.births) → AreBuffers (with_buffer s id f)
-keeps_mapped s id f new are live is kept =
-    keeps_slot s id (option_map f (buffer_at s id)) are live (some_mapped (buffer_at s id) f live) (subst (λ (o : Option Buffer). IfSome o (IsBuffer s.w s.h s.births)) is kept)
 
 -- only the number of handles changes
 pub keeps_handles : (w h n k : ℕ) (b : Buffer) → IsBuffer w h n b → IsBuffer w h n (record b { handles = k })
@@ -72,7 +25,7 @@ keeps_handles w h n k b is = record { shown = is.shown; hidden = is.hidden; colu
 
 pub keeps_gone : (s : Buffers) (id : ℕ) → AreBuffers s → IsLive s id → (id ≡ 0 → ⊥) → AreBuffers (gone s id)
 keeps_gone s id are live not_main =
-    let within : id < length s.slots = live_within s.slots id live in
+    let within : id < length s.slots = live_within s id live in
     let main' : 0 ≡ id → ⊥ = λ e. not_main (sym e) in
     let main : IsSome (get_or (set s.slots id None) 0 None) = subst (λ (o : Option Buffer). IsSome o) (sym (get_or-set_other s.slots id 0 None None main')) are.main in
     record {
@@ -103,7 +56,7 @@ new_page_is w h some_w some_h few_w few_h = record {
     low = few_h;
     right = omega arith;
     bottom = omega arith;
-    pen = record { foreground = omega arith; background = omega arith };
+    pen = record { foreground = omega arith; background = omega arith; fore = tt; back = tt };
     saved_column = some_w;
     saved_row = some_h;
     margins = tt;
@@ -150,7 +103,7 @@ same_default (x ∷ xs) zero d e h = refl
 same_default (x ∷ xs) (suc i) d e h = same_default xs i d e (omega arith)
 
 pub taken_is : (s : Buffers) (id : ℕ) (was : Option Buffer) → IsLive s id → was ≡ get_or s.slots id was → buffer_at s id ≡ was
-taken_is s id was live taken = same_default s.slots id None was (live_within s.slots id live) ∙ sym taken
+taken_is s id was live taken = same_default s.slots id None was (live_within s id live) ∙ sym taken
 
 pub keeps_put : (s : Buffers) (id : ℕ) (was new : Option Buffer) (f : Buffer → Buffer) → AreBuffers s → IsLive s id → was ≡ get_or s.slots id was → new ≡ option_map f was → Keeps was new → AreBuffers (with_slot s id new)
 keeps_put s id was new f are live taken is keep =
@@ -158,29 +111,65 @@ keeps_put s id was new f are live taken is keep =
     let some : IsSome was = subst (λ (o : Option Buffer). IsSome o) here live in
     keeps_slot s id new are live (subst (λ (o : Option Buffer). IsSome o) (sym is) (some_mapped was f some)) (keep s.w s.h s.births (subst (λ (o : Option Buffer). IfSome o (IsBuffer s.w s.h s.births)) here (are.each id)))
 
+-- the two screens change places
+pub remembers_on : (b : Buffer) (s : Screen) → b.alternate ≡ false → sides s.page ≡ sides b.hidden.page → remembered (record b { shown = s; hidden = b.shown; alternate = true }) ≡ remembered b
+remembers_on b s off same = by_side b.alternate off
+  where
+    by_side : (a : Bool) → a ≡ false → ◌≡◌ {A = Remembered} (record { birth = b.birth; main = sides b.shown.page; alternate = sides s.page })
+        (record { birth = b.birth; main = sides (cond a b.hidden b.shown).page; alternate = sides (cond a b.shown b.hidden).page })
+    by_side true e = absurd (cc)
+    by_side false e = let f : Sides → Remembered = λ x. record { birth = b.birth; main = sides b.shown.page; alternate = x } in ap f same
+
+pub remembers_off : (b : Buffer) (s : Screen) → b.alternate ≡ true → sides s.page ≡ sides b.hidden.page → remembered (record b { shown = s; hidden = b.shown; alternate = false }) ≡ remembered b
+remembers_off b s on same = by_side b.alternate on
+  where
+    by_side : (a : Bool) → a ≡ true → ◌≡◌ {A = Remembered} (record { birth = b.birth; main = sides s.page; alternate = sides b.shown.page })
+        (record { birth = b.birth; main = sides (cond a b.hidden b.shown).page; alternate = sides (cond a b.shown b.hidden).page })
+    by_side true e = let f : Sides → Remembered = λ x. record { birth = b.birth; main = x; alternate = sides b.shown.page } in ap f same
+    by_side false e = absurd (cc)
+
+-- what is remembered, where a place was taken out and put back
+pub remembers_put : (s : Buffers) (id : ℕ) (was new : Option Buffer) → IsLive s id → was ≡ get_or s.slots id was → option_map remembered new ≡ option_map remembered was → all_remembered (with_slot s id new) ≡ all_remembered s
+remembers_put s id was new live taken same = mapped_same s.slots id new (same ∙ ap (λ (o : Option Buffer). option_map remembered o) (sym (taken_is s id was live taken)))
+
 pub keeps_number : (was new : Option Buffer) (k : ℕ) → new ≡ option_map (with_handles k) was → Keeps was new
 keeps_number was new k is = λ w h n old. subst (λ (o : Option Buffer). IfSome o (IsBuffer w h n)) (sym is) (is_mapped was (with_handles k) (IsBuffer w h n) (keeps_handles w h n k) old)
 
-pub view_is : (o : Option Buffer) (sc : Screen) (v : View) → IfSome o (λ b. sc ≡ b.shown) → v ≡ view_of sc.board → IfSome o (λ b. v ≡ view_of b.shown.board)
+pub view_is : (o : Option Buffer) (sc : Screen) (v : View) → IfSome o (λ b. sc ≡ b.shown) → v ≡ view_of sc.page → IfSome o (λ b. v ≡ view_of b.shown.page)
 view_is None sc v h e = h
-view_is (Some b) sc v h e = e ∙ ap (λ (x : Screen). view_of x.board) h
+view_is (Some b) sc v h e = e ∙ ap (λ (x : Screen). view_of x.page) h
+
+-- the view of a live buffer is that of the screen of its id
+pub shown_is : (s : Buffers) (id : ℕ) (v : View) → IsLive s id → IfSome (buffer_at s id) (λ b. v ≡ view_of b.shown.page) → v ≡ view_of (screen_at s id).page
+shown_is s id v live is = by_slot (buffer_at s id) live is
+  where
+    by_slot : (o : Option Buffer) → IsSome o → IfSome o (λ b. v ≡ view_of b.shown.page) → v ≡ view_of (screen_in s o).page
+    by_slot None live is = absurd (some_not_none live)
+    by_slot (Some b) live is = is
+
+-- a screen that is shown is the screen of its id
+pub lent_is : (s : Buffers) (id : ℕ) (sc : Screen) → IsLive s id → IfSome (buffer_at s id) (λ b. sc ≡ b.shown) → sc ≡ screen_at s id
+lent_is s id sc live is = by_slot (buffer_at s id) live is
+  where
+    by_slot : (o : Option Buffer) → IsSome o → IfSome o (λ b. sc ≡ b.shown) → sc ≡ screen_in s o
+    by_slot None live is = absurd (some_not_none live)
+    by_slot (Some b) live is = is
 
 pub written_keeps : (o : Option Buffer) (b c : Buffer) (w h n : ℕ) → o ≡ Some b → (IsBuffer w h n b → IsBuffer w h n c) → IfSome o (IsBuffer w h n) → IsBuffer w h n c
 written_keeps o b c w h n is keep old = keep (subst (λ (v : Option Buffer). IfSome v (IsBuffer w h n)) is old)
 
 -- a screen in the place of the shown one, with the same sides
-alt_same : {A : Type 0} (alternate : Bool) (s t h : Screen) (side : Page → A) (v : A) → side t.board ≡ side s.board → side (cond alternate s h).board ≡ v → side (cond alternate t h).board ≡ v
-alt_same true s t h side v same was = same ∙ was
-alt_same false s t h side v same was = was
+alt_side : (a : Bool) (old hidden : Screen) (side : Page → ℕ) (v : ℕ) → side (cond a old hidden).page ≡ v → a ≡ true → side old.page ≡ v
+alt_side true old hidden side v was is = was
+alt_side false old hidden side v was is = cc
 
-pub keeps_shown : (w h n : ℕ) (b : Buffer) (s : Screen) → IsBuffer w h n b → IsPage s.board → sides s.board ≡ sides b.shown.board → IsBuffer w h n (record b { shown = s })
-keeps_shown w h n b s is page same = record {
-  shown = record { page = page; wide = ap (λ (v : Sides). v.w) same ∙ is.shown.wide; tall = ap (λ (v : Sides). v.h) same ∙ is.shown.tall };
-  hidden = is.hidden;
-  columns = alt_same b.alternate b.shown s b.hidden (λ p. p.grid.width) w (ap (λ (v : Sides). v.width) same) is.columns;
-  rows = alt_same b.alternate b.shown s b.hidden (λ p. p.grid.height) h (ap (λ (v : Sides). v.height) same) is.rows;
-  born = is.born;
-}
+pub keeps_sides : (w h n : ℕ) (b : Buffer) (s : Screen) → IsBuffer w h n b → IsPage s.page → sides s.page ≡ sides b.shown.page → IsBuffer w h n (record b { shown = s })
+keeps_sides w h n b s is page same = keeps_shown w h n b s is
+    (record { page = page; wide = ap (λ (v : Sides). v.w) same ∙ is.shown.wide; tall = ap (λ (v : Sides). v.h) same ∙ is.shown.tall })
+    (λ e. (
+      ap (λ (v : Sides). v.width) same ∙ alt_side b.alternate b.shown b.hidden (λ p. p.grid.width) w is.columns e,
+      ap (λ (v : Sides). v.height) same ∙ alt_side b.alternate b.shown b.hidden (λ p. p.grid.height) h is.rows e,
+    ))
 
 -- ---- the first buffers
 

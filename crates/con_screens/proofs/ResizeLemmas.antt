@@ -1,5 +1,5 @@
 -- Resizing place after place.
-use Rattle.std.proofs.Common.{◌≡◌, ℕ, zero, suc, ◌+◌, ◌-◌, ◌<◌, ◌≤◌, inl, inr, Bool, true, false, not, cond, List, [], ◌∷◌, ◌++◌, map, length, get_or, set, Option, None, Some, refl, sym, ap, subst, ◌∙◌, arith}
+use Rattle.std.proofs.Common.{◌≡◌, ℕ, zero, suc, ◌+◌, ◌<◌, ◌≤◌, inl, inr, Bool, true, false, not, cond, List, [], ◌∷◌, ◌++◌, map, length, get_or, set, Option, None, Some, refl, sym, ap, subst, ◌∙◌, arith}
 use Rattle.std.specs.Prelude.{IfSome, IsSome}
 use Rattle.std.specs.Option.{option_map}
 use Rattle.std.proofs.lemmas.List.{get_or-set_same, get_or-set_other, length-set, get_or_push, get_or_past, get_or_default}
@@ -109,20 +109,20 @@ resized_pages window slots fits at now left so end = λ k. elim (cases_lt k at) 
 
 -- ---- the bounds
 
-refitted_window : (b : Bool) (window : Size) (s : Screen) → IsPage (screen_resized b window s).board → HasWindow (screen_resized b window s) window.w window.h
+refitted_window : (b : Bool) (window : Size) (s : Screen) → IsPage (screen_resized b window s).page → HasWindow (screen_resized b window s) window.w window.h
 unfolding refitted shown
 refitted_window b window s page = record { page = page; wide = refl; tall = refl }
 
-refitted_sides : (window : Size) (s : Screen) → ((screen_resized true window s).board.grid.width ≡ window.w) × ((screen_resized true window s).board.grid.height ≡ window.h)
+refitted_sides : (window : Size) (s : Screen) → ((screen_resized true window s).page.grid.width ≡ window.w) × ((screen_resized true window s).page.grid.height ≡ window.h)
 unfolding refitted shown
 refitted_sides window s = (refl, refl)
 
 alternate_sides : (alternate : Bool) (window : Size) (s t : Screen)
-    → ((cond alternate (screen_resized alternate window s) (screen_resized (not alternate) window t)).board.grid.width ≡ window.w) × ((cond alternate (screen_resized alternate window s) (screen_resized (not alternate) window t)).board.grid.height ≡ window.h)
+    → ((cond alternate (screen_resized alternate window s) (screen_resized (not alternate) window t)).page.grid.width ≡ window.w) × ((cond alternate (screen_resized alternate window s) (screen_resized (not alternate) window t)).page.grid.height ≡ window.h)
 alternate_sides true window s t = refitted_sides window s
 alternate_sides false window s t = refitted_sides window t
 
-pub buffer_resized_is : (w h n : ℕ) (window : Size) (b : Buffer) → IsBuffer w h n b → IsPage (buffer_resized window b).shown.board → IsPage (buffer_resized window b).hidden.board → IsBuffer window.w window.h n (buffer_resized window b)
+pub buffer_resized_is : (w h n : ℕ) (window : Size) (b : Buffer) → IsBuffer w h n b → IsPage (buffer_resized window b).shown.page → IsPage (buffer_resized window b).hidden.page → IsBuffer window.w window.h n (buffer_resized window b)
 buffer_resized_is w h n window b is shown hidden =
     let sides = alternate_sides b.alternate window b.shown b.hidden in
     record { shown = refitted_window b.alternate window b.shown shown; hidden = refitted_window (not b.alternate) window b.hidden hidden; columns = sides.0; rows = sides.1; born = is.born }

@@ -10,6 +10,7 @@ use Rattle.con_screen.specs.Written.{Stage, written, switches}
 use Rattle.con_screen.specs.Laws.{IsWrittenWhole}
 use Rattle.con_screen.specs.Alternate.{IsSwitchedWhole}
 use Rattle.con_screens.specs.Buffer.{IsBuffer, BufferStage, carried, turned, unit_written, written_on}
+use Rattle.con_screens.specs.Stamps.{remembered}
 use Rattle.con_screens.specs.declared.buffer.Buffer.{Buffer}
 
 abbrev pub stage : Buffer → Told → BufferStage
@@ -68,23 +69,25 @@ pub record WrittenSo (b : Buffer) (a : Answered) (us : List ℕ) (at : ℕ) (now
   pub stage : written_on b a.told (take at us) ≡ record { buffer = now; told = left.told }
   pub inside : at ≤ length us
   pub room : left.room + at ≡ a.room
-  pub shown : IsPage now.shown.board
-  pub hidden : IsPage now.hidden.board
+  pub shown : IsPage now.shown.page
+  pub hidden : IsPage now.hidden.page
   pub kept : (w h n : ℕ) → IsBuffer w h n b → IsBuffer w h n now
+  pub same : remembered now ≡ remembered b
 
-pub written_first : (b : Buffer) (a : Answered) (us : List ℕ) → IsPage b.shown.board → IsPage b.hidden.board → WrittenSo b a us 0 b a
-written_first b a us shown hidden = record { stage = written_on-none b a.told; inside = omega arith; room = omega arith; shown = shown; hidden = hidden; kept = λ w h n is. is }
+pub written_first : (b : Buffer) (a : Answered) (us : List ℕ) → IsPage b.shown.page → IsPage b.hidden.page → WrittenSo b a us 0 b a
+written_first b a us shown hidden = record { stage = written_on-none b a.told; inside = omega arith; room = omega arith; shown = shown; hidden = hidden; kept = λ w h n is. is; same = refl }
 
 pub written_more : (b : Buffer) (a : Answered) (us : List ℕ) (at n k : ℕ) (mid new : Buffer) (left after : Answered) → WrittenSo b a us at mid left → k ≡ length us - at → n ≤ k → k ≤ left.room
-    → written_on mid left.told (take n (take k (drop at us))) ≡ record { buffer = new; told = after.told } → after.room ≡ left.room - n → IsPage new.shown.board → IsPage new.hidden.board
-    → ((w h n : ℕ) → IsBuffer w h n mid → IsBuffer w h n new) → WrittenSo b a us (at + n) new after
-written_more b a us at n k mid new left after before all some enough more spent shown hidden kept = record {
+    → written_on mid left.told (take n (take k (drop at us))) ≡ record { buffer = new; told = after.told } → after.room ≡ left.room - n → IsPage new.shown.page → IsPage new.hidden.page
+    → ((w h n : ℕ) → IsBuffer w h n mid → IsBuffer w h n new) → remembered new ≡ remembered mid → WrittenSo b a us (at + n) new after
+written_more b a us at n k mid new left after before all some enough more spent shown hidden kept same = record {
   stage = written_on-more b a.told us at n k (record { buffer = mid; told = left.told }) (record { buffer = new; told = after.told }) (omega (arith, before.inside, all, some)) all before.stage more;
   inside = omega (arith, before.inside, all, some);
   room = omega (arith, before.room, spent, some, enough);
   shown = shown;
   hidden = hidden;
   kept = λ w h m is. kept w h m (before.kept w h m is);
+  same = same ∙ before.same;
 }
 
 -- at the end

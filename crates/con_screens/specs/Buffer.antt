@@ -17,21 +17,21 @@ alternate_screen b = if b.alternate then b.shown else b.hidden
 
 -- a screen of this window
 pub record HasWindow (s : Screen) (w h : ℕ) : Type 0 where
-  pub page : IsPage s.board
-  pub wide : s.board.w ≡ w
-  pub tall : s.board.h ≡ h
+  pub page : IsPage s.page
+  pub wide : s.page.w ≡ w
+  pub tall : s.page.h ≡ h
 
 -- both screens have the window's size, and the alternate one is no larger
 pub record IsBuffer (w h births : ℕ) (b : Buffer) : Type 0 where
   pub shown : HasWindow b.shown w h
   pub hidden : HasWindow b.hidden w h
-  pub columns : (alternate_screen b).board.grid.width ≡ w
-  pub rows : (alternate_screen b).board.grid.height ≡ h
+  pub columns : (alternate_screen b).page.grid.width ≡ w
+  pub rows : (alternate_screen b).page.grid.height ≡ h
   pub born : b.birth < births
 
 -- a screen as large as the window
 abbrev pub new_screen : ℕ → ℕ → Screen
-new_screen w h = let size : Size = record { w = w; h = h } in record { board = new_page size size; text = [] }
+new_screen w h = let size : Size = record { w = w; h = h } in record { page = new_page size size; text = [] }
 
 abbrev pub new_buffer : ℕ → ℕ → ℕ → ℕ → Buffer
 new_buffer w h handles birth = record { shown = new_screen w h; hidden = new_screen w h; alternate = false; handles = handles; birth = birth }
@@ -42,7 +42,7 @@ alternate_on b = if b.alternate then b else record b { shown = alternate_begun b
 
 -- the main screen comes to be shown as it was left, in the mode of the alternate one, unless it is shown
 abbrev pub alternate_off : Buffer → Buffer
-alternate_off b = if b.alternate then record b { shown = mode_taken b.hidden b.shown.board; hidden = b.shown; alternate = false } else b
+alternate_off b = if b.alternate then record b { shown = mode_taken b.hidden b.shown.page; hidden = b.shown; alternate = false } else b
 
 -- the screen that a switch says comes to be shown
 abbrev pub turned : Buffer → Option Bool → Buffer
@@ -68,3 +68,8 @@ written_on b t units = fold unit_written (record { buffer = b; told = t }) units
 
 abbrev pub buffer_written : Told → List ℕ → Buffer → Buffer
 buffer_written t units b = (written_on b t units).buffer
+
+-- what units tell that are written on a buffer, if there is one
+abbrev pub told_on : Option Buffer → Told → List ℕ → Told
+told_on None t units = t
+told_on (Some b) t units = (written_on b t units).told

@@ -1,8 +1,9 @@
 -- The screen buffers of a console.
-use Rattle.std.specs.Prelude.{ℕ, ◌≡◌, ◌+◌, ◌-◌, ◌<◌, ◌≤◌, ◌==◌, nat_le, List, ◌∷◌, replicate, ◌^◌, length, Option, None, Some, IsSome, IfSome, is_none, slice_index_or, slice_set, if◌then◌else◌}
+use Rattle.std.specs.Prelude.{ℕ, ◌≡◌, ◌+◌, ◌-◌, ◌<◌, ◌≤◌, ◌==◌, nat_le, Bool, false, List, ◌∷◌, replicate, ◌^◌, length, Option, None, Some, IsSome, IfSome, is_none, slice_index_or, slice_set, if◌then◌else◌}
 use Rattle.std.specs.List.{position}
 use Rattle.std.specs.Option.{option_map, option_map_or}
-use Rattle.con_screens.specs.Buffer.{IsBuffer, new_buffer}
+use Rattle.con_screen.specs.Screen.{Screen}
+use Rattle.con_screens.specs.Buffer.{IsBuffer, new_screen, new_buffer}
 use Rattle.con_screens.specs.declared.buffer.Buffer.{Buffer}
 
 pub record Buffers : Type 0 where
@@ -22,6 +23,18 @@ buffer_at s id = slice_index_or s.slots id None
 
 abbrev pub IsLive : Buffers → ℕ → Type 0
 IsLive s id = IsSome (buffer_at s id)
+
+-- the shown screen of a place; a blank one of the window's size where it has no buffer
+abbrev pub screen_in : Buffers → Option Buffer → Screen
+screen_in s None = new_screen s.w s.h
+screen_in s (Some b) = b.shown
+
+abbrev pub screen_at : Buffers → ℕ → Screen
+screen_at s id = screen_in s (buffer_at s id)
+
+-- whether a buffer shows its alternate screen
+abbrev pub is_alternate : Buffers → ℕ → Bool
+is_alternate s id = option_map_or (λ b. b.alternate) (buffer_at s id) false
 
 pub record AreBuffers (s : Buffers) : Type 0 where
   pub eight : length s.slots ≡ 8

@@ -1,8 +1,17 @@
+-- What a reader must believe: what the public clauses cite.
 pub mod Buffer
-pub mod Slot
 pub mod Buffers
 pub mod View
-pub mod Views
 pub mod Lending
 pub mod Resize
+pub mod Slot
+pub mod Stamps
+-- Laws, proved, for crates above.
+pub mod LentLaws
+pub mod HandleLaws
+pub mod ViewLaws
+pub mod StampLaws
+pub mod WrittenInTurn
+-- The code's own words.
+pub mod Views
 pub mod FitsView

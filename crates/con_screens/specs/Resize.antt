@@ -22,7 +22,7 @@ abbrev pub target : Bool → Page → Size → Size
 target is_alternate p window = if is_alternate then window else size_after p window
 
 abbrev pub screen_resized : Bool → Size → Screen → Screen
-screen_resized is_alternate window s = record s { board = refitted s.board (target is_alternate s.board window) window }
+screen_resized is_alternate window s = record s { page = refitted s.page (target is_alternate s.page window) window }
 
 -- both screens of a buffer, each by itself
 abbrev pub buffer_resized : Size → Buffer → Buffer
@@ -33,10 +33,10 @@ abbrev pub all_resized : Buffers → Size → Buffers
 all_resized s window = record s { slots = map (option_map (buffer_resized window)) s.slots; w = window.w; h = window.h }
 
 pub record IsBufferFit (window : Size) (b : Buffer) (f : BufferFit) : Type 0 where
-  pub shown : IsFit b.shown.board f.shown
-  pub hidden : IsFit b.hidden.board f.hidden
-  pub shown_buffer : f.shown.buffer ≡ target b.alternate b.shown.board window
-  pub hidden_buffer : f.hidden.buffer ≡ target (not b.alternate) b.hidden.board window
+  pub shown : IsFit b.shown.page f.shown
+  pub hidden : IsFit b.hidden.page f.hidden
+  pub shown_buffer : f.shown.buffer ≡ target b.alternate b.shown.page window
+  pub hidden_buffer : f.hidden.buffer ≡ target (not b.alternate) b.hidden.page window
   pub shown_window : f.shown.window ≡ window
   pub hidden_window : f.hidden.window ≡ window
 

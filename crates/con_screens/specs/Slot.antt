@@ -1,19 +1,13 @@
 -- The place of one buffer.
-use Rattle.std.specs.Prelude.{ℕ, List, Option, None, Some, IfSome}
+use Rattle.std.specs.Prelude.{ℕ, Option, None, Some, IfSome}
 use Rattle.con_screen.specs.Page.{IsPage}
-use Rattle.con_screen.specs.Told.{Told}
-use Rattle.con_screens.specs.Buffer.{IsBuffer, HasWindow, written_on}
+use Rattle.con_screens.specs.Buffer.{IsBuffer, HasWindow}
 use Rattle.con_screens.specs.declared.buffer.Buffer.{Buffer}
 
 -- both screens, if there is a buffer, are within their bounds
 abbrev pub HasPages : Option Buffer → Type 0
 HasPages None = Unit {0}
-HasPages (Some b) = IsPage b.shown.board × IsPage b.hidden.board
-
--- what units tell that are written on it
-abbrev pub told_on : Option Buffer → Told → List ℕ → Told
-told_on None t units = t
-told_on (Some b) t units = (written_on b t units).told
+HasPages (Some b) = IsPage b.shown.page × IsPage b.hidden.page
 
 -- a buffer stays within bounds
 abbrev pub Keeps : Option Buffer → Option Buffer → Type 0

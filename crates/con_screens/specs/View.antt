@@ -1,19 +1,15 @@
 -- What a console shows.
-use Rattle.std.specs.Prelude.{ℕ, zero, suc, pos, ◌+◌, ◌-◌, ◌*◌, Bool, nat_le, nat_lt, ◌&&◌, List, [], ◌++◌, take, drop, if◌then◌else◌}
+use Rattle.std.specs.Prelude.{ℕ, zero, suc, pos, ◌+◌, ◌-◌, Bool, nat_le, nat_lt, ◌&&◌, List, [], ◌++◌, if◌then◌else◌}
 use Rattle.con_units.specs.Glyph.{Glyph}
 use Rattle.con_units.specs.declared.place.Coord.{Coord}
+use Rattle.con_units.specs.View.{row_part}
 use Rattle.con_units.specs.declared.view.View.{View}
-use Rattle.con_grid.specs.Picture.{Picture}
 use Rattle.con_screen.specs.Page.{Page}
 
--- a window's part of a row of a grid
-abbrev pub row_in : Picture → ℕ → ℕ → ℕ → List Glyph
-row_in g left w y = take w (drop (y * g.width + left) g.cells)
-
--- a window's first n rows, from the row `top` on, one after the other
-abbrev pub rows_in : Picture → ℕ → ℕ → ℕ → ℕ → List Glyph
-rows_in g left top w zero = []
-rows_in g left top w (suc n) = rows_in g left top w n ++ row_in g left w (top + n)
+-- a window's first n rows, from the row `top` on, one after the other, in cells of a width
+abbrev pub rows_in : ℕ → List Glyph → ℕ → ℕ → ℕ → ℕ → List Glyph
+rows_in width cells left top w zero = []
+rows_in width cells left top w (suc n) = rows_in width cells left top w n ++ row_part width cells left w (top + n)
 
 -- whether a column or a row is one of so many from another on
 abbrev pub is_from : ℕ → ℕ → ℕ → Bool
@@ -29,4 +25,4 @@ cursor_in p = if cursor_shown p then record { x = pos (p.x - p.left); y = pos (p
 
 -- the window of a screen, cell by cell
 abbrev pub view_of : Page → View
-view_of p = record { size = record { w = p.w; h = p.h }; rows = rows_in p.grid p.left p.top p.w p.h; cursor = cursor_in p; visible = cursor_shown p }
+view_of p = record { size = record { w = p.w; h = p.h }; rows = rows_in p.grid.width p.grid.cells p.left p.top p.w p.h; cursor = cursor_in p; visible = cursor_shown p }

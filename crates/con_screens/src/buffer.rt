@@ -2,6 +2,7 @@
 ghost use Rattle.std.specs.Prelude.{◌≡◌, ℕ, ◌-◌, ◌+◌, ◌<◌, ◌≤◌, true, false, length, take, IfOk};
 ghost use Rattle.con_screen.specs.Page.{IsPage};
 ghost use Rattle.con_screens.specs.Buffer.{IsBuffer, new_buffer, alternate_on, alternate_off, turned, written_on, buffer_written};
+ghost use Rattle.con_screens.specs.Stamps.{remembered};
 
 use con_screen::{Answers, Screen, is_switched_whole, is_written_whole};
 use con_units::{OutOfMemory, Size};
@@ -52,12 +53,13 @@ impl Buffer {
     }
 
     pub(crate) fn alternate_on(&mut self)
-        requires shown { IsPage self.old.shown.board }
-        requires hidden { IsPage self.old.hidden.board }
+        requires shown { IsPage self.old.shown.page }
+        requires hidden { IsPage self.old.hidden.page }
         ensures buffer { self.new ≡ alternate_on self.old }
-        ensures shown_page { IsPage self.new.shown.board }
-        ensures hidden_page { IsPage self.new.hidden.board }
+        ensures shown_page { IsPage self.new.shown.page }
+        ensures hidden_page { IsPage self.new.hidden.page }
         ensures kept { (w h births : ℕ) → IsBuffer w h births self.old → IsBuffer w h births self.new }
+        ensures remembered { remembered self.new ≡ remembered self.old }
     {
         if !self.alternate {
             self.hidden.begin_alternate(&self.shown);
@@ -67,12 +69,13 @@ impl Buffer {
     }
 
     pub(crate) fn alternate_off(&mut self)
-        requires shown { IsPage self.old.shown.board }
-        requires hidden { IsPage self.old.hidden.board }
+        requires shown { IsPage self.old.shown.page }
+        requires hidden { IsPage self.old.hidden.page }
         ensures buffer { self.new ≡ alternate_off self.old }
-        ensures shown_page { IsPage self.new.shown.board }
-        ensures hidden_page { IsPage self.new.hidden.board }
+        ensures shown_page { IsPage self.new.shown.page }
+        ensures hidden_page { IsPage self.new.hidden.page }
         ensures kept { (w h births : ℕ) → IsBuffer w h births self.old → IsBuffer w h births self.new }
+        ensures remembered { remembered self.new ≡ remembered self.old }
     {
         if self.alternate {
             self.hidden.take_mode(&self.shown);
@@ -82,12 +85,13 @@ impl Buffer {
     }
 
     fn turn(&mut self, on: Option<bool>)
-        requires shown { IsPage self.old.shown.board }
-        requires hidden { IsPage self.old.hidden.board }
+        requires shown { IsPage self.old.shown.page }
+        requires hidden { IsPage self.old.hidden.page }
         ensures buffer { self.new ≡ turned self.old on }
-        ensures shown_page { IsPage self.new.shown.board }
-        ensures hidden_page { IsPage self.new.hidden.board }
+        ensures shown_page { IsPage self.new.shown.page }
+        ensures hidden_page { IsPage self.new.hidden.page }
         ensures kept { (w h births : ℕ) → IsBuffer w h births self.old → IsBuffer w h births self.new }
+        ensures remembered { remembered self.new ≡ remembered self.old }
     {
         match on {
             None => {}
@@ -103,17 +107,18 @@ impl Buffer {
 
     // Writes some units, at least one, and shows the other screen where the last of them says so.
     fn write_some(&mut self, units: &[u16], answers: &mut Answers) -> usize
-        requires shown { IsPage self.old.shown.board }
-        requires hidden { IsPage self.old.hidden.board }
+        requires shown { IsPage self.old.shown.page }
+        requires hidden { IsPage self.old.hidden.page }
         requires some { 0 < length units.now }
         requires room { length units.now ≤ answers.old.room }
         ensures stage { written_on self.old answers.old.told (take result units.now) ≡ record { buffer = self.new; told = answers.new.told } }
         ensures spent { answers.new.room ≡ answers.old.room - result }
         ensures count { 0 < result }
         ensures inside { result ≤ length units.now }
-        ensures shown_page { IsPage self.new.shown.board }
-        ensures hidden_page { IsPage self.new.hidden.board }
+        ensures shown_page { IsPage self.new.shown.page }
+        ensures hidden_page { IsPage self.new.hidden.page }
         ensures kept { (w h births : ℕ) → IsBuffer w h births self.old → IsBuffer w h births self.new }
+        ensures remembered { remembered self.new ≡ remembered self.old }
     {
         is_written_whole();
         is_switched_whole();
@@ -125,12 +130,13 @@ impl Buffer {
     }
 
     pub(crate) fn write(&mut self, units: &[u16], answers: &mut Answers)
-        requires shown { IsPage self.old.shown.board }
-        requires hidden { IsPage self.old.hidden.board }
+        requires shown { IsPage self.old.shown.page }
+        requires hidden { IsPage self.old.hidden.page }
         requires room { length units.now ≤ answers.old.room }
         ensures buffer { self.new ≡ buffer_written answers.old.told units.now self.old }
         ensures answers { answers.new ≡ record { told = (written_on self.old answers.old.told units.now).told; room = answers.old.room - length units.now } }
         ensures kept { (w h births : ℕ) → IsBuffer w h births self.old → IsBuffer w h births self.new }
+        ensures remembered { remembered self.new ≡ remembered self.old }
     {
         let mut at = 0;
         while at < units.len() {

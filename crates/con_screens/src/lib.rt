@@ -15,23 +15,25 @@
 //! - [`Screens::view`] is the window of the active buffer (`specs/View.antt`).
 //!
 //! Every call needs buffers within their bounds (`AreBuffers`) and leaves such; [`Screens::screen_mut`] lends a screen
-//! that must keep its window's size. Only `new`,
-//! `create_room` and `resize_room` take memory. Handles are counted here, not named: who
+//! that must keep its window's size, and [`is_kept_when_lent`] says that one with the same sides leaves such buffers too.
+//! [`is_counted`], [`is_written_in_turn`] and [`is_seen_by_rows`] are the laws of handles, of texts in parts and of the
+//! rows of a view. Only `new`, `create_room` and `resize_room` take memory. Handles are counted here, not named: who
 //! holds them is another crate's.
 #![tactic(auto)]
 
 mod buffer;
 mod fits;
+mod laws;
 mod resize;
-#[cfg(test)]
-mod resize_tests;
 mod room;
 mod screens;
+mod shows;
 mod slot;
-#[cfg(test)]
-mod tests;
 mod view;
 
 pub use fits::AllFits;
+pub use laws::{
+    is_counted, is_kept_when_lent, is_known_when_numbered, is_seen_by_rows, is_written_in_turn,
+};
 pub use room::NewBuffer;
 pub use screens::Screens;

@@ -22,12 +22,12 @@ fn side_after(side: u16, old: u16, new: u16) -> u16
 
 // The size of a screen's buffer after the window's old size becomes another one.
 fn target(alternate: bool, screen: &Screen, old: Size, window: Size) -> Size
-    requires page { IsPage screen.now.board }
-    requires wide { old.w ≡ screen.now.board.w }
-    requires tall { old.h ≡ screen.now.board.h }
+    requires page { IsPage screen.now.page }
+    requires wide { old.w ≡ screen.now.page.w }
+    requires tall { old.h ≡ screen.now.page.h }
     requires some { (0 < window.w) × (0 < window.h) }
     requires few { (window.w ≤ 512) × (window.h ≤ 256) }
-    ensures size { result ≡ target alternate screen.now.board window }
+    ensures size { result ≡ target alternate screen.now.page window }
     ensures sizes { AreSizes result window }
 {
     let size = screen.grid().size();
@@ -74,12 +74,12 @@ pub fn fit_slot(
 }
 
 fn resize_buffer(buffer: &mut Buffer, fit: BufferFit, window: Size)
-    requires shown { IsPage buffer.old.shown.board }
-    requires hidden { IsPage buffer.old.hidden.board }
+    requires shown { IsPage buffer.old.shown.page }
+    requires hidden { IsPage buffer.old.hidden.page }
     requires fit { IsBufferFit window buffer.old fit }
     ensures buffer { buffer.new ≡ buffer_resized window buffer.old }
-    ensures shown_page { IsPage buffer.new.shown.board }
-    ensures hidden_page { IsPage buffer.new.hidden.board }
+    ensures shown_page { IsPage buffer.new.shown.page }
+    ensures hidden_page { IsPage buffer.new.hidden.page }
 {
     let BufferFit { shown, hidden } = fit;
     buffer.shown.resize(shown);

@@ -1,16 +1,16 @@
 //! All buffers of a console.
-ghost use Rattle.std.specs.Prelude.{◌≡◌, ◌≢◌, ℕ, ◌+◌, ◌-◌, ◌*◌, ◌<◌, ◌≤◌, ◌^◌, Some, None, [], false, length, replicate, is_none, is_some, IsSome, IfSome, IfOk, IfErr, vec_capacity};
+ghost use Rattle.std.specs.Prelude.{◌≡◌, ◌≢◌, ◌↔◌, ℕ, ◌+◌, ◌-◌, ◌*◌, ◌<◌, ◌≤◌, ◌^◌, Some, None, [], true, false, length, replicate, is_none, is_some, IsSome, IfSome, IfOk, IfErr, vec_capacity};
 ghost use Rattle.std.specs.List.{position};
 ghost use Rattle.std.specs.Option.{option_map_or};
 ghost use Rattle.con_units.specs.declared.code.Code.TheVariants.{Limit};
-ghost use Rattle.con_screens.specs.Buffer.{new_buffer, alternate_on, alternate_off, buffer_written};
-ghost use Rattle.con_screens.specs.Slot.{told_on};
+ghost use Rattle.con_screens.specs.Buffer.{HasWindow, new_buffer, alternate_on, alternate_off, buffer_written, told_on};
 ghost use Rattle.con_screens.specs.Buffers.{first_buffers};
 
 use crate::buffer::Buffer;
 use crate::fits::AllFits;
 use crate::resize::{fit_slots, resize_slots};
 use crate::room::NewBuffer;
+use crate::shows::{is_stamped, shows_view};
 use crate::slot;
 use crate::view::window_of;
 use con_screen::{Answers, Screen};
@@ -40,10 +40,13 @@ impl Model for Screens {
 
 impl Screens {
     ghost use Rattle.std.specs.Borrow.{sem};
-    ghost use Rattle.con_screens.specs.Buffers.{AreBuffers, IsLive, IsRoom, buffer_at, free_id, created, handles_of, handle_retained, handle_released, with_buffer};
-    ghost use Rattle.con_screens.specs.Lending.{LendsScreen};
+    ghost use Rattle.con_screens.specs.Buffers.{AreBuffers, IsLive, IsRoom, buffer_at, screen_at, is_alternate, free_id, created, handles_of, handle_retained, handle_released, with_buffer};
+    ghost use Rattle.con_screen.specs.Alternate.{sides};
+    ghost use Rattle.con_screens.specs.Lending.{LendsScreen, screen_left};
     ghost use Rattle.con_screens.specs.Resize.{AreFits, all_resized};
+    ghost use Rattle.con_units.specs.View.{IsWhole};
     ghost use Rattle.con_screens.specs.View.{view_of};
+    ghost use Rattle.con_screens.specs.Stamps.{WasShown, IsAsShown, all_remembered, numbered};
 
     /// The buffers of a new console: the main one, as large as the window, and active.
     pub fn new(alloc: Global, window: Size) -> Result<Screens, OutOfMemory>
@@ -118,6 +121,7 @@ impl Screens {
         requires live { IsLive self.old id.0 }
         ensures buffers { self.new ≡ record self.old { active = id.0 } }
         ensures kept { AreBuffers self.new }
+        ensures remembered { all_remembered self.new ≡ all_remembered self.old }
     {
         self.active = id.0;
     }
@@ -141,6 +145,7 @@ impl Screens {
         requires few { id.0 ≢ 0 → handles_of self.old id.0 < 65535 }
         ensures buffers { self.new ≡ handle_retained self.old id.0 }
         ensures kept { AreBuffers self.new }
+        ensures remembered { all_remembered self.new ≡ all_remembered self.old }
     {
         if id.0 == 0 {
             return;
@@ -177,7 +182,7 @@ impl Screens {
     pub fn alternate_shown(&self, id: BufferId) -> bool
         requires buffers { AreBuffers self.now }
         requires live { IsLive self.now id.0 }
-        ensures { result ≡ option_map_or (λ b. b.alternate) (buffer_at self.now id.0) false }
+        ensures { result ≡ is_alternate self.now id.0 }
     {
         slot::is_alternate(&self.slots[id.0 as usize])
     }
@@ -195,7 +200,9 @@ impl Screens {
     pub fn screen(&self, id: BufferId) -> &Screen
         requires buffers { AreBuffers self.now }
         requires live { IsLive self.now id.0 }
-        ensures { IfSome (buffer_at self.now id.0) (λ b. result.now ≡ b.shown) }
+        ensures shown { IfSome (buffer_at self.now id.0) (λ b. result.now ≡ b.shown) }
+        ensures screen { result.now ≡ screen_at self.now id.0 }
+        ensures window { HasWindow result.now self.now.w self.now.h }
     {
         slot::screen(&self.slots[id.0 as usize])
     }
@@ -203,6 +210,17 @@ impl Screens {
     /// The screen of a buffer that is shown, to be changed. Every later call needs that it has a window of the size that
     /// it had and, where it is the alternate screen, a buffer of that size.
     pub fn screen_mut(&mut self, id: BufferId) -> &mut Screen
+        requires buffers { AreBuffers self.old }
+        requires live { IsLive self.old id.0 }
+        ensures* lends { sem 𝓛 (LendsScreen self.entry id.0 result) }
+        ensures shown { IfSome (buffer_at self.old id.0) (λ b. result.now ≡ b.shown) }
+        ensures screen { result.now ≡ screen_at self.old id.0 }
+        ensures window { HasWindow result.now self.old.w self.old.h }
+    {
+        self.lend(id)
+    }
+
+    fn lend(&mut self, id: BufferId) -> &mut Screen
         requires buffers { AreBuffers self.old }
         requires live { IsLive self.old id.0 }
         ensures* lends { sem 𝓛 (LendsScreen self.entry id.0 result) }
@@ -220,6 +238,7 @@ impl Screens {
         ensures buffers { self.new ≡ with_buffer self.old id.0 (buffer_written answers.old.told units.now) }
         ensures answers { answers.new ≡ record { told = told_on (buffer_at self.old id.0) answers.old.told units.now; room = answers.old.room - length units.now } }
         ensures kept { AreBuffers self.new }
+        ensures remembered { all_remembered self.new ≡ all_remembered self.old }
     {
         slot::write_in(&mut self.slots[id.0 as usize], units, answers);
     }
@@ -230,6 +249,7 @@ impl Screens {
         requires live { IsLive self.old id.0 }
         ensures buffers { self.new ≡ with_buffer self.old id.0 alternate_on }
         ensures kept { AreBuffers self.new }
+        ensures remembered { all_remembered self.new ≡ all_remembered self.old }
     {
         slot::alternate_on_in(&mut self.slots[id.0 as usize]);
     }
@@ -240,6 +260,7 @@ impl Screens {
         requires live { IsLive self.old id.0 }
         ensures buffers { self.new ≡ with_buffer self.old id.0 alternate_off }
         ensures kept { AreBuffers self.new }
+        ensures remembered { all_remembered self.new ≡ all_remembered self.old }
     {
         slot::alternate_off_in(&mut self.slots[id.0 as usize]);
     }
@@ -249,10 +270,65 @@ impl Screens {
         requires buffers { AreBuffers self.now }
         requires empty { rows.items ≡ [] }
         requires spare { self.now.w * self.now.h ≤ vec_capacity rows }
-        ensures { IfSome (buffer_at self.now self.now.active) (λ b. result ≡ view_of b.shown.board) }
+        ensures shown { IfSome (buffer_at self.now self.now.active) (λ b. result ≡ view_of b.shown.page) }
+        ensures view { result ≡ view_of (screen_at self.now self.now.active).page }
+        ensures whole { IsWhole result }
+        ensures size { (result.size.w ≡ self.now.w) × (result.size.h ≡ self.now.h) }
     {
         let shown = slot::screen(&self.slots[self.active as usize]);
-        window_of(shown, self.w as usize, self.h as usize, rows)
+        let window = Size {
+            w: self.w,
+            h: self.h,
+        };
+        window_of(shown, window, rows)
+    }
+
+    /// Raises the number of a buffer's shown screen, or leaves it. Where it is raised, the view at this moment is known
+    /// (`WasShown`) until the screen is resized.
+    pub fn set_now(&mut self, id: BufferId, number: u64)
+        requires buffers { AreBuffers self.old }
+        requires live { IsLive self.old id.0 }
+        requires risen { (screen_at self.old id.0).page.grid.now ≤ number }
+        ensures buffers { self.new ≡ screen_left self.old id.0 (numbered (screen_at self.old id.0) number) }
+        ensures kept { AreBuffers self.new }
+        ensures view { view_of (screen_at self.new id.0).page ≡ view_of (screen_at self.old id.0).page }
+        ensures shown { (screen_at self.old id.0).page.grid.now < number → WasShown (sides (screen_at self.new id.0).page) (screen_at self.new id.0).page.left (screen_at self.new id.0).page.top (view_of (screen_at self.old id.0).page) }
+    {
+        self.raise(id, number);
+    }
+
+    fn raise(&mut self, id: BufferId, number: u64)
+        requires buffers { AreBuffers self.old }
+        requires live { IsLive self.old id.0 }
+        requires risen { (screen_at self.old id.0).page.grid.now ≤ number }
+        ensures buffers { self.new ≡ screen_left self.old id.0 (numbered (screen_at self.old id.0) number) }
+        ensures kept { AreBuffers self.new }
+    {
+        self.screen_mut(id).grid_mut().set_now(number);
+    }
+
+    /// Whether the console shows this view. Where it is known to have been shown when the number of the active buffer's
+    /// screen was last raised, at the window's present place, only rows that are stamped with the number are looked at.
+    pub fn shows(&self, last: &View, known: bool) -> bool
+        requires buffers { AreBuffers self.now }
+        requires known { known ≡ true → WasShown (sides (screen_at self.now self.now.active).page) (screen_at self.now self.now.active).page.left (screen_at self.now self.now.active).page.top last.now }
+        ensures exact { (result ≡ true) ↔ (view_of (screen_at self.now self.now.active).page ≡ last.now) }
+    {
+        let window = Size {
+            w: self.w,
+            h: self.h,
+        };
+        shows_view(self.screen(self.active()), window, last, known)
+    }
+
+    /// Whether a row of the window may differ from that of the view that was shown when the number of the active
+    /// buffer's screen was last raised.
+    pub fn is_marked(&self, y: u16) -> bool
+        requires buffers { AreBuffers self.now }
+        requires inside { y < self.now.h }
+        ensures same { result ≡ false → IsAsShown (screen_at self.now self.now.active).page y }
+    {
+        is_stamped(self.screen(self.active()), y)
     }
 
     /// Takes the memory of a resize of the window in every buffer.

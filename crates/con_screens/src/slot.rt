@@ -3,9 +3,10 @@ ghost use Rattle.std.specs.Prelude.{◌≡◌, ◌<◌, ◌≤◌, ◌-◌, fals
 ghost use Rattle.std.specs.List.{position};
 ghost use Rattle.std.specs.Option.{option_map, option_map_or};
 ghost use Rattle.con_screen.specs.Page.{IsPage};
-ghost use Rattle.con_screens.specs.Buffer.{alternate_on, alternate_off, buffer_written};
+ghost use Rattle.con_screens.specs.Buffer.{alternate_on, alternate_off, buffer_written, told_on};
 ghost use Rattle.con_screens.specs.Buffers.{with_handles};
-ghost use Rattle.con_screens.specs.Slot.{HasPages, Keeps, told_on};
+ghost use Rattle.con_screens.specs.Slot.{HasPages, Keeps};
+ghost use Rattle.con_screens.specs.Stamps.{remembered};
 
 use crate::buffer::Buffer;
 use con_screen::{Answers, Screen};
@@ -34,7 +35,8 @@ pub fn handles(slot: &Option<Buffer>) -> u32
 }
 
 pub fn set_handles(slot: &mut Option<Buffer>, handles: u32)
-    ensures { slot.new ≡ option_map (with_handles handles) slot.old }
+    ensures slot { slot.new ≡ option_map (with_handles handles) slot.old }
+    ensures remembered { option_map remembered slot.new ≡ option_map remembered slot.old }
 {
     match slot {
         Some(buffer) => buffer.handles = handles,
@@ -74,6 +76,7 @@ pub fn alternate_on_in(slot: &mut Option<Buffer>)
     requires { HasPages slot.old }
     ensures slot { slot.new ≡ option_map alternate_on slot.old }
     ensures kept { Keeps slot.old slot.new }
+    ensures remembered { option_map remembered slot.new ≡ option_map remembered slot.old }
 {
     match slot {
         Some(buffer) => buffer.alternate_on(),
@@ -85,6 +88,7 @@ pub fn alternate_off_in(slot: &mut Option<Buffer>)
     requires { HasPages slot.old }
     ensures slot { slot.new ≡ option_map alternate_off slot.old }
     ensures kept { Keeps slot.old slot.new }
+    ensures remembered { option_map remembered slot.new ≡ option_map remembered slot.old }
 {
     match slot {
         Some(buffer) => buffer.alternate_off(),
@@ -99,6 +103,7 @@ pub fn write_in(slot: &mut Option<Buffer>, units: &[u16], answers: &mut Answers)
     ensures slot { slot.new ≡ option_map (buffer_written answers.old.told units.now) slot.old }
     ensures answers { answers.new ≡ record { told = told_on slot.old answers.old.told units.now; room = answers.old.room - length units.now } }
     ensures kept { Keeps slot.old slot.new }
+    ensures remembered { option_map remembered slot.new ≡ option_map remembered slot.old }
 {
     match slot {
         Some(buffer) => buffer.write(units, answers),

@@ -2,7 +2,7 @@
 ghost use Rattle.std.specs.Prelude.{◌≡◌, ℕ, ◌+◌, ◌-◌, ◌*◌, ◌<◌, ◌≤◌, ◌^◌, [], pos, vec_capacity};
 ghost use Rattle.con_grid.specs.Picture.{IsPicture};
 ghost use Rattle.con_screen.specs.Page.{IsPage};
-ghost use Rattle.con_screens.specs.View.{view_of, is_from, rows_in};
+ghost use Rattle.con_screens.specs.View.{view_of, is_from, rows_in, cursor_in, cursor_shown};
 
 use con_grid::Grid;
 use con_screen::Screen;
@@ -14,7 +14,7 @@ fn read_window(grid: &Grid, left: usize, top: usize, w: usize, h: usize, out: &m
     requires bottom { top + h ≤ grid.now.height }
     requires empty { out.old.items ≡ [] }
     requires spare { w * h ≤ vec_capacity out.old }
-    ensures { out.new.items ≡ rows_in grid.now left top w h }
+    ensures { out.new.items ≡ rows_in grid.now.width grid.now.cells left top w h }
 {
     let width = grid.size().w as usize;
     for y in 0..h {
@@ -42,33 +42,62 @@ fn coord(x: usize, y: usize) -> Coord
     }
 }
 
-/// The window of a screen, in a vector that has room for its cells.
-pub fn window_of(screen: &Screen, w: usize, h: usize, rows: Vec<Cell>) -> View
-    requires page { IsPage screen.now.board }
-    requires wide { w ≡ screen.now.board.w }
-    requires tall { h ≡ screen.now.board.h }
-    requires empty { rows.items ≡ [] }
-    requires spare { w * h ≤ vec_capacity rows }
-    ensures { result ≡ view_of screen.now.board }
+/// The column and row of a window's upper left cell.
+pub fn corner(screen: &Screen) -> (usize, usize)
+    requires { IsPage screen.now.page }
+    ensures left { result.0 ≡ screen.now.page.left }
+    ensures top { result.1 ≡ screen.now.page.top }
 {
     let info = screen.info();
-    let mut rows = rows;
+    (index_of(info.window.left), index_of(info.window.top))
+}
+
+/// The place of the cursor in the window, (0, 0) where it is not shown, and whether it is.
+pub fn cursor_of(screen: &Screen, size: Size) -> (Coord, bool)
+    requires page { IsPage screen.now.page }
+    requires wide { size.w ≡ screen.now.page.w }
+    requires tall { size.h ≡ screen.now.page.h }
+    ensures place { result.0 ≡ cursor_in screen.now.page }
+    ensures shown { result.1 ≡ cursor_shown screen.now.page }
+{
+    let info = screen.info();
     let left = index_of(info.window.left);
     let top = index_of(info.window.top);
     let x = index_of(info.cursor.x);
     let y = index_of(info.cursor.y);
-    read_window(screen.grid(), left, top, w, h, &mut rows);
-    let visible = info.visible && is_from(left, w, x) && is_from(top, h, y);
+    let visible = info.visible
+        && is_from(left, size.w as usize, x)
+        && is_from(top, size.h as usize, y);
     let cursor = if visible {
         coord(x - left, y - top)
     } else {
         coord(0, 0)
     };
+    (cursor, visible)
+}
+
+/// The window of a screen, in a vector that has room for its cells.
+pub fn window_of(screen: &Screen, size: Size, rows: Vec<Cell>) -> View
+    requires page { IsPage screen.now.page }
+    requires wide { size.w ≡ screen.now.page.w }
+    requires tall { size.h ≡ screen.now.page.h }
+    requires empty { rows.items ≡ [] }
+    requires spare { size.w * size.h ≤ vec_capacity rows }
+    ensures { result ≡ view_of screen.now.page }
+{
+    let mut rows = rows;
+    let (left, top) = corner(screen);
+    let (cursor, visible) = cursor_of(screen, size);
+    read_window(
+        screen.grid(),
+        left,
+        top,
+        size.w as usize,
+        size.h as usize,
+        &mut rows,
+    );
     View {
-        size: Size {
-            w: w as u16,
-            h: h as u16,
-        },
+        size,
         rows: Rows(rows),
         cursor,
         visible,

@@ -6,7 +6,7 @@ use Rattle.con_screens.proofs.ViewLemmas.{read_so, read_more, read_room}
 use Rattle.con_screens.proofs.view.read_window.Goals as goal
 
 pub loop-x-init : goal.loop-x-init
-loop-x-init c = (c.loop-y.invariant.0 ∙ sym (append-nil (rows_in c.args.grid.now c.args.left c.args.top c.args.w c.loop-y.y)), c.loop-y.invariant.1)
+loop-x-init c = (c.loop-y.invariant.0 ∙ sym (append-nil (rows_in c.args.grid.now.width c.args.grid.now.cells c.args.left c.args.top c.args.w c.loop-y.y)), c.loop-y.invariant.1)
 
 pub at-requires : goal.at-requires
 at-requires c =
@@ -34,4 +34,4 @@ loop-y-preserved c =
     let g = c.args.grid.now in
     let end : c.loop-x.x ≡ c.args.w = omega arith in
     let next : suc c.loop-y.y ≡ c.loop-y.y + 1 = omega arith in
-    (c.loop-x.invariant.0 ∙ ap (λ x. read_so g c.args.left c.args.top c.args.w x c.loop-y.y) end ∙ ap (λ y. rows_in g c.args.left c.args.top c.args.w y) next, c.loop-x.invariant.1)
+    (c.loop-x.invariant.0 ∙ ap (λ x. read_so g c.args.left c.args.top c.args.w x c.loop-y.y) end ∙ ap (λ y. rows_in g.width g.cells c.args.left c.args.top c.args.w y) next, c.loop-x.invariant.1)

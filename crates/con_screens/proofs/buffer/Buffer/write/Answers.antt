@@ -13,7 +13,7 @@ loop-at-preserved c =
     let u = c.args.units.now in
     let long : length (take (length u - c.loop-at.at) (drop c.loop-at.at u)) ≤ length u - c.loop-at.at = omega (arith, length-take (length u - c.loop-at.at) (drop c.loop-at.at u)) in
     written_more c.args.self.now c.args.answers.now u c.loop-at.at w.result (length u - c.loop-at.at) c.loop-at.self w.new.self c.loop-at.answers w.new.answers c.loop-at.invariant (omega arith)
-    (omega (arith, w.ensures.inside, long)) (omega (arith, c.loop-at.invariant.room, c.loop-at.invariant.inside, c.requires.room)) w.ensures.stage w.ensures.spent w.ensures.shown_page w.ensures.hidden_page w.ensures.kept
+    (omega (arith, w.ensures.inside, long)) (omega (arith, c.loop-at.invariant.room, c.loop-at.invariant.inside, c.requires.room)) w.ensures.stage w.ensures.spent w.ensures.shown_page w.ensures.hidden_page w.ensures.kept w.ensures.remembered
 
 pub returns-clause-buffer : goal.returns-clause-buffer
 returns-clause-buffer c = sym (ap (λ (s : BufferStage). s.buffer) (written_all c.args.self.now c.args.answers.now c.args.units.now c.loop-at.at c.loop-at.self c.loop-at.answers c.loop-at.invariant c.loop-at-test.false))
@@ -26,3 +26,6 @@ returns-clause-answers c =
 
 pub returns-clause-kept : goal.returns-clause-kept
 returns-clause-kept c = c.loop-at.invariant.kept
+
+pub returns-clause-remembered : goal.returns-clause-remembered
+returns-clause-remembered c = c.loop-at.invariant.same

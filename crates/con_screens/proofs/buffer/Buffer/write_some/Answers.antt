@@ -1,10 +1,11 @@
-use Rattle.std.proofs.Common.{◌≡◌, ◌∙◌, ap, sym, true, false, take}
+use Rattle.std.proofs.Common.{◌≡◌, ◌∙◌, ap, sym, take}
 use Rattle.con_screen.specs.Screen.{Screen}
 use Rattle.con_screen.specs.Told.{Told, Answered}
 use Rattle.con_screen.specs.Written.{written}
 use Rattle.con_screens.specs.Buffer.{turned}
 use Rattle.con_screens.specs.declared.buffer.Buffer.{Buffer}
-use Rattle.con_screens.proofs.KeepLemmas.{keeps_shown}
+use Rattle.con_screens.specs.StampLaws.{shown_remembered}
+use Rattle.con_screens.proofs.KeepLemmas.{keeps_sides}
 use Rattle.con_screens.proofs.WriteLemmas.{run_on, switch_one, staged}
 use Rattle.con_screens.proofs.buffer.Buffer.write_some.Goals as goal
 
@@ -21,7 +22,7 @@ returns-then-switched-clause-stage c =
 
 pub returns-then-switched-clause-kept : goal.returns-then-switched-clause-kept
 returns-then-switched-clause-kept c = λ w h n is.
-    c.turn.ensures.kept w h n (keeps_shown w h n c.args.self.now c.write_some-n.new.self is c.write_some-n.ensures.page c.write_some-n.ensures.sides)
+    c.turn.ensures.kept w h n (keeps_sides w h n c.args.self.now c.write_some-n.new.self is c.write_some-n.ensures.page c.write_some-n.ensures.sides)
 
 pub returns-else-switched-clause-stage : goal.returns-else-switched-clause-stage
 returns-else-switched-clause-stage c =
@@ -33,4 +34,10 @@ returns-else-switched-clause-stage c =
     run_on c.is_written_whole.ensures c.is_switched_whole.ensures b t us (sym e.switch ∙ c.if-switched.false) ∙ sym (staged _ _ _ _ (ap (λ (s : Screen). record b { shown = s }) e.screen) told)
 
 pub returns-else-switched-clause-kept : goal.returns-else-switched-clause-kept
-returns-else-switched-clause-kept c = λ w h n is. keeps_shown w h n c.args.self.now c.write_some-n.new.self is c.write_some-n.ensures.page c.write_some-n.ensures.sides
+returns-else-switched-clause-kept c = λ w h n is. keeps_sides w h n c.args.self.now c.write_some-n.new.self is c.write_some-n.ensures.page c.write_some-n.ensures.sides
+
+pub returns-then-switched-clause-remembered : goal.returns-then-switched-clause-remembered
+returns-then-switched-clause-remembered c = c.turn.ensures.remembered ∙ shown_remembered c.args.self.now c.write_some-n.new.self c.write_some-n.ensures.sides
+
+pub returns-else-switched-clause-remembered : goal.returns-else-switched-clause-remembered
+returns-else-switched-clause-remembered c = shown_remembered c.args.self.now c.write_some-n.new.self c.write_some-n.ensures.sides

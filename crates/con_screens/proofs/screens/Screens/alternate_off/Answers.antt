@@ -1,8 +1,9 @@
-use Rattle.std.proofs.Common.{sym, subst, ◌-◌}
+use Rattle.std.proofs.Common.{sym, subst, ap, ◌∙◌}
 use Rattle.con_screens.specs.Buffer.{alternate_off}
 use Rattle.con_screens.specs.Buffers.{Buffers, AreBuffers, IsLive}
 use Rattle.con_screens.specs.Views.{buffers_of}
-use Rattle.con_screens.proofs.KeepLemmas.{keeps_put}
+use Rattle.con_screens.specs.Stamps.{all_remembered}
+use Rattle.con_screens.proofs.KeepLemmas.{keeps_put, remembers_put}
 use Rattle.con_screens.proofs.screens.Screens.alternate_off.Goals as goal
 
 pub returns-clause-kept : goal.returns-clause-kept
@@ -11,3 +12,9 @@ returns-clause-kept c =
     let are : AreBuffers s = subst (λ (v : Buffers). AreBuffers v) (sym c.self.view_is) c.requires.buffers in
     let live : IsLive s c.args.id.0 = subst (λ (v : Buffers). IsLive v c.args.id.0) (sym c.self.view_is) c.requires.live in
     keeps_put s c.args.id.0 c.index_mut.result.now c.alternate_off_in.new.slot alternate_off are live c.index_mut.ensures.value c.alternate_off_in.ensures.slot c.alternate_off_in.ensures.kept
+
+pub returns-clause-remembered : goal.returns-clause-remembered
+returns-clause-remembered c =
+    let s : Buffers = buffers_of c.self.inside in
+    let live : IsLive s c.args.id.0 = subst (λ (v : Buffers). IsLive v c.args.id.0) (sym c.self.view_is) c.requires.live in
+    remembers_put s c.args.id.0 c.index_mut.result.now c.alternate_off_in.new.slot live c.index_mut.ensures.value c.alternate_off_in.ensures.remembered ∙ ap all_remembered c.self.view_is

@@ -1,7 +1,7 @@
 use Rattle.std.proofs.Common.{◌≡◌, sym, subst, ap, ℕ, ◌-◌}
 use Rattle.con_screens.specs.Buffers.{Buffers, AreBuffers, IsLive, with_handles}
 use Rattle.con_screens.specs.Views.{buffers_of}
-use Rattle.std.proofs.Common.{cond, true, false}
+use Rattle.std.proofs.Common.{cond}
 use Rattle.std.proofs.lemmas.Bool.{cond-true, cond-false, eq-eqb, ne_eqb}
 use Rattle.std.specs.Prelude.{◌==◌}
 use Rattle.con_screens.specs.Buffers.{gone}
@@ -30,5 +30,5 @@ returns-else-handles-le1-clause-kept c =
     let are : AreBuffers s = subst (λ (v : Buffers). AreBuffers v) (sym c.self.view_is) c.requires.buffers in
     let live : IsLive s c.args.id.0 = subst (λ (v : Buffers). IsLive v c.args.id.0) (sym c.self.view_is) c.requires.live in
     let k : ℕ = c.handles-handles.result - 1 in
-    keeps_put s c.args.id.0 c.index_mut-else-handles-le1.result.now c.set_handles.new.slot (with_handles k) are live c.index_mut-else-handles-le1.ensures.value c.set_handles.ensures
-    (keeps_number c.index_mut-else-handles-le1.result.now c.set_handles.new.slot k c.set_handles.ensures)
+    keeps_put s c.args.id.0 c.index_mut-else-handles-le1.result.now c.set_handles.new.slot (with_handles k) are live c.index_mut-else-handles-le1.ensures.value c.set_handles.ensures.slot
+    (keeps_number c.index_mut-else-handles-le1.result.now c.set_handles.new.slot k c.set_handles.ensures.slot)
