@@ -9,7 +9,7 @@ use Rattle.con_units.specs.ReadLaws.{read_so}
 use Rattle.con_units.specs.Utf8.{utf8, is_cut_character}
 use Rattle.con_vtgram.specs.Plain.{is_plain, PlainIsPrinted}
 use Rattle.con_vtgram.specs.declared.item.Item.TheVariants.{Print}
-use Rattle.con_term.specs.Page.{Screen}
+use Rattle.con_term.specs.Page.{Page}
 use Rattle.con_term.specs.Effect.{effect}
 use Rattle.con_term.specs.Run.{printed_next, all_printed}
 use Rattle.con_term.specs.Terminal.{Terminal}
@@ -51,18 +51,18 @@ plain_units : (bytes : List ℕ) → list_all is_plain bytes ≡ true → flat_m
 plain_units [] h = refl
 plain_units (b ∷ bs) h = let k = and_parts (is_plain b) (list_all is_plain bs) h in rw (one_unit b (plain_ascii b k.0)) (ap (λ xs. b ∷ xs) (plain_units bs k.1))
 
-prints_fold : (s : Screen) (us : List ℕ) → fold effect s (map (λ u. Print u) us) ≡ all_printed s us
+prints_fold : (s : Page) (us : List ℕ) → fold effect s (map (λ u. Print u) us) ≡ all_printed s us
 unfolding effect all_printed
 prints_fold s [] = refl
 prints_fold s (u ∷ us) = prints_fold (printed_next s u) us
 
 -- a run of printable ASCII
-pub plain_run : (t : Terminal) (screen : Screen) (bytes : List ℕ) → PlainIsPrinted → t.bytes ≡ [] → t.units ≡ [] → list_all is_plain bytes ≡ true → screen ≡ all_printed t.screen bytes
-    → record t { screen = screen } ≡ play t bytes
+pub plain_run : (t : Terminal) (page : Page) (bytes : List ℕ) → PlainIsPrinted → t.bytes ≡ [] → t.units ≡ [] → list_all is_plain bytes ≡ true → page ≡ all_printed t.page bytes
+    → record t { page = page } ≡ play t bytes
 unfolding play typed
-plain_run t screen bytes law none rest h e =
-    whole t screen none rest
-    ∙ sym (rw (none, rest, plain_split bytes h, plain_units bytes h, (law bytes h).items) (ap (λ s. record t { screen = s; bytes = []; units = [] }) (prints_fold t.screen bytes ∙ sym e)))
+plain_run t page bytes law none rest h e =
+    whole t page none rest
+    ∙ sym (rw (none, rest, plain_split bytes h, plain_units bytes h, (law bytes h).items) (ap (λ s. record t { page = s; bytes = []; units = [] }) (prints_fold t.page bytes ∙ sym e)))
   where
-    whole : (t : Terminal) (screen : Screen) → t.bytes ≡ [] → t.units ≡ [] → record t { screen = screen } ≡ record t { screen = screen; bytes = []; units = [] }
-    whole t screen none rest = rw (none, rest) refl
+    whole : (t : Terminal) (page : Page) → t.bytes ≡ [] → t.units ≡ [] → record t { page = page } ≡ record t { page = page; bytes = []; units = [] }
+    whole t page none rest = rw (none, rest) refl

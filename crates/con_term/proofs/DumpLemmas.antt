@@ -1,7 +1,7 @@
 -- The rows of a dump, one after another.
 use Rattle.std.proofs.Common.{◌≡◌, ℕ, suc, ◌+◌, ◌-◌, ◌*◌, List, [], ◌∷◌, ◌++◌, take, drop, refl, sym, ap, ◌∙◌, append_assoc, arith}
 use Rattle.con_units.specs.Glyph.{Glyph}
-use Rattle.con_term.specs.Dump.{row_line, run_lines, rows_text, runs_text}
+use Rattle.con_term.specs.Dump.{row_line, untold, run_lines, rows_text, runs_text}
 
 append_none : (xs : List ℕ) → xs ++ [] ≡ xs
 append_none [] = refl
@@ -23,7 +23,7 @@ unfolding rows_text
 rows_more old mid new w y cells h k = let e : y + 1 ≡ suc y = omega arith in
     k ∙ rw (h, slice_is y w cells, e) (append_assoc old (rows_text w cells y) (row_line (take w (drop (y * w) cells))))
 
-pub runs_more : (old mid new : List ℕ) (w y : ℕ) (cells : List Glyph) → mid ≡ old ++ runs_text w cells y → new ≡ mid ++ run_lines y 0 0 7 (take (y * w + w - y * w) (drop (y * w) cells)) → new ≡ old ++ runs_text w cells (y + 1)
+pub runs_more : (old mid new : List ℕ) (w y : ℕ) (cells : List Glyph) → mid ≡ old ++ runs_text w cells y → new ≡ mid ++ run_lines y 0 0 untold (take (y * w + w - y * w) (drop (y * w) cells)) → new ≡ old ++ runs_text w cells (y + 1)
 unfolding runs_text
 runs_more old mid new w y cells h k = let e : y + 1 ≡ suc y = omega arith in
-    k ∙ rw (h, slice_is y w cells, e) (append_assoc old (runs_text w cells y) (run_lines y 0 0 7 (take w (drop (y * w) cells))))
+    k ∙ rw (h, slice_is y w cells, e) (append_assoc old (runs_text w cells y) (run_lines y 0 0 untold (take w (drop (y * w) cells))))

@@ -1,9 +1,9 @@
 -- Cells that become one cell.
-use Rattle.std.proofs.Common.{◌≡◌, ℕ, Bool, true, map, zero, suc, ◌+◌, ◌-◌, ◌<◌, ◌≤◌, List, [], ◌∷◌, ◌++◌, length, get_or, set, take, drop, replicate, refl, sym, ap, ◌∙◌, append_assoc, arith, length-append, add-one, add-zero, length-drop}
+use Rattle.std.proofs.Common.{◌≡◌, ℕ, Bool, true, map, zero, suc, ◌+◌, ◌-◌, ◌<◌, ◌≤◌, List, [], ◌∷◌, ◌++◌, length, get_or, set, take, drop, replicate, refl, sym, ap, ◌∙◌, append_assoc, arith, length-append, add-one, add-zero}
 use Rattle.std.proofs.lemmas.Grind.{common_steps, replicate_next}
 use Rattle.std.specs.List.{list_all}
 use Rattle.std.proofs.lemmas.List.Folds.{list_all-append}
-use Rattle.std.proofs.lemmas.List.{length-replicate, length-take-le, take_at, take_more, map-append, length-map, take_all, take-append-drop}
+use Rattle.std.proofs.lemmas.List.{length-replicate, length-take-le, take_more, map-append, length-map, take-append-drop}
 use Rattle.std.proofs.Math.Seq.{set-append_seam, drop-cons}
 use Rattle.con_units.specs.Glyph.{Glyph}
 use Rattle.con_term.specs.Page.{filled}
@@ -36,18 +36,6 @@ filled-more cells from at c order inside =
     let more : at + 1 - from ≡ (at - from) + 1 = omega arith in
     rw (drop-cons cells at c inside, more, replicate_next (at - from) c, add-one)
     (set_at (take from cells ++ replicate (at - from) c) (get_or cells at c) (drop (suc at) cells) c at front ∙ regroup (take from cells) (replicate (at - from) c) (drop (suc at) cells) c)
-
--- the cells that were copied, and blanks behind them
-pub lifted_is : (from to mid after : List Glyph) (count : ℕ) (c : Glyph) → length to ≡ length from → count ≤ length from → mid ≡ take (length from - count) (drop count from)
-    → after ≡ filled (mid ++ drop (length from - count) to) (length from - count) (length from) c → after ≡ drop count from ++ replicate count c
-unfolding filled
-lifted_is from to mid after count c same most e filled_is =
-    let rest : length (drop count from) ≡ length from - count = omega (arith, length-drop {A = Glyph} count from) in
-    let behind : length (drop (length from - count) to) ≡ length to - (length from - count) = omega (arith, length-drop {A = Glyph} (length from - count) to) in
-    let whole : length (drop count from ++ drop (length from - count) to) ≤ length from = omega (arith, length-append (drop count from) (drop (length from - count) to), rest, behind, same) in
-    let gap : length from - (length from - count) ≡ count = omega arith in
-    let copied : mid ≡ drop count from = e ∙ take_all (length from - count) (drop count from) (omega (arith, rest)) in
-    filled_is ∙ rw (copied, take_at (drop count from) (drop (length from - count) to) (length from - count) rest, gap, drop_past (drop count from ++ drop (length from - count) to) (length from) whole) (append_none (drop count from ++ replicate count c))
 
 pasted_more : (cells : List Glyph) (from i : ℕ) (cs : List Glyph) (c : Glyph) → length cs ≡ i → from + i < length cells → set (pasted cells from cs) (from + i) c ≡ pasted cells from (cs ++ c ∷ [])
 unfolding pasted

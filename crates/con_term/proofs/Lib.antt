@@ -1,3 +1,5 @@
+pub mod BlockLemmas
+pub mod SgrLemmas
 pub mod FillLemmas
 pub mod RunLemmas
 pub mod AsciiLemmas

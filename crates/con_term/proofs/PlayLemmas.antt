@@ -10,16 +10,16 @@ use Rattle.con_units.specs.SplitLaws.{split_after-one}
 use Rattle.con_vtgram.specs.Text.{grammar}
 use Rattle.std.proofs.lemmas.Bool.Decides.{nat_tests}
 use Rattle.con_vtgram.specs.declared.item.Item.{Item}
-use Rattle.con_term.specs.Page.{Screen}
+use Rattle.con_term.specs.Page.{Page}
 use Rattle.con_term.specs.Effect.{effect}
 use Rattle.con_term.specs.Play.{units_of, typed, play}
 use Rattle.con_term.specs.Terminal.{Terminal}
 use Rattle.con_term.specs.PlayLaws.{typed-append, play-append}
 
-pub unit_any : (t : Terminal) (u : ℕ) (items : List Item) (screen : Screen) (tail : List ℕ) → items ≡ (next grammar t.units u).items → tail ≡ (next grammar t.units u).tail → screen ≡ fold effect t.screen items
-    → record t { screen = screen; units = tail } ≡ typed t (u ∷ [])
+pub unit_any : (t : Terminal) (u : ℕ) (items : List Item) (page : Page) (tail : List ℕ) → items ≡ (next grammar t.units u).items → tail ≡ (next grammar t.units u).tail → page ≡ fold effect t.page items
+    → record t { page = page; units = tail } ≡ typed t (u ∷ [])
 unfolding typed
-unit_any t u items screen tail is rest e = rw (split_after-one grammar t.units u, ← is, e, rest) refl
+unit_any t u items page tail is rest e = rw (split_after-one grammar t.units u, ← is, e, rest) refl
 
 pub pair : (t mid after : Terminal) (c : ℕ) → 0x10000 ≤ c → mid ≡ typed t ((0xD800 + (c - 0x10000) / 1024) ∷ []) → after ≡ typed mid ((0xDC00 + (c - 0x10000) % 1024) ∷ []) → after ≡ typed t (units_of c)
 unfolding units_of

@@ -3,23 +3,23 @@ use Rattle.std.specs.Prelude.{ℕ, ◌+◌, ◌-◌, ◌*◌, ◌==◌, min, max
 use Rattle.con_vtgram.specs.declared.item.Csi.{Csi}
 use Rattle.con_vtgram.specs.declared.item.Item.{Item}
 use Rattle.con_vtgram.specs.declared.item.Item.TheVariants as items
-use Rattle.con_term.specs.Page.{Screen, place}
+use Rattle.con_term.specs.Page.{Page, place}
 use Rattle.con_term.specs.Effect.{effect}
 
-abbrev pub display_cost : Screen → ℕ → ℕ
+abbrev pub display_cost : Page → ℕ → ℕ
 display_cost s n = if n == 0 then s.h * s.w - place s else if n == 1 then place s + 1 else if n == 2 then s.h * s.w else 0
 
-abbrev pub line_cost : Screen → ℕ → ℕ
+abbrev pub line_cost : Page → ℕ → ℕ
 line_cost s n = if n == 0 then s.w - s.x else if n == 1 then s.x + 1 else if n == 2 then s.w else 0
 
-unfoldable pub plain_cost : Screen → Csi → ℕ
+unfoldable pub plain_cost : Page → Csi → ℕ
 plain_cost s c = let n = slice_index c.params 0 in
     if c.last == 0x4A then display_cost s n
     else if c.last == 0x4B then line_cost s n
     else if c.last == 0x58 then min (max n 1) (s.w - s.x)
     else 0
 
-unfoldable pub cost : Screen → Item → ℕ
+unfoldable pub cost : Page → Item → ℕ
 cost s (items.Print u) = 1
 cost s (items.Control u) = 0
 cost s (items.Csi c) = if c.inter == 0 then (if c.private then 0 else plain_cost s c) else 0
@@ -28,6 +28,6 @@ cost s (items.Charset u) = 0
 cost s items.Title = 0
 
 -- the items, one after another
-abbrev pub costs : Screen → List Item → ℕ
+abbrev pub costs : Page → List Item → ℕ
 costs s [] = 0
 costs s (i ∷ is) = cost s i + costs (effect s i) is

@@ -1,8 +1,13 @@
--- What the pen writes.
+-- The pen, its attribute, and what one parameter of SGR makes of it.
 use Rattle.std.specs.Prelude.{ℕ, nat_lt, ◌+◌, ◌-◌, ◌*◌, ◌<◌, true, false, ◌==◌, if◌then◌else◌}
 use Rattle.std.specs.Int.{is_in_range}
+use Rattle.con_units.specs.Attr.{Attribute, shaded}
+use Rattle.con_units.specs.Shade.{near, IsNearest}
+use Rattle.con_units.specs.declared.shade.Shade.TheVariants as shade
 use Rattle.con_term.specs.Nibble.{nibble}
 use Rattle.con_term.specs.declared.pen.Pen.{Pen}
+use Rattle.con_term.specs.declared.pen.Layer.{Layer}
+use Rattle.con_term.specs.declared.pen.Layer.TheVariants.{Fore, Back}
 
 -- the bit of intensity, where a foreground lacks it
 abbrev pub lacking : ℕ → ℕ
@@ -12,10 +17,35 @@ lacking foreground = if nat_lt foreground 8 then 8 else 0
 abbrev pub word_of : Pen → ℕ
 word_of p = (if p.bold then lacking p.foreground else 0) + p.foreground + 16 * p.background + (if p.negative then 0x4000 else 0) + (if p.underline then 0x8000 else 0)
 
-abbrev pub starting_pen : Pen
-starting_pen = record { foreground = 7; background = 0; bold = false; underline = false; negative = false }
+-- what cells are written in: the word with the two shades
+abbrev pub attr_of : Pen → Attribute
+attr_of p = shaded (word_of p) p.fore p.back
 
--- one parameter
+abbrev pub starting_pen : Pen
+starting_pen = record { foreground = 7; background = 0; fore = shade.Plain; back = shade.Plain; bold = false; underline = false; negative = false }
+
+-- a layer in one of the sixteen colours
+abbrev pub in_colour : Pen → Layer → ℕ → Pen
+in_colour p Fore colour = record p { foreground = colour; fore = shade.Plain }
+in_colour p Back colour = record p { background = colour; back = shade.Plain }
+
+-- a layer in the colour of an index of 16 to 255
+abbrev pub in_shade : Pen → Layer → ℕ → Pen
+in_shade p Fore n = record p { foreground = near n; fore = shade.Index n }
+in_shade p Back n = record p { background = near n; back = shade.Index n }
+
+-- a parameter that names a colour: SGR, ECMA-48 8.3.117; 90 to 97 and 100 to 107, Console API, "Console Virtual Terminal Sequences", Text Formatting
+abbrev pub coloured : Pen → ℕ → Pen
+coloured p n =
+    if is_in_range 30 37 n then in_colour p Fore (nibble (n - 30))
+    else if n == 39 then in_colour p Fore 7
+    else if is_in_range 40 47 n then in_colour p Back (nibble (n - 40))
+    else if n == 49 then in_colour p Back 0
+    else if is_in_range 90 97 n then in_colour p Fore (nibble (n - 90) + 8)
+    else if is_in_range 100 107 n then in_colour p Back (nibble (n - 100) + 8)
+    else p
+
+-- one parameter by itself: SGR, ECMA-48 8.3.117
 unfoldable pub pen_after : Pen → ℕ → Pen
 pen_after p n =
     if n == 0 then starting_pen
@@ -25,15 +55,20 @@ pen_after p n =
     else if n == 24 then record p { underline = false }
     else if n == 7 then record p { negative = true }
     else if n == 27 then record p { negative = false }
-    else if is_in_range 30 37 n then record p { foreground = nibble (n - 30) }
-    else if n == 39 then record p { foreground = 7 }
-    else if is_in_range 40 47 n then record p { background = nibble (n - 40) }
-    else if n == 49 then record p { background = 0 }
-    else if is_in_range 90 97 n then record p { foreground = nibble (n - 90) + 8 }
-    else if is_in_range 100 107 n then record p { background = nibble (n - 100) + 8 }
+    else coloured p n
+
+-- colour n of the table of 256 for a layer: the sixteen first, as 30 to 37 and 90 to 97 (40 to 47 and 100 to 107) name them; then the indices; nothing above 255.
+-- 38;5;n and 48;5;n, Console API, "Console Virtual Terminal Sequences", Extended Colors
+unfoldable pub indexed : Pen → Layer → ℕ → Pen
+indexed p layer n =
+    if nat_lt n 8 then in_colour p layer (nibble n)
+    else if nat_lt n 16 then in_colour p layer (nibble (n - 8) + 8)
+    else if nat_lt n 256 then in_shade p layer n
     else p
 
--- both colours are one of sixteen
+-- both colours are one of sixteen, and the nearest to their shades
 pub record IsPen (p : Pen) : Type 0 where
   pub foreground : p.foreground < 16
   pub background : p.background < 16
+  pub fore : IsNearest p.fore p.foreground
+  pub back : IsNearest p.back p.background

@@ -14,7 +14,7 @@ units_of c = if nat_lt c 0x10000 then c ∷ [] else (0xD800 + (c - 0x10000) / 10
 -- the terminal after units
 unfoldable pub typed : Terminal → List ℕ → Terminal
 typed t us = let sequences = split_after grammar t.units us in
-    record t { screen = fold effect t.screen sequences.items; units = sequences.tail }
+    record t { page = fold effect t.page sequences.items; units = sequences.tail }
 
 -- the terminal after bytes, which are split whole into characters, and their units into items
 unfoldable pub play : Terminal → List ℕ → Terminal
@@ -23,4 +23,4 @@ play t bytes = let characters = split_after utf8 t.bytes bytes in
 
 -- how many cells the bytes print or erase
 unfoldable pub printed : Terminal → List ℕ → ℕ
-printed t bytes = costs t.screen (split_after grammar t.units (flat_map units_of (split_after utf8 t.bytes bytes).items)).items
+printed t bytes = costs t.page (split_after grammar t.units (flat_map units_of (split_after utf8 t.bytes bytes).items)).items

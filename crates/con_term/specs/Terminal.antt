@@ -2,36 +2,36 @@
 use Rattle.std.specs.Prelude.{◌≡◌, ℕ, pos, true, List, [], if◌then◌else◌}
 use Rattle.con_units.specs.declared.place.Coord.{Coord}
 use Rattle.con_units.specs.declared.view.View.{View}
-use Rattle.con_term.specs.Page.{Screen, IsScreen}
+use Rattle.con_term.specs.Page.{Page, IsPage}
 
--- a screen, the bytes that are no character yet, and the units that are no item yet
+-- a page, the bytes that are no character yet, and the units that are no item yet
 pub record Terminal : Type 0 where
-  pub screen : Screen
+  pub page : Page
   pub bytes : List ℕ
   pub units : List ℕ
 
 -- a terminal of this size, between sequences
 pub record IsTerminal (w h : ℕ) (t : Terminal) : Type 0 where
-  pub screen : IsScreen t.screen
-  pub wide : t.screen.w ≡ w
-  pub high : t.screen.h ≡ h
+  pub page : IsPage t.page
+  pub wide : t.page.w ≡ w
+  pub high : t.page.h ≡ h
   pub no_bytes : t.bytes ≡ []
   pub no_units : t.units ≡ []
 
 -- the terminal shows the view, between sequences
 pub record Shows (t : Terminal) (v : View) : Type 0 where
-  pub width : t.screen.w ≡ v.size.w
-  pub height : t.screen.h ≡ v.size.h
-  pub cells : t.screen.cells ≡ v.rows
-  pub visible : t.screen.visible ≡ v.visible
-  pub column : v.visible ≡ true → pos t.screen.x ≡ v.cursor.x
-  pub row : v.visible ≡ true → pos t.screen.y ≡ v.cursor.y
+  pub width : t.page.w ≡ v.size.w
+  pub height : t.page.h ≡ v.size.h
+  pub cells : t.page.cells ≡ v.rows
+  pub visible : t.page.visible ≡ v.visible
+  pub column : v.visible ≡ true → pos t.page.x ≡ v.cursor.x
+  pub row : v.visible ≡ true → pos t.page.y ≡ v.cursor.y
   pub no_bytes : t.bytes ≡ []
   pub no_units : t.units ≡ []
 
--- what a screen shows; a hidden cursor stands in the upper left cell
-abbrev pub cursor_of : Screen → Coord
+-- what a page shows; a hidden cursor stands in the upper left cell
+abbrev pub cursor_of : Page → Coord
 cursor_of s = if s.visible then record { x = pos s.x; y = pos s.y } else record { x = pos 0; y = pos 0 }
 
-abbrev pub view_of : Screen → View
+abbrev pub view_of : Page → View
 view_of s = record { size = record { w = s.w; h = s.h }; rows = s.cells; cursor = cursor_of s; visible = s.visible }

@@ -8,7 +8,6 @@ ghost use Rattle.con_term.specs.Run.{pasted};
 
 use con_units::{Attr, Cell};
 use con_vtgram::is_plain;
-use std::mem;
 
 /// Writes the cell from one place up to another.
 pub fn fill(cells: &mut [Cell], from: usize, upto: usize, cell: Cell)
@@ -21,6 +20,16 @@ pub fn fill(cells: &mut [Cell], from: usize, upto: usize, cell: Cell)
     }
 }
 
+/// Writes the cell from one place of a list up to another.
+pub fn fill_in(cells: &mut Vec<Cell>, from: usize, upto: usize, cell: Cell)
+    requires order { from ≤ upto }
+    requires inside { upto ≤ length cells.old.items }
+    ensures len { length cells.new.items ≡ length cells.old.items }
+    ensures cells { cells.new.items ≡ filled cells.old.items from upto cell }
+{
+    fill(cells.as_mut_slice(), from, upto, cell);
+}
+
 /// Copies the cells into an empty list that has room for them.
 pub fn copy_into(list: &mut Vec<Cell>, cells: &[Cell])
     requires none { list.old.items ≡ [] }
@@ -30,26 +39,15 @@ pub fn copy_into(list: &mut Vec<Cell>, cells: &[Cell])
     let _ = list.extend_from_slice(cells);
 }
 
-// The cells behind a count of them, and then as many of the new cell.
-fn lift_into(to: &mut [Cell], from: &[Cell], count: usize, cell: Cell)
-    requires same { length to.old ≡ length from.now }
-    requires inside { count ≤ length from.now }
-    ensures { to.new ≡ drop count from.now ++ replicate count cell }
+/// Copies the cells to the front, and fills the places behind them, of which there are so many.
+pub fn move_into(to: &mut [Cell], from: &[Cell], rest: usize, cell: Cell)
+    requires { length from.now + rest ≡ length to.old }
+    ensures { to.new ≡ from.now ++ replicate rest cell }
 {
-    let kept = from.len() - count;
-    to[..kept].copy_from_slice(&from[count..]);
-    fill(to, kept, from.len(), cell);
-}
-
-/// Lifts the cells by a count of places, and fills the last ones. The spare cells are used up.
-pub fn lift_cells(cells: &mut Vec<Cell>, spare: &mut Vec<Cell>, count: usize, cell: Cell)
-    requires same { length spare.old.items ≡ length cells.old.items }
-    requires inside { count ≤ length cells.old.items }
-    ensures cells { cells.new.items ≡ drop count cells.old.items ++ replicate count cell }
-    ensures spare { length spare.new.items ≡ length cells.old.items }
-{
-    lift_into(spare.as_mut_slice(), cells.as_slice(), count, cell);
-    mem::swap(cells, spare);
+    let kept = from.len();
+    let end = to.len();
+    to[..kept].copy_from_slice(from);
+    fill(to, kept, end, cell);
 }
 
 // Writes the bytes of printable ASCII at the front from a place on, one a cell, and tells how many.

@@ -1,14 +1,14 @@
-//! The text that tells what a screen shows.
+//! The text that tells what a page shows.
 ghost use Rattle.std.specs.Prelude.{◌≡◌, ◌+◌, ◌*◌, ◌<◌, ◌≤◌, ◌++◌, ◌∷◌, [], ◌==◌, List, length, OnOk, IfOk, take, drop};
+ghost use Rattle.con_units.specs.Decimal.{decimal};
 ghost use Rattle.con_units.specs.Glyph.{Glyph};
-ghost use Rattle.con_term.specs.Page.{Screen};
-ghost use Rattle.con_term.specs.Dump.{decimal, hex_digit, hex_word, head_line, row_units, row_line, run_line, run_lines, rows_text, runs_text, dump as dump_of};
+ghost use Rattle.con_term.specs.Dump.{hex_digit, hex_word, shade_text, attr_text, same_shade, same_attr, untold, head_line, row_units, row_line, run_line, run_lines, rows_text, runs_text, dump as dump_of};
 
 use crate::page::Page;
-use con_units::{Cell, Size};
+use con_units::{Attr, Cell, Shade, Size};
 use std::alloc::AllocError;
 
-#[tactic(auto, unfolding(crate::specs::Dump::decimal))]
+#[tactic(auto, unfolding(con_units::specs::Decimal::decimal))]
 fn number(out: &mut Vec<u16>, n: u16) -> Result<(), AllocError>
     requires few { n < 1000 }
     ensures { OnOk result (out.new.items ≡ out.old.items ++ decimal n) }
@@ -41,12 +41,63 @@ fn word(out: &mut Vec<u16>, word: u16) -> Result<(), AllocError>
     Ok(())
 }
 
+// The further word of a layer that has an index.
+#[tactic(auto, unfolding(crate::specs::Dump::shade_text))]
+fn shade(out: &mut Vec<u16>, letter: u16, of: Shade) -> Result<(), AllocError>
+    ensures { OnOk result (out.new.items ≡ out.old.items ++ shade_text letter of) }
+{
+    if let Shade::Index(index) = of {
+        out.push(0x20)?;
+        out.push(letter)?;
+        number(out, index as u16)?;
+    }
+    Ok(())
+}
+
+#[tactic(auto, unfolding(crate::specs::Dump::attr_text))]
+fn attr(out: &mut Vec<u16>, of: Attr) -> Result<(), AllocError>
+    ensures { OnOk result (out.new.items ≡ out.old.items ++ attr_text of) }
+{
+    word(out, of.bits())?;
+    shade(out, 0x66, of.fore())?;
+    shade(out, 0x62, of.back())?;
+    Ok(())
+}
+
+fn is_same_shade(a: Shade, b: Shade) -> bool
+    ensures { result ≡ same_shade a b }
+{
+    match a {
+        Shade::Plain => match b {
+            Shade::Plain => true,
+            Shade::Index(_) => false,
+        },
+        Shade::Index(m) => match b {
+            Shade::Plain => false,
+            Shade::Index(n) => m == n,
+        },
+    }
+}
+
+#[tactic(auto, unfolding(crate::specs::Dump::same_attr))]
+fn is_same(a: Attr, b: Attr) -> bool
+    ensures { result ≡ same_attr a b }
+{
+    a.bits() == b.bits() && is_same_shade(a.fore(), b.fore()) && is_same_shade(a.back(), b.back())
+}
+
+fn plain() -> Attr
+    ensures { result ≡ untold }
+{
+    Attr::of(7)
+}
+
 #[tactic(auto, unfolding(crate::specs::Dump::run_line))]
-fn run(out: &mut Vec<u16>, y: u16, x: u16, n: u16, of: u16) -> Result<(), AllocError>
+fn run(out: &mut Vec<u16>, y: u16, x: u16, n: u16, of: Attr) -> Result<(), AllocError>
     requires few { (y < 1000) × (x < 1000) × (n < 1000) }
     ensures { OnOk result (out.new.items ≡ out.old.items ++ run_line y x n of) }
 {
-    if of == 7 || n == 0 {
+    if is_same(of, plain()) || n == 0 {
         return Ok(());
     }
     out.push(0x40)?;
@@ -56,7 +107,7 @@ fn run(out: &mut Vec<u16>, y: u16, x: u16, n: u16, of: u16) -> Result<(), AllocE
     out.push(0x2B)?;
     number(out, n)?;
     out.push(0x20)?;
-    word(out, of)?;
+    attr(out, of)?;
     out.push(0x0A)?;
     Ok(())
 }
@@ -89,34 +140,34 @@ fn line(out: &mut Vec<u16>, row: &[Cell]) -> Result<(), AllocError>
     Ok(())
 }
 
-/// Cells with one word: from a column on, so many.
+/// Cells with one attribute: from a column on, so many.
 #[derive(Clone, Copy, Debug)]
 struct Stretch {
     x: u16,
     n: u16,
-    word: u16,
+    attr: Attr,
 }
 
-// One more cell of a row, of this word.
+// One more cell of a row.
 #[tactic(auto, unfolding(crate::specs::Dump::run_lines))]
 fn more(out: &mut Vec<u16>, y: u16, so_far: Stretch, cell: &Cell) -> Result<Stretch, AllocError>
     requires few { (y < 1000) × (so_far.x + so_far.n < 999) }
-    ensures lines { IfOk result (λ r. (cs : List Glyph) → out.new.items ++ run_lines y r.x r.n r.word cs ≡ out.old.items ++ run_lines y so_far.x so_far.n so_far.word (cell.now ∷ cs)) }
+    ensures lines { IfOk result (λ r. (cs : List Glyph) → out.new.items ++ run_lines y r.x r.n r.attr cs ≡ out.old.items ++ run_lines y so_far.x so_far.n so_far.attr (cell.now ∷ cs)) }
     ensures few { IfOk result (λ r. r.x + r.n ≡ so_far.x + so_far.n + 1) }
 {
-    let word = cell.attr().bits();
-    if word == so_far.word {
+    let attr = cell.attr();
+    if is_same(attr, so_far.attr) {
         return Ok(Stretch {
             x: so_far.x,
             n: so_far.n + 1,
-            word,
+            attr: so_far.attr,
         });
     }
-    run(out, y, so_far.x, so_far.n, so_far.word)?;
+    run(out, y, so_far.x, so_far.n, so_far.attr)?;
     Ok(Stretch {
         x: so_far.x + so_far.n,
         n: 1,
-        word,
+        attr,
     })
 }
 
@@ -124,17 +175,17 @@ fn more(out: &mut Vec<u16>, y: u16, so_far: Stretch, cell: &Cell) -> Result<Stre
 #[tactic(auto, unfolding(crate::specs::Dump::run_lines))]
 fn runs(out: &mut Vec<u16>, y: u16, row: &[Cell]) -> Result<(), AllocError>
     requires few { (y < 1000) × (length row.now < 999) }
-    ensures { OnOk result (out.new.items ≡ out.old.items ++ run_lines y 0 0 7 row.now) }
+    ensures { OnOk result (out.new.items ≡ out.old.items ++ run_lines y 0 0 untold row.now) }
 {
     let mut so_far = Stretch {
         x: 0,
         n: 0,
-        word: 7,
+        attr: plain(),
     };
     for cell in row {
         so_far = more(out, y, so_far, cell)?;
     }
-    run(out, y, so_far.x, so_far.n, so_far.word)
+    run(out, y, so_far.x, so_far.n, so_far.attr)
 }
 
 // The lines of all rows.
@@ -184,7 +235,7 @@ fn head(out: &mut Vec<u16>, page: &Page) -> Result<(), AllocError>
     Ok(())
 }
 
-/// Appends the text that tells what a screen shows.
+/// Appends the text that tells what a page shows.
 #[tactic(auto, unfolding(crate::specs::Dump::dump))]
 pub fn dump(page: &Page, out: &mut Vec<u16>) -> Result<(), AllocError>
     ensures { OnOk result (out.new.items ≡ out.old.items ++ dump_of page.now) }

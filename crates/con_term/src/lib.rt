@@ -1,19 +1,18 @@
 //! The specified terminal: it plays bytes on a grid of cells, and tells what it shows.
 //!
-//! - [`Terminal`]: contracts see its screen, the bytes that are no character yet and the units that are no item yet.
+//! - [`Terminal`]: contracts see its page, the bytes that are no character yet and the units that are no item yet.
 //!   [`Terminal::play`] and [`Terminal::play_all`] give what the definition gives for the whole bytes, however they are cut;
 //!   [`Terminal::view`] and [`Terminal::dump`] tell what it shows.
-//! - `page`, `pen`, `cells`, `dump`: its screen, the pen, changes of cells, and the text of a dump.
+//! - `page`, `pen`, `block`, `cells`, `dump`: its page, the pen, the block of its cells, changes of cells, and the text of a dump.
 //!
 //! `new`, `resize` and `dump` take memory, and nothing else does. A terminal never answers, and never writes.
 #![tactic(auto)]
 
+pub mod block;
 pub mod cells;
 pub mod dump;
 pub mod page;
 pub mod pen;
 pub mod terminal;
-#[cfg(test)]
-mod tests;
 
 pub use terminal::Terminal;

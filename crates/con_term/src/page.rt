@@ -1,4 +1,4 @@
-//! The screen of a terminal.
+//! The page of a terminal.
 ghost use Rattle.std.specs.Prelude.{IfOk, ◌≡◌, ℕ, ◌≤◌, ◌<◌, ◌*◌, ◌^◌, length, [], vec_capacity, true, take, fold, option_to_list, min, ◌+◌, ◌-◌, ◌==◌};
 ghost use Rattle.con_term.specs.Terminal.{view_of};
 ghost use Rattle.con_term.specs.Run.{all_printed};
@@ -7,22 +7,21 @@ ghost use Rattle.con_vtgram.specs.State.{item_of};
 ghost use Rattle.con_vtgram.specs.declared.item.Item.TheVariants as Item;
 ghost use Rattle.std.specs.List.{list_all};
 ghost use Rattle.con_term.specs.Effect.{row_end, unpended, gone_to, display_erased, line_erased, some_erased, control_effect, private_effect, pen_of, plain_effect, effect, moved_to, lifted};
-ghost use Rattle.con_term.specs.Page.{blank_screen, Screen, place, blank, erased, scrolled, lowered, wrapped, put, advanced, printed};
+ghost use Rattle.con_term.specs.Page.{IsPage, blank_page, place, blank, erased, scrolled, lowered, wrapped, put, advanced, printed};
 
-use crate::cells::{copy_into, fill, lift_cells, write_run};
+use crate::block::Block;
+use crate::cells::copy_into;
 use crate::pen::{Pen, after_all};
-use con_units::{Attr, Cell, Coord, OutOfMemory, Rows, Size, View};
+use con_units::{Cell, Coord, OutOfMemory, Rows, Size, View};
 use con_vtgram::{Csi, Found};
 use std::alloc::Global;
 use std::marker::Model;
 
-/// A screen, with its cells row by row.
+/// A page, with its cells row by row.
 #[derive(Drop)]
 pub struct Page {
     size: Size,
-    cells: Vec<Cell>,
-    // as many cells, of no meaning, into which rows are lifted
-    spare: Vec<Cell>,
+    cells: Block,
     x: u16,
     y: u16,
     pen: Pen,
@@ -31,36 +30,32 @@ pub struct Page {
 }
 
 impl Model for Page {
-    ghost use Rattle.con_term.specs.Page.{Screen};
+    ghost use Rattle.con_term.specs.Page.{Page};
 
-    ghost Value = { Screen };
+    ghost Value = { Page };
 
-    ghost use Rattle.con_term.specs.PageView.{screen_of, IsPage};
+    ghost use Rattle.con_term.specs.PageView.{page_of, IsHeldPage};
 
-    ghost view = { screen_of };
+    ghost view = { page_of };
 
-    ghost invariant = { IsPage };
+    ghost invariant = { IsHeldPage };
 }
 
 impl Page {
-    /// A screen of spaces.
+    /// A page of spaces.
     pub fn new(alloc: Global, size: Size) -> Result<Page, OutOfMemory>
         requires some { (0 < size.w) × (0 < size.h) }
         requires few { (size.w ≤ 512) × (size.h ≤ 256) }
-        ensures { IfOk result (λ page. page ≡ blank_screen size.w size.h) }
+        ensures { IfOk result (λ page. page ≡ blank_page size.w size.h) }
     {
         let pen = Pen::starting();
-        let cell = Cell::new(0x20, Attr::of(pen.word()));
-        let Ok(cells) = Vec::from_elem(alloc, cell, size.h as usize * size.w as usize) else {
-            return Err(OutOfMemory);
-        };
-        let Ok(spare) = Vec::from_elem(alloc, cell, size.h as usize * size.w as usize) else {
+        let cell = Cell::new(0x20, pen.attr());
+        let Ok(cells) = Block::new(alloc, size.h as usize * size.w as usize, cell) else {
             return Err(OutOfMemory);
         };
         Ok(Page {
             size,
             cells,
-            spare,
             x: 0,
             y: 0,
             pen,
@@ -69,9 +64,16 @@ impl Page {
         })
     }
 
+    /// Every page is one: a law.
+    pub fn is_page(&self)
+        ensures { IsPage self.now }
+    {
+        let _ = &self.size;
+    }
+
     /// The allocator of its cells.
     pub fn allocator(&self) -> Global {
-        *self.cells.allocator()
+        self.cells.allocator()
     }
 
     /// What it shows, in a list that is empty and has room for all cells.
@@ -147,14 +149,14 @@ impl Page {
     fn blank(&self) -> Cell
         ensures { result ≡ blank self.now }
     {
-        Cell::new(0x20, Attr::of(self.pen.word()))
+        Cell::new(0x20, self.pen.attr())
     }
 
     fn scroll(&mut self)
         ensures { self.new ≡ scrolled self.old }
     {
         let cell = self.blank();
-        lift_cells(&mut self.cells, &mut self.spare, self.size.w as usize, cell);
+        self.cells.lift(self.size.w as usize, cell);
     }
 
     #[tactic(auto, unfolding(crate::specs::Page::lowered))]
@@ -182,8 +184,8 @@ impl Page {
         ensures { self.new ≡ put unit self.old }
     {
         let at = self.index();
-        let cell = Cell::new(unit, Attr::of(self.pen.word()));
-        self.cells[at] = cell;
+        let cell = Cell::new(unit, self.pen.attr());
+        self.cells.set(at, cell);
     }
 
     fn advance(&mut self)
@@ -212,7 +214,7 @@ impl Page {
         ensures { self.new ≡ erased self.old from upto }
     {
         let cell = self.blank();
-        fill(self.cells.as_mut_slice(), from, upto, cell);
+        self.cells.fill(from, upto, cell);
     }
 
     // The row's first place.
@@ -270,7 +272,7 @@ impl Page {
     {
         let cell = self.blank();
         let count = n.min(self.size.h) as usize * self.size.w as usize;
-        lift_cells(&mut self.cells, &mut self.spare, count, cell);
+        self.cells.lift(count, cell);
     }
 
     #[tactic(auto, unfolding(crate::specs::Effect::display_erased))]
@@ -429,8 +431,8 @@ impl Page {
         let at = self.index();
         let room = (self.size.w - self.x) as usize;
         let most = room.min(bytes.len());
-        let attr = Attr::of(self.pen.word());
-        let count = write_run(&mut self.cells, at, bytes, most, attr);
+        let attr = self.pen.attr();
+        let count = self.cells.write_run(at, bytes, most, attr);
         self.go_on(count as u16);
         count
     }

@@ -1,14 +1,29 @@
 //! The pen.
-ghost use Rattle.std.specs.Prelude.{◌≡◌, ◌<◌};
-ghost use Rattle.con_term.specs.Pen.{lacking, word_of, starting_pen, pen_after, IsPen};
-ghost use Rattle.con_term.specs.Sgr.{read_at, pen_by};
+ghost use Rattle.std.specs.Prelude.{◌≡◌, ◌<◌, ◌≤◌};
+ghost use Rattle.con_term.specs.Pen.{lacking, word_of, attr_of, starting_pen, in_colour, in_shade, coloured, pen_after, indexed, IsPen};
+ghost use Rattle.con_term.specs.Sgr.{pen_by};
+ghost use Rattle.con_term.specs.SgrSteps.{kind_at, skip_at, begin_at, read_next};
 ghost use Rattle.con_term.specs.Nibble.{nibble as nibble_of};
 
-/// The colours and flags that cells are written in.
+use con_units::{Attr, Shade, near};
+
+/// What of a cell has a colour.
+#[derive(Clone, Copy, Debug)]
+pub enum Layer {
+    /// The foreground.
+    Fore,
+    /// The background.
+    Back,
+}
+
+/// The colours and flags that cells are written in. Colours are 0 to 15 in the bits of an attribute word; where a shade
+/// is an index, its layer's colour is the nearest to it.
 #[derive(Clone, Copy, Debug)]
 pub struct Pen {
     pub foreground: u8,
     pub background: u8,
+    pub fore: Shade,
+    pub back: Shade,
     pub bold: bool,
     pub underline: bool,
     pub negative: bool,
@@ -22,6 +37,8 @@ impl Pen {
         Pen {
             foreground: 7,
             background: 0,
+            fore: Shade::Plain,
+            back: Shade::Plain,
             bold: false,
             underline: false,
             negative: false,
@@ -43,60 +60,108 @@ impl Pen {
         intensity + self.foreground as u16 + 16 * self.background as u16 + negative + underline
     }
 
-    /// The pen after one parameter.
+    /// The attribute that cells are written in.
+    pub fn attr(self) -> Attr
+        requires { IsPen self }
+        ensures { result ≡ attr_of self }
+    {
+        Attr::shaded(self.word(), self.fore, self.back)
+    }
+
+    // A layer in one of the sixteen colours.
+    fn in_colour(self, layer: Layer, colour: u8) -> Pen
+        requires pen { IsPen self }
+        requires sixteen { colour < 16 }
+        ensures pen { result ≡ in_colour self layer colour }
+        ensures small { IsPen result }
+    {
+        match layer {
+            Layer::Fore => Pen {
+                foreground: colour,
+                fore: Shade::Plain,
+                ..self
+            },
+            Layer::Back => Pen {
+                background: colour,
+                back: Shade::Plain,
+                ..self
+            },
+        }
+    }
+
+    // A layer in the colour of an index.
+    fn in_shade(self, layer: Layer, index: u8) -> Pen
+        requires pen { IsPen self }
+        requires index { 16 ≤ index }
+        ensures pen { result ≡ in_shade self layer index }
+        ensures small { IsPen result }
+    {
+        match layer {
+            Layer::Fore => Pen {
+                foreground: near(index),
+                fore: Shade::Index(index),
+                ..self
+            },
+            Layer::Back => Pen {
+                background: near(index),
+                back: Shade::Index(index),
+                ..self
+            },
+        }
+    }
+
+    /// The pen with a layer in a colour of the table of 256, by its number; unchanged where there is none of that number.
+    #[tactic(auto, unfolding(crate::specs::Pen::indexed))]
+    pub fn indexed(self, layer: Layer, number: u16) -> Pen
+        requires { IsPen self }
+        ensures pen { result ≡ indexed self layer number }
+        ensures small { IsPen result }
+    {
+        if number < 8 {
+            self.in_colour(layer, colour(number))
+        } else if number < 16 {
+            self.in_colour(layer, colour(number - 8) + 8)
+        } else if number < 256 {
+            self.in_shade(layer, number as u8)
+        } else {
+            self
+        }
+    }
+
+    /// The pen after one parameter by itself.
     #[tactic(auto, unfolding(crate::specs::Pen::pen_after))]
     pub fn after(self, parameter: u16) -> Pen
         requires { IsPen self }
         ensures pen { result ≡ pen_after self parameter }
         ensures small { IsPen result }
     {
+        let mut pen = self;
         match parameter {
-            0 => Pen::starting(),
-            1 => Pen { bold: true, ..self },
-            22 => Pen {
-                bold: false,
-                ..self
-            },
-            4 => Pen {
-                underline: true,
-                ..self
-            },
-            24 => Pen {
-                underline: false,
-                ..self
-            },
-            7 => Pen {
-                negative: true,
-                ..self
-            },
-            27 => Pen {
-                negative: false,
-                ..self
-            },
-            30..=37 => Pen {
-                foreground: colour(parameter - 30),
-                ..self
-            },
-            39 => Pen {
-                foreground: 7,
-                ..self
-            },
-            40..=47 => Pen {
-                background: colour(parameter - 40),
-                ..self
-            },
-            49 => Pen {
-                background: 0,
-                ..self
-            },
-            90..=97 => Pen {
-                foreground: colour(parameter - 90) + 8,
-                ..self
-            },
-            100..=107 => Pen {
-                background: colour(parameter - 100) + 8,
-                ..self
-            },
+            0 => pen = Pen::starting(),
+            1 => pen.bold = true,
+            22 => pen.bold = false,
+            4 => pen.underline = true,
+            24 => pen.underline = false,
+            7 => pen.negative = true,
+            27 => pen.negative = false,
+            _ => pen = self.coloured(parameter),
+        }
+        pen
+    }
+
+    // The pen after a parameter that names a colour.
+    fn coloured(self, parameter: u16) -> Pen
+        requires { IsPen self }
+        ensures pen { result ≡ coloured self parameter }
+        ensures small { IsPen result }
+    {
+        match parameter {
+            30..=37 => self.in_colour(Layer::Fore, colour(parameter - 30)),
+            39 => self.in_colour(Layer::Fore, 7),
+            40..=47 => self.in_colour(Layer::Back, colour(parameter - 40)),
+            49 => self.in_colour(Layer::Back, 0),
+            90..=97 => self.in_colour(Layer::Fore, colour(parameter - 90) + 8),
+            100..=107 => self.in_colour(Layer::Back, colour(parameter - 100) + 8),
             _ => self,
         }
     }
@@ -126,9 +191,15 @@ fn colour(number: u16) -> u8
 /// What the next parameter of CSI m is.
 #[derive(Clone, Copy, Debug)]
 pub enum Place {
+    /// One by itself, or the begin of a colour.
     Next,
-    Kind,
+    /// The kind of a layer's colour.
+    Kind(Layer),
+    /// The number of a layer's colour.
+    Index(Layer),
+    /// One of so many that are skipped.
     Skip(u8),
+    /// One behind the end of the effect.
     Ended,
 }
 
@@ -139,50 +210,77 @@ pub struct Reader {
     pub place: Place,
 }
 
-fn read(pen: Pen, parameter: u16, place: Place) -> Reader
+impl Reader {
+    /// What is read after one parameter more.
+    pub fn after(self, parameter: u16) -> Reader
+        requires { IsPen self.pen }
+        ensures read { result ≡ read_next self parameter }
+        ensures small { IsPen result.pen }
+    {
+        match self.place {
+            Place::Next => begin(self.pen, parameter),
+            Place::Kind(layer) => Reader {
+                pen: self.pen,
+                place: colour_kind(layer, parameter),
+            },
+            Place::Index(layer) => Reader {
+                pen: self.pen.indexed(layer, parameter),
+                place: Place::Next,
+            },
+            Place::Skip(count) => Reader {
+                pen: self.pen,
+                place: skip(count),
+            },
+            Place::Ended => self,
+        }
+    }
+}
+
+// A parameter by itself, or the begin of a colour.
+fn begin(pen: Pen, parameter: u16) -> Reader
     requires { IsPen pen }
-    ensures pen { result ≡ read_at pen parameter place }
+    ensures read { result ≡ begin_at pen parameter }
     ensures small { IsPen result.pen }
 {
-    match place {
-        Place::Next => if parameter == 38 || parameter == 48 {
-            Reader {
-                pen,
-                place: Place::Kind,
-            }
-        } else {
-            Reader {
-                pen: pen.after(parameter),
-                place: Place::Next,
-            }
-        },
-        Place::Kind => {
-            let place = if parameter == 5 {
-                Place::Skip(1)
-            } else if parameter == 2 {
-                Place::Skip(3)
-            } else {
-                Place::Ended
-            };
-            Reader { pen, place }
-        }
-        Place::Skip(count) => {
-            let place = if 1 < count {
-                Place::Skip(count - 1)
-            } else {
-                Place::Next
-            };
-            Reader { pen, place }
-        }
-        Place::Ended => Reader {
+    match parameter {
+        38 => Reader {
             pen,
-            place: Place::Ended,
+            place: Place::Kind(Layer::Fore),
+        },
+        48 => Reader {
+            pen,
+            place: Place::Kind(Layer::Back),
+        },
+        _ => Reader {
+            pen: pen.after(parameter),
+            place: Place::Next,
         },
     }
 }
 
+// What follows 38 or 48 and this parameter.
+fn colour_kind(layer: Layer, parameter: u16) -> Place
+    ensures { result ≡ kind_at layer parameter }
+{
+    match parameter {
+        5 => Place::Index(layer),
+        2 => Place::Skip(3),
+        _ => Place::Ended,
+    }
+}
+
+// What follows where one of so many was skipped.
+fn skip(count: u8) -> Place
+    ensures { result ≡ skip_at count }
+{
+    if 1 < count {
+        Place::Skip(count - 1)
+    } else {
+        Place::Next
+    }
+}
+
 /// The pen after the parameters.
-#[tactic(auto, unfolding(crate::specs::Sgr::pen_by))]
 pub fn after_all(pen: Pen, parameters: &[u16]) -> Pen
     requires { IsPen pen }
     ensures pen { result ≡ pen_by pen parameters.now }
@@ -193,7 +291,7 @@ pub fn after_all(pen: Pen, parameters: &[u16]) -> Pen
         place: Place::Next,
     };
     for parameter in parameters {
-        reader = read(reader.pen, *parameter, reader.place);
+        reader = reader.after(*parameter);
     }
     reader.pen
 }

@@ -1,10 +1,10 @@
 //! A terminal that plays bytes.
-ghost use Rattle.std.specs.Prelude.{◌≡◌, ℕ, List, ◌<◌, ◌≤◌, ◌*◌, [], ◌∷◌, flat_map, option_to_list, ◌++◌, IfOk, OnOk, MatchResult, length, take, vec_capacity};
+ghost use Rattle.std.specs.Prelude.{◌≡◌, ℕ, List, ◌<◌, ◌≤◌, ◌*◌, [], ◌∷◌, flat_map, option_to_list, ◌++◌, IfOk, OnOk, MatchResult, length, take, vec_capacity, true};
 ghost use Rattle.con_term.specs.Play.{units_of, typed, play};
 ghost use Rattle.con_term.specs.Inside.{parts};
 ghost use Rattle.con_term.specs.Dump.{dump as dump_of};
-ghost use Rattle.con_term.specs.Page.{blank_screen};
-ghost use Rattle.con_term.specs.Terminal.{view_of};
+ghost use Rattle.con_term.specs.Page.{IsPage, blank_page};
+ghost use Rattle.con_term.specs.Terminal.{IsTerminal, view_of};
 
 use crate::dump::dump;
 use crate::page::Page;
@@ -13,10 +13,10 @@ use con_vtgram::{Found, Splitter, plain_is_printed};
 use std::alloc::Global;
 use std::marker::Model;
 
-/// A terminal. Contracts see its screen, and the bytes and the units that are no item yet.
+/// A terminal. Contracts see its page, and the bytes and the units that are no item yet.
 #[derive(Drop)]
 pub struct Terminal {
-    screen: Page,
+    page: Page,
     bytes: Utf8,
     units: Splitter,
 }
@@ -36,12 +36,14 @@ impl Terminal {
     pub fn new(alloc: Global, size: Size) -> Result<Terminal, OutOfMemory>
         requires some { (0 < size.w) × (0 < size.h) }
         requires few { (size.w ≤ 512) × (size.h ≤ 256) }
-        ensures { IfOk result (λ t. t ≡ record { screen = blank_screen size.w size.h; bytes = []; units = [] }) }
+        ensures blank { IfOk result (λ t. t ≡ record { page = blank_page size.w size.h; bytes = []; units = [] }) }
+        ensures terminal { IfOk result (λ t. IsTerminal size.w size.h t) }
     {
-        let screen = Page::new(alloc, size)?;
+        let page = Page::new(alloc, size)?;
+        page.is_page();
         let units = Splitter::new(alloc)?;
         Ok(Terminal {
-            screen,
+            page,
             bytes: Utf8::new(),
             units,
         })
@@ -51,10 +53,12 @@ impl Terminal {
     pub fn resize(&mut self, size: Size) -> Result<(), OutOfMemory>
         requires some { (0 < size.w) × (0 < size.h) }
         requires few { (size.w ≤ 512) × (size.h ≤ 256) }
-        ensures { MatchResult result (λ _. self.new ≡ record { screen = blank_screen size.w size.h; bytes = []; units = [] }) (λ _. self.new ≡ self.old) }
+        ensures blank { MatchResult result (λ _. self.new ≡ record { page = blank_page size.w size.h; bytes = []; units = [] }) (λ _. self.new ≡ self.old) }
+        ensures terminal { OnOk result (IsTerminal size.w size.h self.new) }
     {
-        let screen = Page::new(self.screen.allocator(), size)?;
-        self.screen = screen;
+        let page = Page::new(self.page.allocator(), size)?;
+        page.is_page();
+        self.page = page;
         self.bytes.clear();
         self.units.clear();
         Ok(())
@@ -62,34 +66,46 @@ impl Terminal {
 
     /// Its size, in cells.
     pub fn size(&self) -> Size
-        ensures sides { (result.w ≡ self.now.screen.w) × (result.h ≡ self.now.screen.h) }
+        ensures sides { (result.w ≡ self.now.page.w) × (result.h ≡ self.now.page.h) }
         ensures few { (result.w ≤ 512) × (result.h ≤ 256) }
     {
-        self.screen.size()
+        self.page.size()
+    }
+
+    /// Whether it is between sequences: no byte and no unit waits for more.
+    pub fn is_between(&self) -> bool
+        ensures between { result ≡ true → IsTerminal self.now.page.w self.now.page.h self.now }
+        ensures within { (w h : ℕ) → IsTerminal w h self.now → result ≡ true }
+    {
+        if self.bytes.held() != 0 {
+            return false;
+        }
+        self.page.is_page();
+        self.units.is_clear()
     }
 
     /// Its cells, row by row.
     pub fn cells(&self) -> &[Cell]
-        ensures { result.now ≡ self.now.screen.cells }
+        ensures { result.now ≡ self.now.page.cells }
     {
-        self.screen.cells()
+        self.page.cells()
     }
 
     /// What it shows, in a list that is empty and has room for all cells.
     pub fn view(&self, rows: Vec<Cell>) -> View
         requires none { rows.items ≡ [] }
-        requires room { self.now.screen.h * self.now.screen.w ≤ vec_capacity rows }
-        ensures { result ≡ view_of self.now.screen }
+        requires room { self.now.page.h * self.now.page.w ≤ vec_capacity rows }
+        ensures { result ≡ view_of self.now.page }
     {
-        self.screen.view(rows)
+        self.page.view(rows)
     }
 
     /// The text that tells what it shows.
     pub fn dump(&self) -> Result<Units, OutOfMemory>
-        ensures { IfOk result (λ text. text ≡ dump_of self.now.screen) }
+        ensures { IfOk result (λ text. text ≡ dump_of self.now.page) }
     {
-        let mut text = Vec::new(self.screen.allocator());
-        match dump(&self.screen, &mut text) {
+        let mut text = Vec::new(self.page.allocator());
+        match dump(&self.page, &mut text) {
             Ok(()) => Ok(Units(text)),
             Err(_) => Err(OutOfMemory),
         }
@@ -97,69 +113,75 @@ impl Terminal {
 
     /// Plays a byte.
     pub fn play(&mut self, byte: u8)
-        ensures { self.new ≡ play self.old (byte ∷ []) }
+        ensures played { self.new ≡ play self.old (byte ∷ []) }
+        ensures kept { IsPage self.new.page }
+        ensures sides { (self.new.page.w ≡ self.old.page.w) × (self.new.page.h ≡ self.old.page.h) }
     {
-        byte_played(&mut self.bytes, &mut self.screen, &mut self.units, byte);
+        byte_played(&mut self.bytes, &mut self.page, &mut self.units, byte);
+        self.page.is_page();
     }
 
     /// Plays bytes, one after another.
     pub fn play_all(&mut self, bytes: &[u8])
-        ensures { self.new ≡ play self.old bytes.now }
+        ensures played { self.new ≡ play self.old bytes.now }
+        ensures kept { IsPage self.new.page }
+        ensures sides { (self.new.page.w ≡ self.old.page.w) × (self.new.page.h ≡ self.old.page.h) }
     {
-        all_played(&mut self.bytes, &mut self.screen, &mut self.units, bytes);
+        all_played(&mut self.bytes, &mut self.page, &mut self.units, bytes);
+        self.page.is_page();
     }
 }
 
-fn unit_typed(screen: &mut Page, units: &mut Splitter, unit: u16)
-    ensures { (b : List ℕ) → parts b screen.new units.new ≡ typed (parts b screen.old units.old) (unit ∷ []) }
+fn unit_typed(page: &mut Page, units: &mut Splitter, unit: u16)
+    ensures { (b : List ℕ) → parts b page.new units.new ≡ typed (parts b page.old units.old) (unit ∷ []) }
 {
     let found = units.advance(unit);
     match found {
         Found::Nothing => {}
-        _ => screen.apply(found, unit, units.sequence()),
+        _ => page.apply(found, unit, units.sequence()),
     }
 }
 
 #[tactic(auto, unfolding(crate::specs::Play::units_of))]
-fn character_typed(screen: &mut Page, units: &mut Splitter, character: char)
-    ensures { (b : List ℕ) → parts b screen.new units.new ≡ typed (parts b screen.old units.old) (units_of character) }
+fn character_typed(page: &mut Page, units: &mut Splitter, character: char)
+    ensures { (b : List ℕ) → parts b page.new units.new ≡ typed (parts b page.old units.old) (units_of character) }
 {
     let code = character as u32;
     if code < 0x10000 {
-        unit_typed(screen, units, code as u16);
+        unit_typed(page, units, code as u16);
     } else {
         let above = code - 0x10000;
-        unit_typed(screen, units, (0xD800 + above / 1024) as u16);
-        unit_typed(screen, units, (0xDC00 + above % 1024) as u16);
+        unit_typed(page, units, (0xD800 + above / 1024) as u16);
+        unit_typed(page, units, (0xDC00 + above % 1024) as u16);
     }
 }
 
-fn character_if(screen: &mut Page, units: &mut Splitter, character: Option<char>)
-    ensures { (b : List ℕ) → parts b screen.new units.new ≡ typed (parts b screen.old units.old) (flat_map units_of (option_to_list character)) }
+fn character_if(page: &mut Page, units: &mut Splitter, character: Option<char>)
+    ensures { (b : List ℕ) → parts b page.new units.new ≡ typed (parts b page.old units.old) (flat_map units_of (option_to_list character)) }
 {
     if let Some(character) = character {
-        character_typed(screen, units, character);
+        character_typed(page, units, character);
     }
 }
 
-fn byte_played(bytes: &mut Utf8, screen: &mut Page, units: &mut Splitter, byte: u8)
-    ensures { parts bytes.new screen.new units.new ≡ play (parts bytes.old screen.old units.old) (byte ∷ []) }
+fn byte_played(bytes: &mut Utf8, page: &mut Page, units: &mut Splitter, byte: u8)
+    ensures { parts bytes.new page.new units.new ≡ play (parts bytes.old page.old units.old) (byte ∷ []) }
 {
     if byte < 0x80 {
         if bytes.held() == 0 {
-            unit_typed(screen, units, byte as u16);
+            unit_typed(page, units, byte as u16);
             return;
         }
     }
     let decoded = bytes.feed(byte);
-    character_if(screen, units, decoded.first);
-    character_if(screen, units, decoded.second);
+    character_if(page, units, decoded.first);
+    character_if(page, units, decoded.second);
 }
 
 // Plays bytes of printable ASCII at the front, and tells how many.
-fn run_played(bytes: &Utf8, screen: &mut Page, units: &Splitter, input: &[u8]) -> usize
+fn run_played(bytes: &Utf8, page: &mut Page, units: &Splitter, input: &[u8]) -> usize
     ensures few { result ≤ length input.now }
-    ensures played { parts bytes.now screen.new units.now ≡ play (parts bytes.now screen.old units.now) (take result input.now) }
+    ensures played { parts bytes.now page.new units.now ≡ play (parts bytes.now page.old units.now) (take result input.now) }
 {
     if !units.is_clear() {
         return 0;
@@ -168,18 +190,18 @@ fn run_played(bytes: &Utf8, screen: &mut Page, units: &Splitter, input: &[u8]) -
         return 0;
     }
     plain_is_printed();
-    screen.print_run(input)
+    page.print_run(input)
 }
 
-fn all_played(bytes: &mut Utf8, screen: &mut Page, units: &mut Splitter, input: &[u8])
-    ensures { parts bytes.new screen.new units.new ≡ play (parts bytes.old screen.old units.old) input.now }
+fn all_played(bytes: &mut Utf8, page: &mut Page, units: &mut Splitter, input: &[u8])
+    ensures { parts bytes.new page.new units.new ≡ play (parts bytes.old page.old units.old) input.now }
 {
     let mut at = 0;
     while at < input.len() {
-        let count = run_played(bytes, screen, units, &input[at..]);
+        let count = run_played(bytes, page, units, &input[at..]);
         at += count;
         if at < input.len() {
-            byte_played(bytes, screen, units, input[at]);
+            byte_played(bytes, page, units, input[at]);
             at += 1;
         }
     }

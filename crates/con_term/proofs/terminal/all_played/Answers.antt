@@ -11,11 +11,11 @@ loop-at-init c = (omega arith, play-none _)
 pub loop-at-preserved : goal.loop-at-preserved
 loop-at-preserved c = (
   run_fits c.args.input.now c.loop-at.at c.run_played-count.result c.loop-at.invariant.0 c.run_played-count.ensures.few,
-  played_run (parts c.args.bytes.now c.args.screen.now c.args.units.now) _ _ c.args.input.now c.loop-at.at c.run_played-count.result c.loop-at.invariant.1 c.run_played-count.ensures.played,
+  played_run (parts c.args.bytes.now c.args.page.now c.args.units.now) _ _ c.args.input.now c.loop-at.at c.run_played-count.result c.loop-at.invariant.1 c.run_played-count.ensures.played,
 )
 
 pub loop-at-preserved-then-at-input : goal.loop-at-preserved-then-at-input
-loop-at-preserved-then-at-input c = let t = parts c.args.bytes.now c.args.screen.now c.args.units.now in (
+loop-at-preserved-then-at-input c = let t = parts c.args.bytes.now c.args.page.now c.args.units.now in (
   omega (arith, c.if-at-input.true),
   played_byte t _ _ c.args.input.now (c.loop-at.at + c.run_played-count.result) c.if-at-input.true (played_run t _ _ c.args.input.now c.loop-at.at c.run_played-count.result c.loop-at.invariant.1 c.run_played-count.ensures.played) c.byte_played.ensures,
 )
