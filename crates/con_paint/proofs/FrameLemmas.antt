@@ -4,14 +4,17 @@ use Rattle.std.proofs.lemmas.Nat.{mul-le}
 use Rattle.std.proofs.lemmas.List.{take_at, drop_at, drop-drop, length-take-le, take-append-drop, take_all, drop_all, take_more, length-replicate, replicate-append-replicate, replicate_more}
 use Rattle.std.proofs.Math.Seq.{take-add}
 use Rattle.std.proofs.lemmas.Bool.Decides.{nat_tests}
-use Rattle.con_units.specs.Glyph.{Glyph}
-use Rattle.con_term.specs.Page.{Screen, erased, filled, place}
+use Rattle.con_units.specs.Attr.{Attribute, plain}
+use Rattle.con_units.specs.Glyph.{Glyph, blank_cell}
+use Rattle.con_units.specs.View.{row_of}
+use Rattle.con_term.specs.Page.{Page, erased, filled, place}
 use Rattle.con_term.specs.Effect.{unpended}
 use Rattle.con_term.specs.Pen.{IsPen}
 use Rattle.con_paint.specs.Leads.{Leads}
-use Rattle.con_paint.specs.Pens.{pen_for}
+use Rattle.con_paint.specs.Ink.{pen_for}
 use Rattle.con_paint.specs.Paint.{pasted}
-use Rattle.con_paint.specs.Frame.{blank_cell, row_of, same_cell, same_cells, differing, rows_to_paint, mixed, Stands, Painted, Rows, RowStep}
+use Rattle.con_paint.specs.Compared.{same_cell, same_cells, differing}
+use Rattle.con_paint.specs.Frame.{rows_to_paint, mixed, Stands, Painted, Rows, RowStep}
 use Rattle.con_paint.specs.Rest.{RestStep, cleared_from}
 use Rattle.con_paint.specs.Spot.{IsAt}
 use Rattle.con_paint.specs.declared.spot.State.{State}
@@ -19,8 +22,8 @@ use Rattle.con_paint.proofs.LeadLemmas.{leads_then, leads-none}
 use Rattle.con_paint.proofs.SameLemmas.{are_same, same_by, one_same}
 use Rattle.con_paint.proofs.SpanLemmas.{filled_is}
 
-pub small_pen : (word : ℕ) → IsPen (pen_for word)
-small_pen word = record { foreground = omega arith; background = omega arith }
+pub small_pen : IsPen (pen_for (plain 7))
+small_pen = record { foreground = omega arith; background = omega arith; fore = tt; back = tt }
 
 -- ---- the first rows are those of a view
 
@@ -53,20 +56,20 @@ mixed_behind v c n h = drop_at (take n v) (drop n c) n (length-take-le n v h)
 
 -- ---- how many rows differ
 
-pub differing_none : (w y : ℕ) (a b : List Glyph) → ((i : ℕ) → i < y → row_of w i a ≡ row_of w i b) → differing w y a b ≡ 0
+pub differing_none : (w y : ℕ) (a b : List Glyph) → ((i : ℕ) → i < y → row_of w a i ≡ row_of w b i) → differing w y a b ≡ 0
 unfolding differing
 differing_none w zero a b h = refl
 differing_none w (suc y) a b h = rw (same_by _ _ (h y (omega arith)), differing_none w y a b (λ i lt. h i (omega arith))) (omega arith)
 
 pub differing-self : (w y : ℕ) (v shadow : List Glyph) → v ≡ shadow → differing w y v shadow ≡ 0
-differing-self w y v shadow e = differing_none w y v shadow (λ i lt. ap (row_of w i) e)
+differing-self w y v shadow e = differing_none w y v shadow (λ i lt. ap (λ xs. row_of w xs i) e)
 
-one_more : (known : Bool) (w y : ℕ) (v shadow : List Glyph) → (known ≡ true → same_cells (row_of w y v) (row_of w y shadow) ≡ false) → rows_to_paint known w (y + 1) v shadow ≡ rows_to_paint known w y v shadow + 1
+one_more : (known : Bool) (w y : ℕ) (v shadow : List Glyph) → (known ≡ true → same_cells (row_of w v y) (row_of w shadow y) ≡ false) → rows_to_paint known w (y + 1) v shadow ≡ rows_to_paint known w y v shadow + 1
 unfolding differing
 one_more true w y v shadow h = rw (add-one, h refl) refl
 one_more false w y v shadow h = refl
 
-no_more : (known : Bool) (w y : ℕ) (v shadow : List Glyph) → known ≡ true → same_cells (row_of w y v) (row_of w y shadow) ≡ true → rows_to_paint known w (y + 1) v shadow ≡ rows_to_paint known w y v shadow
+no_more : (known : Bool) (w y : ℕ) (v shadow : List Glyph) → known ≡ true → same_cells (row_of w v y) (row_of w shadow y) ≡ true → rows_to_paint known w (y + 1) v shadow ≡ rows_to_paint known w y v shadow
 unfolding differing
 no_more true w y v shadow k h = rw (add-one, h) (omega arith)
 no_more false w y v shadow k h = cc
@@ -85,18 +88,18 @@ rows_none w h v shadow known before old = record {
     zeros : 0 ≡ 0 * w
     zeros = omega arith
 
-rows_painted : (w h y : ℕ) (before state after : State) (v shadow row was : List Glyph) (known : Bool) (old mid new : List ℕ) → Rows w h v shadow known before old mid y state → y < h → length v ≡ h * w → row ≡ row_of w y v → was ≡ row_of w y shadow
+rows_painted : (w h y : ℕ) (before state after : State) (v shadow row was : List Glyph) (known : Bool) (old mid new : List ℕ) → Rows w h v shadow known before old mid y state → y < h → length v ≡ h * w → row ≡ row_of w v y → was ≡ row_of w shadow y
     → (known ≡ true → same_cells row was ≡ false)
-    → ((s : Screen) → Stands w h state.word s → IsAt state.spot s → y < h → (known ≡ true → row_of w y s.cells ≡ was) → Painted w h y after row mid new s)
+    → ((s : Page) → Stands w h state.attr s → IsAt state.spot s → y < h → (known ≡ true → row_of w s.cells y ≡ was) → Painted w h y after row mid new s)
     → Rows w h v shadow known before old new (y + 1) after
 rows_painted w h y before state after v shadow row was known old mid new rows lt long row_is was_is differs line = record {
   reach = λ s stands at e.
       let r = rows.reach s stands at e in
-      let c_length : length s.cells ≡ h * w = stands.screen.cells ∙ rw (stands.wide, stands.high) refl in
+      let c_length : length s.cells ≡ h * w = stands.page.cells ∙ rw (stands.wide, stands.high) refl in
       let below : y * w + w ≤ h * w = omega (arith, mul-le (y + 1) w h w (omega arith) (omega arith)) in
-      let now : row_of w y r.to.cells ≡ row_of w y s.cells = ap (row_of w y) r.cells ∙ ap (take w) (mixed_behind v s.cells (y * w) (omega arith)) in
-      let p : Painted w h y after row mid new r.to = line r.to r.stands r.place lt (λ k. now ∙ ap (row_of w y) (e k) ∙ sym was_is) in
-      let more = one_more known w y v shadow (λ k. ap (λ z. same_cells z (row_of w y shadow)) (sym row_is) ∙ ap (same_cells row) (sym was_is) ∙ differs k) in
+      let now : row_of w r.to.cells y ≡ row_of w s.cells y = ap (λ xs. row_of w xs y) r.cells ∙ ap (take w) (mixed_behind v s.cells (y * w) (omega arith)) in
+      let p : Painted w h y after row mid new r.to = line r.to r.stands r.place lt (λ k. now ∙ ap (λ xs. row_of w xs y) (e k) ∙ sym was_is) in
+      let more = one_more known w y v shadow (λ k. ap (λ z. same_cells z (row_of w shadow y)) (sym row_is) ∙ ap (same_cells row) (sym was_is) ∙ differs k) in
       record {
         to = p.to;
         count = r.count + p.count;
@@ -107,10 +110,10 @@ rows_painted w h y before state after v shadow row was known old mid new rows lt
         cells = p.cells ∙ rw (r.cells, row_is, next_row y w) (mixed_row v s.cells (y * w) w (omega arith) (c_length ∙ sym long));
         visible = p.visible ∙ r.visible;
       };
-  quiet = λ k e. let same : same_cells row was ≡ true = same_by row was (row_is ∙ ap (row_of w y) e ∙ sym was_is) in let f : true ≡ false = sym same ∙ differs k in cc;
+  quiet = λ k e. let same : same_cells row was ≡ true = same_by row was (row_is ∙ ap (λ xs. row_of w xs y) e ∙ sym was_is) in let f : true ≡ false = sym same ∙ differs k in cc;
 }
 
-rows_kept : (w h y : ℕ) (before state : State) (v shadow : List Glyph) (known : Bool) (old new : List ℕ) → Rows w h v shadow known before old new y state → known ≡ true → row_of w y v ≡ row_of w y shadow
+rows_kept : (w h y : ℕ) (before state : State) (v shadow : List Glyph) (known : Bool) (old new : List ℕ) → Rows w h v shadow known before old new y state → known ≡ true → row_of w v y ≡ row_of w shadow y
     → Rows w h v shadow known before old new (y + 1) state
 rows_kept w h y before state v shadow known old new rows k row_is = record {
   reach = λ s stands at e.
@@ -128,7 +131,7 @@ rows_kept w h y before state v shadow known old new rows k row_is = record {
   quiet = rows.quiet;
 }
 
-pub slice_is : (y w : ℕ) (cells : List Glyph) → take (y * w + w - y * w) (drop (y * w) cells) ≡ row_of w y cells
+pub slice_is : (y w : ℕ) (cells : List Glyph) → take (y * w + w - y * w) (drop (y * w) cells) ≡ row_of w cells y
 slice_is y w cells = let e : y * w + w - y * w ≡ w = omega arith in rw e refl
 
 pub must_differ : (known marked same : Bool) → true ≡ (not known || (marked && not same)) → known ≡ true → same ≡ false
@@ -145,14 +148,14 @@ must_equal false marked same e = cc
 
 pub rows_turn : (w h y : ℕ) (before state after : State) (v shadow row was : List Glyph) (known marked paint : Bool) (old mid new : List ℕ) → Rows w h v shadow known before old mid y state → y < h → length v ≡ h * w
     → row ≡ take (y * w + w - y * w) (drop (y * w) v) → was ≡ take (y * w + w - y * w) (drop (y * w) shadow) → paint ≡ (not known || (marked && not (same_cells row was)))
-    → (known ≡ true → marked ≡ false → row_of w y v ≡ row_of w y shadow) → RowStep paint known y row was state mid new after → Rows w h v shadow known before old new (y + 1) after
+    → (known ≡ true → marked ≡ false → row_of w v y ≡ row_of w shadow y) → RowStep paint known y row was state mid new after → Rows w h v shadow known before old new (y + 1) after
 rows_turn w h y before state after v shadow row was known marked true old mid new rows lt long row_is was_is e equal step =
     let below : y * w + w ≤ h * w = omega (arith, mul-le (y + 1) w h w (omega arith) (omega arith)) in
     let row_length : length row ≡ w = ap length (row_is ∙ slice_is y w v) ∙ length-take-le w (drop (y * w) v) (omega (arith, length-drop (y * w) v)) in
     rows_painted w h y before state after v shadow row was known old mid new rows lt long (row_is ∙ slice_is y w v) (was_is ∙ slice_is y w shadow) (must_differ known marked (same_cells row was) e) (rw row_length at (step h))
 rows_turn w h y before state after v shadow row was known marked false old mid new rows lt long row_is was_is e equal step =
     let m = must_equal known marked (same_cells row was) e in
-    let same : row_of w y v ≡ row_of w y shadow = elim m.1 [ inl f ↦ equal m.0 f | inr t ↦ sym (row_is ∙ slice_is y w v) ∙ are_same row was t ∙ was_is ∙ slice_is y w shadow ] in
+    let same : row_of w v y ≡ row_of w shadow y = elim m.1 [ inl f ↦ equal m.0 f | inr t ↦ sym (row_is ∙ slice_is y w v) ∙ are_same row was t ∙ was_is ∙ slice_is y w shadow ] in
     rw (step.0, step.1) (rows_kept w h y before state v shadow known old mid rows m.0 same)
 
 pub slice_length : (y w h : ℕ) (cells : List Glyph) → y < h → length cells ≡ h * w → length (take (y * w + w - y * w) (drop (y * w) cells)) ≡ w
@@ -160,11 +163,11 @@ slice_length y w h cells lt long =
     let below : y * w + w ≤ h * w = omega (arith, mul-le (y + 1) w h w (omega arith) (omega arith)) in
     ap length (slice_is y w cells) ∙ length-take-le w (drop (y * w) cells) (omega (arith, length-drop (y * w) cells))
 
-pub row_used : (out used used' y w k : ℕ) → used' ≤ used + 11 + 26 * k → used ≤ out + y * (11 + 26 * w) → k ≤ w → used' ≤ out + (y + 1) * (11 + 26 * w)
+pub row_used : (out used used' y w k : ℕ) → used' ≤ used + 11 + 46 * k → used ≤ out + y * (11 + 46 * w) → k ≤ w → used' ≤ out + (y + 1) * (11 + 46 * w)
 row_used out used used' y w k a b c = omega arith
 
-pub room_left : (out cap used y h w k : ℕ) → used ≤ out + y * (11 + 26 * w) → y < h → out + h * (11 + 26 * w) ≤ cap → k ≤ w → used + 11 + 26 * k ≤ cap
-room_left out cap used y h w k a lt b c = omega (arith, mul-le (y + 1) (11 + 26 * w) h (11 + 26 * w) (omega arith) (omega arith))
+pub room_left : (out cap used y h w k : ℕ) → used ≤ out + y * (11 + 46 * w) → y < h → out + h * (11 + 46 * w) ≤ cap → k ≤ w → used + 11 + 46 * k ≤ cap
+room_left out cap used y h w k a lt b c = omega (arith, mul-le (y + 1) (11 + 46 * w) h (11 + 46 * w) (omega arith) (omega arith))
 
 pub neither : (a b : Bool) → (a || b) ≡ false → (a ≡ false) × (b ≡ false)
 neither true b h = cc
@@ -178,14 +181,14 @@ pub emptied_more : (known : Bool) (w h k y : ℕ) (v shadow row was : List Glyph
 emptied_more known w h k y v shadow row was at lt long row_is was_is blank differs rest count =
     let n : h - (k + 1) ≡ y = omega arith in
     let m : h - k ≡ y + 1 = omega arith in
-    let ry : row ≡ row_of w y v = row_is ∙ slice_is y w v in
-    let wy : was ≡ row_of w y shadow = was_is ∙ slice_is y w shadow in
+    let ry : row ≡ row_of w v y = row_is ∙ slice_is y w v in
+    let wy : was ≡ row_of w shadow y = was_is ∙ slice_is y w shadow in
     let rl : length row ≡ w = ap length row_is ∙ slice_length y w h v (omega arith) long in
-    let first : row_of w y v ≡ replicate w blank_cell = sym ry ∙ blank ∙ ap (λ z. replicate z blank_cell) rl in
+    let first : row_of w v y ≡ replicate w blank_cell = sym ry ∙ blank ∙ ap (λ z. replicate z blank_cell) rl in
     let second : drop (y * w + w) v ≡ replicate (k * w) blank_cell = ap (λ z. drop z v) (sym (next_row y w)) ∙ rw m at rest in
-    let split : drop (y * w) v ≡ row_of w y v ++ drop (y * w + w) v = sym (take-append-drop w (drop (y * w) v)) ∙ ap (λ z. row_of w y v ++ z) (drop-drop w (y * w) v) in
+    let split : drop (y * w) v ≡ row_of w v y ++ drop (y * w + w) v = sym (take-append-drop w (drop (y * w) v)) ∙ ap (λ z. row_of w v y ++ z) (drop-drop w (y * w) v) in
     let size : w + k * w ≡ (k + 1) * w = omega arith in
-    let more = one_more known w y v shadow (λ t. ap (λ z. same_cells z (row_of w y shadow)) (sym ry) ∙ ap (same_cells row) (sym wy) ∙ differs t) in
+    let more = one_more known w y v shadow (λ t. ap (λ z. same_cells z (row_of w shadow y)) (sym ry) ∙ ap (same_cells row) (sym wy) ∙ differs t) in
     let c2 : rows_to_paint known w h v shadow ≡ rows_to_paint known w y v shadow + 1 + k = (rw m at count) ∙ ap (λ z. z + k) more in
     (rw n (split ∙ rw (first, second) (replicate-append-replicate w (k * w) blank_cell ∙ ap (λ z. replicate z blank_cell) size)), rw n (omega arith))
 
@@ -221,8 +224,8 @@ rows_rest w h tail before state after v shadow known old mid new some le long bl
     all_erased lt = let step = rest.some lt in record {
       reach = λ s stands at e.
           let r = rows.reach s stands at e in
-          let to : Screen = cleared_from tail r.to in
-          let c_length : length s.cells ≡ h * w = stands.screen.cells ∙ rw (stands.wide, stands.high) refl in
+          let to : Page = cleared_from tail r.to in
+          let c_length : length s.cells ≡ h * w = stands.page.cells ∙ rw (stands.wide, stands.high) refl in
           let cells : to.cells ≡ v = rw (r.stands.wide, r.stands.high, r.cells) (cleared w h tail v s.cells le long c_length blank) in
           let lead : Leads mid new r.to to (h * w - tail * w) = step.0 r.to r.stands.pen r.place r.stands.wide r.stands.high in
           let size : h * w - tail * w ≡ (h - tail) * w = let q : h ≡ tail + (h - tail) = omega arith in omega (arith, ap (λ z. z * w) q) in
@@ -232,7 +235,7 @@ rows_rest w h tail before state after v shadow known old mid new some le long bl
             leads = leads_then old mid new s r.to to r.count (h * w - tail * w) (r.count + (h * w - tail * w)) r.leads lead refl;
             few = let f = r.few in rw (count, size) (omega arith);
             stands = record {
-              screen = record { width = r.stands.screen.width; height = r.stands.screen.height; cells = ap length cells ∙ long ∙ rw (r.stands.wide, r.stands.high) refl; column = omega (arith, r.stands.wide); row = omega (arith, r.stands.high); pen = small_pen 7 };
+              page = record { width = r.stands.page.width; height = r.stands.page.height; cells = ap length cells ∙ long ∙ rw (r.stands.wide, r.stands.high) refl; column = omega (arith, r.stands.wide); row = omega (arith, r.stands.high); pen = small_pen };
               wide = r.stands.wide;
               high = r.stands.high;
               pen = rw step.1 refl;
@@ -255,18 +258,18 @@ rows_rest w h tail before state after v shadow known old mid new some le long bl
 pub blank_turn : (row : List Glyph) (i : ℕ) (a : Glyph) (t : Bool) → i < length row → a ≡ get_or row i a → take i row ≡ replicate i blank_cell → t ≡ same_cell a blank_cell → t ≡ true → take (i + 1) row ≡ replicate (i + 1) blank_cell
 blank_turn row i a t lt ea h s one = take_more row i a lt ∙ rw (h, ← ea, one_same a blank_cell (sym s ∙ one)) (replicate_more i blank_cell)
 
-pub rest_erased : (w h tail before : ℕ) (a b c d : List ℕ) (s : Screen) → s.pen ≡ pen_for before → s.w ≡ w → s.h ≡ h → Leads a b s (record s { x = 0; y = tail; pending = false }) 0 → ((r : Screen) → r.pen ≡ pen_for before → Leads b c r (record r { pen = pen_for 7 }) 0)
-    → ((r : Screen) → Leads c d r (unpended (erased r (place r) (r.h * r.w))) (r.h * r.w - place r)) → Leads a d s (cleared_from tail s) (h * w - tail * w)
+pub rest_erased : (w h tail : ℕ) (before : Attribute) (a b c d : List ℕ) (s : Page) → s.pen ≡ pen_for before → s.w ≡ w → s.h ≡ h → Leads a b s (record s { x = 0; y = tail; pending = false }) 0 → ((r : Page) → r.pen ≡ pen_for before → Leads b c r (record r { pen = pen_for (plain 7) }) 0)
+    → ((r : Page) → Leads c d r (unpended (erased r (place r) (r.h * r.w))) (r.h * r.w - place r)) → Leads a d s (cleared_from tail s) (h * w - tail * w)
 rest_erased w h tail before a b c d s p ew eh go pen rest =
-    let g : Screen = record s { x = 0; y = tail; pending = false } in
-    let g2 : Screen = record g { pen = pen_for 7 } in
+    let g : Page = record s { x = 0; y = tail; pending = false } in
+    let g2 : Page = record g { pen = pen_for (plain 7) } in
     let at : tail * s.w + 0 ≡ tail * s.w = omega arith in
     let same : unpended (erased g2 (place g2) (g2.h * g2.w)) ≡ cleared_from tail s = rw at refl in
     let size : g2.h * g2.w - place g2 ≡ h * w - tail * w = rw (at, ew, eh) refl in
     leads_then a b d s g (cleared_from tail s) 0 (h * w - tail * w) (h * w - tail * w) go (leads_then b c d g g2 (cleared_from tail s) 0 (h * w - tail * w) (h * w - tail * w) (pen g p) (rw (same, size) at (rest g2)) (omega arith)) (omega arith)
 
-pub stands_row : (w h y ink : ℕ) (s : Screen) → Stands w h ink s → y < h → length (row_of w y s.cells) ≡ w
+pub stands_row : (w h y : ℕ) (ink : Attribute) (s : Page) → Stands w h ink s → y < h → length (row_of w s.cells y) ≡ w
 stands_row w h y ink s st lt =
-    let long : length s.cells ≡ h * w = st.screen.cells ∙ rw (st.wide, st.high) refl in
+    let long : length s.cells ≡ h * w = st.page.cells ∙ rw (st.wide, st.high) refl in
     let below : y * w + w ≤ h * w = omega (arith, mul-le (y + 1) w h w (omega arith) (omega arith)) in
     length-take-le w (drop (y * w) s.cells) (omega (arith, length-drop (y * w) s.cells))

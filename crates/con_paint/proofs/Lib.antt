@@ -7,4 +7,5 @@ pub mod SpanLemmas
 pub mod PlaceLemmas
 pub mod FrameLemmas
 pub mod LiftLemmas
-pub mod PlayLemmas
+pub mod DrawLemmas
+mod PlayLemmas

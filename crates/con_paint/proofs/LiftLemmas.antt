@@ -6,16 +6,19 @@ use Rattle.std.proofs.lemmas.Grind.{replicate_next}
 use Rattle.std.proofs.Math.Seq.{set-append_seam}
 use Rattle.std.proofs.lemmas.List.{take_at, drop-take, length-replicate, take-take, drop_more, drop_all}
 use Rattle.std.proofs.lemmas.Bool.Decides.{nat_tests}
-use Rattle.con_units.specs.Glyph.{Glyph}
-use Rattle.con_term.specs.Page.{Screen}
+use Rattle.con_units.specs.Attr.{Attribute, plain}
+use Rattle.con_units.specs.Glyph.{Glyph, blank_cell}
+use Rattle.con_units.specs.View.{row_of}
+use Rattle.con_term.specs.Page.{Page}
+use Rattle.con_term.specs.Pen.{starting_pen}
 use Rattle.con_term.specs.Effect.{lifted}
 use Rattle.con_paint.specs.Leads.{Leads}
-use Rattle.con_paint.specs.Pens.{pen_for}
-use Rattle.con_paint.specs.Frame.{blank_cell, row_of, same_cells, differing}
-use Rattle.con_paint.specs.Lift.{IsLifted, IsLeast, Lifts, lifted_cells}
+use Rattle.con_paint.specs.Ink.{pen_for}
+use Rattle.con_paint.specs.Compared.{same_cells, differing, IsLifted}
+use Rattle.con_paint.specs.Lift.{IsLeast, Lifts, lifted_cells}
 use Rattle.con_paint.proofs.LeadLemmas.{leads_then, leads-none}
 use Rattle.con_paint.proofs.SameLemmas.{are_same, same_by}
-use Rattle.con_paint.proofs.FrameLemmas.{must_differ, must_equal, slice_is, differing_none, differing-self}
+use Rattle.con_paint.proofs.FrameLemmas.{must_differ, must_equal, slice_is, small_pen, differing_none, differing-self}
 
 pub here : (w h k : ℕ) (v old : List Glyph) (b : Bool) → length v ≡ h * w → b ≡ same_cells (take (length v - k * w) v) (drop (k * w) old) → b ≡ true → IsLifted w h k v old
 here w h k v old b long e t = rw (← long) (are_same _ _ (sym e ∙ t))
@@ -30,20 +33,20 @@ pub whole_lift : (w h : ℕ) (v old : List Glyph) → length old ≡ h * w → I
 whole_lift w h v old e = let none : h * w - h * w ≡ 0 = omega arith in rw (none, ← e) (grind (arith, common_steps))
 
 pub count_turn : (w y count : ℕ) (v shadow row was : List Glyph) (marked paint : Bool) → count ≡ differing w y v shadow → row ≡ take (y * w + w - y * w) (drop (y * w) v) → was ≡ take (y * w + w - y * w) (drop (y * w) shadow)
-    → paint ≡ (not true || (marked && not (same_cells row was))) → (marked ≡ false → row_of w y v ≡ row_of w y shadow) → count + cond paint 1 0 ≡ differing w (y + 1) v shadow
+    → paint ≡ (not true || (marked && not (same_cells row was))) → (marked ≡ false → row_of w v y ≡ row_of w shadow y) → count + cond paint 1 0 ≡ differing w (y + 1) v shadow
 unfolding differing
 count_turn w y count v shadow row was marked true h row_is was_is e equal =
-    let differ : same_cells (row_of w y v) (row_of w y shadow) ≡ false = rw (row_is ∙ slice_is y w v, was_is ∙ slice_is y w shadow) at (must_differ true marked (same_cells row was) e refl) in
+    let differ : same_cells (row_of w v y) (row_of w shadow y) ≡ false = rw (row_is ∙ slice_is y w v, was_is ∙ slice_is y w shadow) at (must_differ true marked (same_cells row was) e refl) in
     let e1 : y + 1 ≡ suc y = omega arith in rw (e1, differ, h) refl
 count_turn w y count v shadow row was marked false h row_is was_is e equal =
-    let same : row_of w y v ≡ row_of w y shadow = elim (must_equal true marked (same_cells row was) e).1 [ inl f ↦ equal f | inr t ↦ sym (row_is ∙ slice_is y w v) ∙ are_same row was t ∙ was_is ∙ slice_is y w shadow ] in
+    let same : row_of w v y ≡ row_of w shadow y = elim (must_equal true marked (same_cells row was) e).1 [ inl f ↦ equal f | inr t ↦ sym (row_is ∙ slice_is y w v) ∙ are_same row was t ∙ was_is ∙ slice_is y w shadow ] in
     let e1 : y + 1 ≡ suc y = omega arith in rw (e1, same_by _ _ same, h) refl
 
 -- ---- how many rows differ from the lifted ones
 
-prefix_row : (n y w : ℕ) (a b : List Glyph) → take n a ≡ take n b → y * w + w ≤ n → row_of w y a ≡ row_of w y b
+prefix_row : (n y w : ℕ) (a b : List Glyph) → take n a ≡ take n b → y * w + w ≤ n → row_of w a y ≡ row_of w b y
 prefix_row n y w a b e fits =
-    let one : (xs : List Glyph) → row_of w y xs ≡ drop (y * w) (take (y * w + w) (take n xs)) = λ xs. sym (rw take-take (drop-take (y * w) w xs)) in
+    let one : (xs : List Glyph) → row_of w xs y ≡ drop (y * w) (take (y * w + w) (take n xs)) = λ xs. sym (rw take-take (drop-take (y * w) w xs)) in
     one a ∙ ap (λ xs. drop (y * w) (take (y * w + w) xs)) e ∙ sym (one b)
 
 at_most_one : (b : Bool) → cond b 0 1 ≤ 1
@@ -53,7 +56,7 @@ at_most_one false = omega arith
 differing_behind : (w y k : ℕ) (a b : List Glyph) → differing w (y + k) a b ≤ differing w y a b + k
 unfolding differing
 differing_behind w y zero a b = let e : y + 0 ≡ y = omega arith in rw e (omega arith)
-differing_behind w y (suc k) a b = let e : y + suc k ≡ suc (y + k) = omega arith in rw e (omega (arith, differing_behind w y k a b, at_most_one (same_cells (row_of w (y + k) a) (row_of w (y + k) b))))
+differing_behind w y (suc k) a b = let e : y + suc k ≡ suc (y + k) = omega arith in rw e (omega (arith, differing_behind w y k a b, at_most_one (same_cells (row_of w a (y + k)) (row_of w b (y + k)))))
 
 pub differing_lifted : (w h k : ℕ) (v was : List Glyph) → IsLifted w h k v was → k ≤ h → length was ≡ h * w → differing w h v (lifted_cells was (k * w)) ≤ k
 differing_lifted w h k v was is most long =
@@ -67,24 +70,37 @@ differing_lifted w h k v was is most long =
 
 -- ---- the bytes
 
-pub scrolls : (a b c : List ℕ) (s : Screen) (by w h : ℕ) → s.w ≡ w → s.h ≡ h → by ≤ h → Leads a b s (record s { pen = pen_for 7 }) 0 → Leads b c (record s { pen = pen_for 7 }) (lifted (record s { pen = pen_for 7 }) by) 0
-    → Leads a c s (record s { cells = lifted_cells s.cells (by * w); pen = pen_for 7 }) 0
+pub scrolls : (a b c : List ℕ) (s : Page) (by w h : ℕ) → s.w ≡ w → s.h ≡ h → by ≤ h → Leads a b s (record s { pen = pen_for (plain 7) }) 0 → Leads b c (record s { pen = pen_for (plain 7) }) (lifted (record s { pen = pen_for (plain 7) }) by) 0
+    → Leads a c s (record s { cells = lifted_cells s.cells (by * w); pen = pen_for (plain 7) }) 0
 scrolls a b c s by w h ew eh most first second =
     let e : min by s.h * s.w ≡ by * w = rw (ew, eh) (let m : min by h ≡ by = omega arith in rw m refl) in
-    leads_then a b c s (record s { pen = pen_for 7 }) (record s { cells = lifted_cells s.cells (by * w); pen = pen_for 7 }) 0 0 0 first (rw e at second) (omega arith)
+    leads_then a b c s (record s { pen = pen_for (plain 7) }) (record s { cells = lifted_cells s.cells (by * w); pen = pen_for (plain 7) }) 0 0 0 first (rw e at second) (omega arith)
 
 length-lifted : (was : List Glyph) (count n : ℕ) → length was ≡ n → count ≤ n → length (lifted_cells was count) ≡ n
 length-lifted was count n e h = omega (arith, length-append (drop count was) (replicate count blank_cell), length-drop count was, length-replicate count blank_cell)
 
-pub stays : (w h rows : ℕ) (known : Bool) (v was : List Glyph) (before : ℕ) (old : List ℕ) → length was ≡ h * w → (known ≡ true → v ≡ was → rows ≡ 0) → (known ≡ true → (k : ℕ) → 0 < k → k ≤ h → IsLifted w h k v was → differing w h v was ≤ k)
-    → Lifts w h known v was was before before false rows old old
-stays w h rows known v was before old long none few = record {
-  leads = λ s st e. (s.cells, rw (← st.pen) (leads-none old s), st.screen.cells ∙ rw (st.wide, st.high) refl, e);
+pub stays : (w h rows : ℕ) (v was : List Glyph) (before : Attribute) (old : List ℕ) → length was ≡ h * w → (v ≡ was → rows ≡ 0) → ((k : ℕ) → 0 < k → k ≤ h → IsLifted w h k v was → differing w h v was ≤ k)
+    → Lifts w h true v was was before before false rows old old
+stays w h rows v was before old long none few = record {
+  leads = λ s st p e. (s.cells, rw (← p refl) (leads-none old s), st.page.cells ∙ rw (st.wide, st.high) refl, e);
+  pen = λ p. p refl;
   same = λ f. refl;
   size = long;
   few = λ k. omega arith;
-  lifted = few;
-  quiet = λ k e. (refl, refl, refl, none k e);
+  lifted = λ k. few;
+  quiet = λ k e. (refl, refl, refl, none e);
+}
+
+-- known ground, where nothing was known
+pub begun : (w h : ℕ) (v was : List Glyph) (before : Attribute) (old new : List ℕ) → length was ≡ h * w → ((s : Page) → Leads old new s (record s { pen = starting_pen }) 0) → Lifts w h false v was was before (plain 7) false h old new
+begun w h v was before old new long go = record {
+  leads = λ s st p e. (s.cells, go s, st.page.cells ∙ rw (st.wide, st.high) refl, e);
+  pen = λ p. small_pen;
+  same = λ f. refl;
+  size = long;
+  few = λ k. omega arith;
+  lifted = λ k. absurd (cc);
+  quiet = λ k. absurd (cc);
 }
 
 pub no_rows : (w h rows : ℕ) (v was : List Glyph) → rows ≡ differing w h v was → v ≡ was → rows ≡ 0
@@ -97,14 +113,15 @@ few_by w h least rows v was is e le k some most lift = by_order (nat_lt k least)
     by_order true t = absurd (is.least k some (grind (arith, nat_tests)) lift)
     by_order false t = let ge : least ≤ k = grind (arith, nat_tests) in omega (arith, e, le, ge)
 
-pub moves : (w h least rows : ℕ) (known : Bool) (v was now : List Glyph) (before : ℕ) (old new : List ℕ) → length was ≡ h * w → IsLeast w h v was least → rows ≡ differing w h v was → least < rows → now ≡ lifted_cells was (least * w)
-    → ((s : Screen) → s.w ≡ w → s.h ≡ h → s.pen ≡ pen_for before → Leads old new s (record s { cells = lifted_cells s.cells (least * w); pen = pen_for 7 }) 0)
-    → Lifts w h known v was now before 7 true least old new
-moves w h least rows known v was now before old new long is e lt now_is go =
+pub moves : (w h least rows : ℕ) (v was now : List Glyph) (before : Attribute) (old new : List ℕ) → length was ≡ h * w → IsLeast w h v was least → rows ≡ differing w h v was → least < rows → now ≡ lifted_cells was (least * w)
+    → ((s : Page) → s.w ≡ w → s.h ≡ h → s.pen ≡ pen_for before → Leads old new s (record s { cells = lifted_cells s.cells (least * w); pen = pen_for (plain 7) }) 0)
+    → Lifts w h true v was now before (plain 7) true least old new
+moves w h least rows v was now before old new long is e lt now_is go =
     let below : least * w ≤ h * w = mul-le least w h w is.most (omega arith) in
     let few : differing w h v now ≤ least = rw now_is (differing_lifted w h least v was is.is is.most long) in
     record {
-      leads = λ s st k. (lifted_cells s.cells (least * w), go s st.wide st.high st.pen, length-lifted s.cells (least * w) (h * w) (st.screen.cells ∙ rw (st.wide, st.high) refl) below, λ t. rw (k t) (sym now_is));
+      leads = λ s st p k. (lifted_cells s.cells (least * w), go s st.wide st.high (p refl), length-lifted s.cells (least * w) (h * w) (st.page.cells ∙ rw (st.wide, st.high) refl) below, λ t. rw (k t) (sym now_is));
+      pen = λ p. small_pen;
       same = λ f. cc;
       size = ap length now_is ∙ length-lifted was (least * w) (h * w) long below;
       few = λ k. omega arith;

@@ -1,6 +1,6 @@
 -- The cursor at the end of a frame.
 use Rattle.std.proofs.Common.{◌≡◌, ℕ, ◌+◌, ◌-◌, ◌<◌, Bool, true, false, cond, not, min, max, List, refl, sym, ap, ◌∙◌, arith}
-use Rattle.con_term.specs.Page.{Screen}
+use Rattle.con_term.specs.Page.{Page}
 use Rattle.con_term.specs.Effect.{gone_to}
 use Rattle.con_paint.specs.Leads.{Leads}
 use Rattle.con_paint.specs.Placed.{Placed}
@@ -9,14 +9,14 @@ use Rattle.con_paint.specs.Spot.{IsAt}
 use Rattle.con_paint.specs.declared.spot.Spot.{Spot}
 use Rattle.con_paint.proofs.LeadLemmas.{leads_then, leads-none}
 
-pub gone : (old new : List ℕ) (s : Screen) (x y : ℕ) → (x < s.w) × (y < s.h) → Leads old new s (gone_to s (y + 1) (x + 1)) 0 → Leads old new s (record s { x = x; y = y; pending = false }) 0
+pub gone : (old new : List ℕ) (s : Page) (x y : ℕ) → (x < s.w) × (y < s.h) → Leads old new s (gone_to s (y + 1) (x + 1)) 0 → Leads old new s (record s { x = x; y = y; pending = false }) 0
 gone old new s x y h l =
     let ex : min (max (x + 1) 1) s.w - 1 ≡ x = omega arith in let ey : min (max (y + 1) 1) s.h - 1 ≡ y = omega arith in
     let same : gone_to s (y + 1) (x + 1) ≡ record s { x = x; y = y; pending = false } = rw (ex, ey) refl in
     rw same at l
 
 -- the cursor stands there
-pub there : (old : List ℕ) (s : Screen) (spot : Spot) (x y : ℕ) → IsAt spot s → spot.known ≡ true → spot.x ≡ x → spot.y ≡ y → Leads old old s (record s { x = x; y = y; pending = false }) 0
+pub there : (old : List ℕ) (s : Page) (spot : Spot) (x y : ℕ) → IsAt spot s → spot.known ≡ true → spot.x ≡ x → spot.y ≡ y → Leads old old s (record s { x = x; y = y; pending = false }) 0
 there old s spot x y at known ex ey =
     let k = at.at known in
     let cx : s.x ≡ x = k.0 ∙ ex in let cy : s.y ≡ y = k.1 ∙ ey in
@@ -27,14 +27,14 @@ not_unknown true h = refl
 not_unknown false h = cc
 
 -- from a known place to the next row's first column
-pub below : (old new : List ℕ) (s : Screen) (spot : Spot) (x y : ℕ) → IsAt spot s → not spot.known ≡ false → y ≡ spot.y + 1 → x ≡ 0 → y < s.h → (s.y + 1 < s.h → Leads old new s (record s { x = 0; y = s.y + 1; pending = false }) 0) → Leads old new s (record s { x = x; y = y; pending = false }) 0
+pub below : (old new : List ℕ) (s : Page) (spot : Spot) (x y : ℕ) → IsAt spot s → not spot.known ≡ false → y ≡ spot.y + 1 → x ≡ 0 → y < s.h → (s.y + 1 < s.h → Leads old new s (record s { x = 0; y = s.y + 1; pending = false }) 0) → Leads old new s (record s { x = x; y = y; pending = false }) 0
 below old new s spot x y at known ey ex inside l =
     let cy : s.y ≡ spot.y = (at.at (not_unknown spot.known known)).1 in
     let row : s.y + 1 ≡ y = omega (arith, cy, ey) in
     rw (← row, ex) (l (omega (arith, row, inside)))
 
 -- to the column before it
-pub back : (old new : List ℕ) (s : Screen) (spot : Spot) (x y : ℕ) → IsAt spot s → spot.known ≡ true → spot.y ≡ y → spot.x ≡ x + 1 → Leads old new s (record s { x = s.x - 1; pending = false }) 0 → Leads old new s (record s { x = x; y = y; pending = false }) 0
+pub back : (old new : List ℕ) (s : Page) (spot : Spot) (x y : ℕ) → IsAt spot s → spot.known ≡ true → spot.y ≡ y → spot.x ≡ x + 1 → Leads old new s (record s { x = s.x - 1; pending = false }) 0 → Leads old new s (record s { x = x; y = y; pending = false }) 0
 back old new s spot x y at known ey ex l =
     let cx : s.x ≡ spot.x = (at.at known).0 in
     let cy : s.y ≡ y = (at.at known).1 ∙ ey in
@@ -42,7 +42,7 @@ back old new s spot x y at known ey ex l =
     rw (← cy, ← column) l
 
 -- the cursor's turn, behind a place
-turned : (old mid new : List ℕ) (s t : Screen) (turn visible : Bool) → (turn ≡ false → t.visible ≡ visible) → Leads old mid s t 0 → ((r : Screen) → Leads mid new r (cond turn (record r { visible = visible }) r) 0) → Leads old new s (record t { visible = visible }) 0
+turned : (old mid new : List ℕ) (s t : Page) (turn visible : Bool) → (turn ≡ false → t.visible ≡ visible) → Leads old mid s t 0 → ((r : Page) → Leads mid new r (cond turn (record r { visible = visible }) r) 0) → Leads old new s (record t { visible = visible }) 0
 turned old mid new s t true visible h a b = leads_then old mid new s t _ 0 0 0 a (b t) (omega arith)
 turned old mid new s t false visible h a b = rw (← h refl) (leads_then old mid new s t t 0 0 0 a (b t) (omega arith))
 
@@ -51,10 +51,10 @@ seen_so : (known hidden before was now : Bool) → (hidden ≡ true → now ≡ 
 seen_so known true before was now a b c d = c refl ∙ sym (a refl)
 seen_so known false before was now a b c d = let k = b refl in d refl k.0 ∙ k.1
 
-pub finished : (old mid new : List ℕ) (s : Screen) (known hidden turn was : Bool) (spot end : Spot) (caret : Caret) → end ≡ cond caret.visible (record { known = true; x = caret.x; y = caret.y }) spot
+pub finished : (old mid new : List ℕ) (s : Page) (known hidden turn was : Bool) (spot end : Spot) (caret : Caret) → end ≡ cond caret.visible (record { known = true; x = caret.x; y = caret.y }) spot
     → (turn ≡ false → hidden ≡ true → caret.visible ≡ false) → (turn ≡ false → hidden ≡ false → (known ≡ true) × (was ≡ caret.visible))
     → (s.x < s.w) × (s.y < s.h) → (caret.visible ≡ true → (caret.x < s.w) × (caret.y < s.h)) → (hidden ≡ true → s.visible ≡ false) → (hidden ≡ false → known ≡ true → s.visible ≡ was) → IsAt spot s
-    → Leads old mid s (cond caret.visible (record s { x = caret.x; y = caret.y; pending = false }) s) 0 → ((r : Screen) → Leads mid new r (cond turn (record r { visible = caret.visible }) r) 0) → Placed old new s caret end
+    → Leads old mid s (cond caret.visible (record s { x = caret.x; y = caret.y; pending = false }) s) 0 → ((r : Page) → Leads mid new r (cond turn (record r { visible = caret.visible }) r) 0) → Placed old new s caret end
 finished old mid new s known hidden turn was spot end caret end_is dark kept inside fits hid shown at goes turns = by_test caret.visible refl end_is goes
   where
     seen : turn ≡ false → s.visible ≡ caret.visible
@@ -81,6 +81,6 @@ finished old mid new s known hidden turn was spot end caret end_is dark kept ins
     }
 
 -- a cursor that does not show stays where it is
-pub not_settled : (b : Bool) (old : List ℕ) (s t : Screen) → not b ≡ true → Leads old old s (cond b t s) 0
+pub not_settled : (b : Bool) (old : List ℕ) (s t : Page) → not b ≡ true → Leads old old s (cond b t s) 0
 not_settled true old s t e = cc
 not_settled false old s t e = leads-none old s

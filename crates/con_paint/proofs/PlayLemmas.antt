@@ -3,23 +3,27 @@ use Rattle.std.proofs.Common.{◌≡◌, ℕ, ◌*◌, ◌<◌, ◌≤◌, Bool,
 use Rattle.std.proofs.lemmas.Nat.{mul-le}
 use Rattle.std.proofs.Math.Seq.{drop-append_seam}
 use Rattle.std.specs.Prelude.{pos}
+use Rattle.con_units.specs.Attr.{Attribute}
 use Rattle.con_units.specs.Glyph.{Glyph}
 use Rattle.con_units.specs.declared.view.View.{View}
-use Rattle.con_term.specs.Page.{Screen}
+use Rattle.con_units.specs.View.{IsWhole}
+use Rattle.con_term.specs.Pen.{IsPen}
+use Rattle.con_term.specs.Page.{Page}
 use Rattle.con_term.specs.Play.{play, typed, printed}
 use Rattle.con_term.specs.Terminal.{Terminal}
 use Rattle.con_paint.specs.Leads.{Leads}
-use Rattle.con_paint.specs.Pens.{pen_for}
+use Rattle.con_paint.specs.Ink.{pen_for}
 use Rattle.con_paint.specs.Lift.{Lifts}
-use Rattle.con_paint.specs.Frame.{differing, rows_to_paint, Stands, Reach, Rows}
-use Rattle.con_paint.specs.Placed.{Placed, IsCaret}
-use Rattle.con_paint.specs.Painter.{Kept, Allows, Paints, IsWhole, IsShown}
+use Rattle.con_paint.specs.Compared.{differing}
+use Rattle.con_paint.specs.Frame.{rows_to_paint, Sized, Stands}
+use Rattle.con_paint.specs.Placed.{IsCaret}
+use Rattle.con_paint.specs.Drawn.{Drawn}
+use Rattle.con_paint.specs.Painter.{Kept, Agrees, Allows, Paints, IsKept, IsShown}
 use Rattle.con_paint.specs.Spot.{IsAt}
 use Rattle.con_paint.specs.declared.frame.Caret.{Caret}
 use Rattle.con_paint.specs.declared.spot.Spot.{Spot}
 use Rattle.con_paint.specs.declared.spot.State.{State}
 use Rattle.con_paint.proofs.LeadLemmas.{leads_then}
-use Rattle.con_paint.proofs.FrameLemmas.{mixed_all, small_pen}
 
 at_most : (n m k : ℕ) → n ≤ m → m ≤ k → n ≤ k
 at_most n m k a b = omega arith
@@ -27,80 +31,69 @@ at_most n m k a b = omega arith
 same_pos : (m n : ℕ) → pos m ≡ pos n → m ≡ n
 same_pos m n e = cc
 
-clean : (t : Terminal) → t.bytes ≡ [] → t.units ≡ [] → t ≡ record { screen = t.screen; bytes = []; units = [] }
-clean t b u = ap (λ xs. record t { bytes = xs }) b ∙ ap (λ xs. record { screen = t.screen; bytes = []; units = xs }) u
+clean : (t : Terminal) → t.bytes ≡ [] → t.units ≡ [] → t ≡ record { page = t.page; bytes = []; units = [] }
+clean t b u = ap (λ xs. record t { bytes = xs }) b ∙ ap (λ xs. record { page = t.page; bytes = []; units = xs }) u
 
-play_clean : (s r : Screen) (n : ℕ) (old new : List ℕ) (l : Leads old new s r n) → play (record { screen = s; bytes = []; units = [] }) l.bytes ≡ record { screen = r; bytes = []; units = [] }
+play_clean : (s r : Page) (n : ℕ) (old new : List ℕ) (l : Leads old new s r n) → play (record { page = s; bytes = []; units = [] }) l.bytes ≡ record { page = r; bytes = []; units = [] }
 unfolding play typed
-play_clean s r n old new l = rw (l.spelled.decoded, l.spelled.read, l.screen) refl
+play_clean s r n old new l = rw (l.spelled.decoded, l.spelled.read, l.page) refl
 
-cost_clean : (s r : Screen) (n : ℕ) (old new : List ℕ) (l : Leads old new s r n) → printed (record { screen = s; bytes = []; units = [] }) l.bytes ≡ n
+cost_clean : (s r : Page) (n : ℕ) (old new : List ℕ) (l : Leads old new s r n) → printed (record { page = s; bytes = []; units = [] }) l.bytes ≡ n
 unfolding printed
 cost_clean s r n old new l = rw (l.spelled.decoded, l.spelled.read) l.count
 
 appended : (old new bytes : List ℕ) → new ≡ old ++ bytes → drop (length old) new ≡ bytes
 appended old new bytes e = rw e (drop-append_seam old bytes)
 
-pub played : (t : Terminal) (r : Screen) (n : ℕ) (old new : List ℕ) → t.bytes ≡ [] → t.units ≡ [] → Leads old new t.screen r n → (play t (drop (length old) new) ≡ record { screen = r; bytes = []; units = [] }) × (printed t (drop (length old) new) ≡ n)
+pub played : (t : Terminal) (r : Page) (n : ℕ) (old new : List ℕ) → t.bytes ≡ [] → t.units ≡ [] → Leads old new t.page r n → (play t (drop (length old) new) ≡ record { page = r; bytes = []; units = [] }) × (printed t (drop (length old) new) ≡ n)
 played t r n old new b u l = let e = appended old new l.bytes l.appended in
-    (ap (play t) e ∙ ap (λ z. play z l.bytes) (clean t b u) ∙ play_clean t.screen r n old new l, ap (printed t) e ∙ ap (λ z. printed z l.bytes) (clean t b u) ∙ cost_clean t.screen r n old new l)
+    (ap (play t) e ∙ ap (λ z. play z l.bytes) (clean t b u) ∙ play_clean t.page r n old new l, ap (printed t) e ∙ ap (λ z. printed z l.bytes) (clean t b u) ∙ cost_clean t.page r n old new l)
 
--- a cursor that is hidden, where it is to be
-dark : (hid : Bool) (s : Screen) → cond hid (record s { visible = false }) s ≡ record s { visible = cond hid false s.visible }
-dark true s = refl
-dark false s = refl
+abbrev kept : ℕ → ℕ → Bool → List Glyph → Attribute → Spot → Bool → Kept
+kept w h known cells ink spot visible = record { w = w; h = h; known = known; cells = cells; attr = ink; placed = spot.known; x = spot.x; y = spot.y; visible = visible }
 
-abbrev kept : ℕ → ℕ → Bool → List Glyph → ℕ → Spot → Bool → Kept
-kept w h known cells word spot visible = record { w = w; h = h; known = known; cells = cells; word = word; placed = spot.known; x = spot.x; y = spot.y; visible = visible }
+pub caret_inside : (w h : ℕ) (view : View) (caret : Caret) → view.size.w ≡ w → view.size.h ≡ h → IsCaret view caret → caret.visible ≡ true → (caret.x < w) × (caret.y < h)
+caret_inside w h view caret ew eh is_caret e = let i = is_caret.inside (sym is_caret.visible ∙ e) in rw (← ew, ← eh) i
 
-pub framed : (w h ink ink' ink2 : ℕ) (view : View) (shadow shadow' now : List Glyph) (known every hid was : Bool) (rows_left : ℕ) (a b b1 b2 c d : List ℕ) (spot at end : Spot) (after : State) (caret : Caret) → view.size.w ≡ w → view.size.h ≡ h → now ≡ view.rows → IsWhole view → IsCaret view caret
+-- a frame's begin, and then the rest of it, from a terminal that the painter allows
+pub framed : (w h : ℕ) (ink ink2 : Attribute) (v shadow shadow' : List Glyph) (known every was : Bool) (left : ℕ) (a b d : List ℕ) (spot at : Spot) (after : State) (caret : Caret) → (caret.visible ≡ true → (caret.x < w) × (caret.y < h))
     → (at.known ≡ true → (known ≡ true) × (spot.known ≡ true) × (at.x ≡ spot.x) × (at.y ≡ spot.y))
-    → ((s : Screen) → (known ≡ true → s.pen ≡ pen_for ink) → Leads a b s (record s { pen = pen_for ink' }) 0)
-    → Lifts w h known view.rows shadow shadow' ink' ink2 every rows_left b b1
-    → ((s : Screen) → Leads b1 b2 s (cond hid (record s { visible = false }) s) 0)
-    → Rows w h view.rows shadow' known (record { word = ink2; spot = at }) b2 c h after
-    → ((s : Screen) → (s.x < s.w) × (s.y < s.h) → (caret.visible ≡ true → (caret.x < s.w) × (caret.y < s.h)) → (hid ≡ true → s.visible ≡ false) → (hid ≡ false → known ≡ true → s.visible ≡ was) → IsAt after.spot s → Placed c d s caret end)
-    → (t : Terminal) → Allows (kept w h known shadow ink spot was) t → Paints (kept w h known shadow ink spot was) (kept w h true now after.word end caret.visible) view (drop (length a) d) t
-framed w h ink ink' ink2 view shadow shadow' now known every hid was rows_left a b b1 b2 c d spot at end_spot after caret ew eh en full is_caret spot_is start lift hide rows finish t ok =
-    let s = t.screen in let is = ok.terminal in
-    let long : length view.rows ≡ h * w = full.cells ∙ rw (ew, eh) refl in
-    let l1 : Leads a b s (record s { pen = pen_for ink' }) 0 = start s (λ k. (ok.agrees k).pen) in
-    let s1 : Screen = record s { pen = pen_for ink' } in
-    let stands : Stands w h ink' s1 = record { screen = record { width = is.screen.width; height = is.screen.height; cells = is.screen.cells; column = is.screen.column; row = is.screen.row; pen = small_pen ink' }; wide = is.wide; high = is.high; pen = refl } in
-    let lf = lift.leads s1 stands (λ k. (ok.agrees k).cells) in
-    let s2 : Screen = record s1 { cells = lf.0; pen = pen_for ink2 } in
-    let s3 : Screen = record s2 { visible = cond hid false s.visible } in
-    let l3 : Leads b1 b2 s2 s3 0 = rw (dark hid s2) at (hide s2) in
-    let stands3 : Stands w h ink2 s3 = record { screen = record { width = is.screen.width; height = is.screen.height; cells = lf.2 ∙ rw (is.wide, is.high) refl; column = is.screen.column; row = is.screen.row; pen = small_pen ink2 }; wide = is.wide; high = is.high; pen = refl } in
-    let at3 : IsAt at s3 = record { at = λ k. let j = spot_is k in let q = (ok.agrees j.0).place j.1 in (q.0 ∙ sym j.2, q.1 ∙ sym j.3, q.2) } in
-    let r : Reach w h view.rows after (w * rows_to_paint known w h view.rows shadow') h b2 c s3 = rows.reach s3 stands3 at3 lf.3 in
-    let p : Placed c d r.to caret end_spot = finish r.to (r.stands.screen.column, r.stands.screen.row) (λ e. let i = is_caret.inside (sym is_caret.visible ∙ e) in rw (r.stands.wide, r.stands.high, ← ew, ← eh) i)
-    (λ e. r.visible ∙ ap (λ z. cond z false s.visible) e) (λ e k. r.visible ∙ ap (λ z. cond z false s.visible) e ∙ (ok.agrees k).visible) r.place in
-    let end : Screen = record r.to { x = p.x; y = p.y; pending = p.pending; visible = caret.visible } in
+    → Lifts w h known v shadow shadow' ink ink2 every left a b
+    → ((s : Page) → Stands w h ink2 s → IsAt at s → (known ≡ true → (s.cells ≡ shadow') × (s.visible ≡ was)) → (caret.visible ≡ true → (caret.x < w) × (caret.y < h)) → Drawn w h v (w * rows_to_paint known w h v shadow') caret after b d s)
+    → (t : Terminal) → Allows (kept w h known shadow ink spot was) t → Drawn w h v (w * rows_to_paint known w h v shadow') caret after a d t.page
+framed w h ink ink2 v shadow shadow' known every was left a b d spot at after caret inside spot_is lift draw t ok =
+    let s = t.page in let is = ok.terminal in
+    let lf = lift.leads s (record { page = is.page; wide = is.wide; high = is.high }) (λ k. (ok.agrees k).pen) (λ k. (ok.agrees k).cells) in
+    let s2 : Page = record s { cells = lf.0; pen = pen_for ink2 } in
+    let stands : Stands w h ink2 s2 = record { page = record { width = is.page.width; height = is.page.height; cells = lf.2 ∙ rw (is.wide, is.high) refl; column = is.page.column; row = is.page.row; pen = lift.pen (λ k. rw (ok.agrees k).pen at is.page.pen) }; wide = is.wide; high = is.high; pen = refl } in
+    let at2 : IsAt at s2 = record { at = λ k. let j = spot_is k in let q = (ok.agrees j.0).place j.1 in (q.0 ∙ sym j.2, q.1 ∙ sym j.3, q.2) } in
+    let r : Drawn w h v (w * rows_to_paint known w h v shadow') caret after b d s2 = draw s2 stands at2 (λ k. (lf.3 k, (ok.agrees k).visible)) inside in
+    record { to = r.to; count = r.count; leads = leads_then a b d s s2 r.to 0 r.count r.count lf.1 r.leads (omega arith); few = r.few; stands = r.stands; cells = r.cells; place = r.place; visible = r.visible }
+
+-- what is drawn on a terminal that the painter allows is painted
+pub painted : (w h : ℕ) (ink ink2 : Attribute) (view : View) (shadow shadow' now : List Glyph) (known every was : Bool) (left : ℕ) (a b d : List ℕ) (spot : Spot) (after : State) (caret : Caret) → view.size.w ≡ w → view.size.h ≡ h → now ≡ view.rows → IsCaret view caret
+    → (caret.visible ≡ true → after.spot ≡ record { known = true; x = caret.x; y = caret.y })
+    → Lifts w h known view.rows shadow shadow' ink ink2 every left a b
+    → (t : Terminal) → Allows (kept w h known shadow ink spot was) t → Drawn w h view.rows (w * rows_to_paint known w h view.rows shadow') caret after a d t.page
+    → Paints (kept w h known shadow ink spot was) (kept w h true now after.attr after.spot caret.visible) view (drop (length a) d) t
+painted w h ink ink2 view shadow shadow' now known every was left a b d spot after caret ew eh en is_caret end lift t ok r =
+    let is = ok.terminal in
+    let e = played t r.to r.count a d is.no_bytes is.no_units r.leads in
     let n : ℕ = r.count in
-    let l : Leads a d s end n = leads_then a c d s r.to end n 0 n (leads_then a b2 c s s3 r.to 0 n n (leads_then a b1 b2 s s2 s3 0 0 0 (leads_then a b b1 s s1 s2 0 0 0 l1 lf.1 (omega arith)) l3 (omega arith)) r.leads (omega arith)) p.leads (omega arith) in
-    let e = played t end n a d is.no_bytes is.no_units l in
-    let cells : r.to.cells ≡ view.rows = r.cells ∙ mixed_all view.rows lf.0 (h * w) long lf.2 in
     record {
       shows = rw e.0 (record {
         width = r.stands.wide ∙ sym ew;
         height = r.stands.high ∙ sym eh;
-        cells = cells;
-        visible = is_caret.visible;
-        column = λ k. let v = is_caret.visible ∙ k in let q = p.shown v in ap pos ((p.place q.0).0 ∙ q.1) ∙ is_caret.column k;
-        row = λ k. let v = is_caret.visible ∙ k in let q = p.shown v in ap pos ((p.place q.0).1 ∙ q.2) ∙ is_caret.row k;
+        cells = r.cells;
+        visible = r.visible ∙ is_caret.visible;
+        column = λ k. let v = is_caret.visible ∙ k in let q = end v in let p = r.place.at (ap (λ (z : Spot). z.known) q) in ap pos (p.0 ∙ ap (λ (z : Spot). z.x) q) ∙ is_caret.column k;
+        row = λ k. let v = is_caret.visible ∙ k in let q = end v in let p = r.place.at (ap (λ (z : Spot). z.known) q) in ap pos (p.1 ∙ ap (λ (z : Spot). z.y) q) ∙ is_caret.row k;
         no_bytes = refl;
         no_units = refl;
       });
       allows = rw e.0 (record {
-        terminal = record {
-          screen = record { width = r.stands.screen.width; height = r.stands.screen.height; cells = r.stands.screen.cells; column = p.inside.0; row = p.inside.1; pen = r.stands.screen.pen };
-          wide = r.stands.wide;
-          high = r.stands.high;
-          no_bytes = refl;
-          no_units = refl;
-        };
-        agrees = λ k. record { cells = cells ∙ sym en; pen = r.stands.pen; visible = refl; place = p.place };
+        terminal = record { page = r.stands.page; wide = r.stands.wide; high = r.stands.high; no_bytes = refl; no_units = refl };
+        agrees = λ k. record { cells = r.cells ∙ sym en; pen = r.stands.pen; visible = r.visible; place = r.place.at };
       });
       first = λ k. let f : n ≤ w * rows_to_paint known w h view.rows shadow' = r.few in rw (e.1, ew, eh) (rw k at f);
       few = λ k. let f : n ≤ w * rows_to_paint known w h view.rows shadow' = r.few in let g = mul-le w (differing w h view.rows shadow') w (differing w h view.rows shadow) (omega arith) (lift.few k) in rw (e.1, ew, eh) (at_most n _ _ (rw k at f) g);
@@ -111,36 +104,93 @@ framed w h ink ink' ink2 view shadow shadow' now known every hid was rows_left a
           rw (e.1, ew) (at_most n _ _ (rw k at f) g);
     }
 
+-- ---- every painter allows some terminal
+
+-- a place, or the first one where it is not known
+abbrev place_or : Bool → ℕ → ℕ
+place_or known x = cond known x 0
+
+inside_or : (known : Bool) (x w : ℕ) → 0 < w → (known ≡ true → x < w) → place_or known x < w
+inside_or true x w some h = h refl
+inside_or false x w some h = some
+
+at_place : (known : Bool) (x : ℕ) → known ≡ true → place_or known x ≡ x
+at_place true x h = refl
+at_place false x h = cc
+
+abbrev allowed : Kept → Terminal
+allowed p = record { page = record { w = p.w; h = p.h; cells = p.cells; x = place_or p.placed p.x; y = place_or p.placed p.y; pen = pen_for p.attr; pending = false; visible = p.visible }; bytes = []; units = [] }
+
+pub is_allowed : (p : Kept) → IsKept p → Allows p (allowed p)
+is_allowed p h = record {
+  terminal = record {
+    page = record {
+      width = h.window.few_columns;
+      height = h.window.few_rows;
+      cells = h.cells;
+      column = inside_or p.placed p.x p.w h.window.some_columns (λ k. (h.place k).0);
+      row = inside_or p.placed p.y p.h h.window.some_rows (λ k. (h.place k).1);
+      pen = h.pen;
+    };
+    wide = refl;
+    high = refl;
+    no_bytes = refl;
+    no_units = refl;
+  };
+  agrees = λ k. record { cells = refl; pen = refl; visible = refl; place = λ q. (at_place p.placed p.x q, at_place p.placed p.y q, refl) };
+}
+
+-- so a frame is drawn on some terminal
+pub some_frame : (w h : ℕ) (ink ink2 : Attribute) (v shadow shadow' : List Glyph) (known every was : Bool) (left : ℕ) (a b d : List ℕ) (spot at : Spot) (after : State) (caret : Caret) → IsKept (kept w h known shadow ink spot was) → (caret.visible ≡ true → (caret.x < w) × (caret.y < h))
+    → (at.known ≡ true → (known ≡ true) × (spot.known ≡ true) × (at.x ≡ spot.x) × (at.y ≡ spot.y))
+    → Lifts w h known v shadow shadow' ink ink2 every left a b
+    → ((s : Page) → Stands w h ink2 s → IsAt at s → (known ≡ true → (s.cells ≡ shadow') × (s.visible ≡ was)) → (caret.visible ≡ true → (caret.x < w) × (caret.y < h)) → Drawn w h v (w * rows_to_paint known w h v shadow') caret after b d s)
+    → Drawn w h v (w * rows_to_paint known w h v shadow') caret after a d (allowed (kept w h known shadow ink spot was)).page
+some_frame w h ink ink2 v shadow shadow' known every was left a b d spot at after caret is inside spot_is lift draw =
+    let p = kept w h known shadow ink spot was in
+    framed w h ink ink2 v shadow shadow' known every was left a b d spot at after caret inside spot_is lift draw (allowed p) (is_allowed p is)
+
+-- what bytes lead from any page stands behind the old ones
+pub appends : (w h most : ℕ) (v : List Glyph) (caret : Caret) (after : State) (a d : List ℕ) (s : Page) → Drawn w h v most caret after a d s → d ≡ a ++ drop (length a) d
+appends w h most v caret after a d s r = r.leads.appended ∙ ap (λ xs. a ++ xs) (sym (appended a d r.leads.bytes r.leads.appended))
+
+-- a place that is known lies inside
+pub ends_inside : (w h most : ℕ) (v : List Glyph) (caret : Caret) (after : State) (a d : List ℕ) (s : Page) → Drawn w h v most caret after a d s → after.spot.known ≡ true → (after.spot.x < w) × (after.spot.y < h)
+ends_inside w h most v caret after a d s r k =
+    let p = r.place.at k in
+    let column = r.stands.page.column in
+    let row = r.stands.page.row in
+    (omega (arith, column, p.0, r.stands.wide), omega (arith, row, p.1, r.stands.high))
+
+-- a pen that is left is one that a terminal may have
+pub ends_in_pen : (w h most : ℕ) (v : List Glyph) (caret : Caret) (after : State) (a d : List ℕ) (s : Page) → Drawn w h v most caret after a d s → IsPen (pen_for after.attr)
+ends_in_pen w h most v caret after a d s r = rw r.stands.pen at r.stands.page.pen
+
+-- ---- a view that was painted last
+
 -- nothing is written where nothing differs
-pub silent : (w h ink ink' ink2 : ℕ) (view : View) (shadow shadow' : List Glyph) (known every many hid was : Bool) (rows_left : ℕ) (a b b1 b2 c d : List ℕ) (spot at : Spot) (after : State) (caret : Caret) → IsCaret view caret → IsShown (kept w h known shadow ink spot was) view
-    → (known ≡ true → at ≡ spot) → (known ≡ true → (b ≡ a) × (ink' ≡ ink)) → Lifts w h known view.rows shadow shadow' ink' ink2 every rows_left b b1 → (rows_left ≡ 0 → many ≡ false) → (known ≡ true → many ≡ false → was ≡ caret.visible → hid ≡ false) → (hid ≡ false → b2 ≡ b1)
-    → Rows w h view.rows shadow' known (record { word = ink2; spot = at }) b2 c h after
-    → (known ≡ true → hid ≡ false → was ≡ caret.visible → (caret.visible ≡ true → (after.spot.known ≡ true) × (after.spot.x ≡ caret.x) × (after.spot.y ≡ caret.y)) → d ≡ c) → d ≡ a
-silent w h ink ink' ink2 view shadow shadow' known every many hid was rows_left a b b1 b2 c d spot at after caret is_caret shown spot_is start lift few hide turn rows finish =
+pub silent : (w h : ℕ) (ink ink2 : Attribute) (view : View) (shadow shadow' : List Glyph) (known every was : Bool) (left : ℕ) (a b d : List ℕ) (spot at : Spot) (caret : Caret) → IsCaret view caret → IsShown (kept w h known shadow ink spot was) view
+    → (known ≡ true → at ≡ spot) → Lifts w h known view.rows shadow shadow' ink ink2 every left a b
+    → (known ≡ true → view.rows ≡ shadow' → left ≡ 0 → was ≡ caret.visible → (caret.visible ≡ true → (at.known ≡ true) × (at.x ≡ caret.x) × (at.y ≡ caret.y)) → d ≡ b) → d ≡ a
+silent w h ink ink2 view shadow shadow' known every was left a b d spot at caret is_caret shown spot_is lift draw =
     let k = shown.known in
-    let st = start k in
     let lf = lift.quiet k shown.cells in
     let seen : was ≡ caret.visible = shown.visible ∙ sym is_caret.visible in
-    let h0 = hide k (few lf.3) seen in
-    let r = rows.quiet k (shown.cells ∙ sym lf.1) in
-    let same : after.spot ≡ spot = ap (λ (z : State). z.spot) r.1 ∙ spot_is k in
-    let place : caret.visible ≡ true → (after.spot.known ≡ true) × (after.spot.x ≡ caret.x) × (after.spot.y ≡ caret.y) = λ e. let v = sym is_caret.visible ∙ e in (
+    let same : at ≡ spot = spot_is k in
+    let place : caret.visible ≡ true → (at.known ≡ true) × (at.x ≡ caret.x) × (at.y ≡ caret.y) = λ e. let v = sym is_caret.visible ∙ e in (
       ap (λ (z : Spot). z.known) same ∙ shown.placed v,
       ap (λ (z : Spot). z.x) same ∙ same_pos spot.x caret.x (shown.column v ∙ sym (is_caret.column v)),
       ap (λ (z : Spot). z.y) same ∙ same_pos spot.y caret.y (shown.row v ∙ sym (is_caret.row v)),
     ) in
-    finish k h0 seen place ∙ r.0 ∙ turn h0 ∙ lf.0 ∙ st.0
+    draw k (shown.cells ∙ sym lf.1) lf.3 seen place ∙ lf.0
 
 -- the view is what was painted last
-pub now_shown : (w h word : ℕ) (view : View) (now : List Glyph) (spot end : Spot) (caret : Caret) → now ≡ view.rows → IsCaret view caret → end ≡ cond caret.visible (record { known = true; x = caret.x; y = caret.y }) spot → IsShown (kept w h true now word end caret.visible) view
-now_shown w h word view now spot end caret en is_caret end_is = record {
+pub now_shown : (w h : ℕ) (ink : Attribute) (view : View) (now : List Glyph) (end : Spot) (caret : Caret) → now ≡ view.rows → IsCaret view caret → (caret.visible ≡ true → end ≡ record { known = true; x = caret.x; y = caret.y }) → IsShown (kept w h true now ink end caret.visible) view
+now_shown w h ink view now end caret en is_caret end_is = record {
   known = refl;
   cells = sym en;
   visible = is_caret.visible;
-  placed = λ v. ap (λ (z : Spot). z.known) (here v);
-  column = λ v. ap (λ (z : Spot). pos z.x) (here v) ∙ is_caret.column v;
-  row = λ v. ap (λ (z : Spot). pos z.y) (here v) ∙ is_caret.row v;
+  placed = λ v. ap (λ (z : Spot). z.known) (end_is (is_caret.visible ∙ v));
+  column = λ v. ap (λ (z : Spot). pos z.x) (end_is (is_caret.visible ∙ v)) ∙ is_caret.column v;
+  row = λ v. ap (λ (z : Spot). pos z.y) (end_is (is_caret.visible ∙ v)) ∙ is_caret.row v;
 }
-  where
-    here : view.visible ≡ true → ◌≡◌ {A = Spot} end (record { known = true; x = caret.x; y = caret.y })
-    here v = end_is ∙ ap (λ (b : Bool). cond {A = Spot} b (record { known = true; x = caret.x; y = caret.y }) spot) (is_caret.visible ∙ v)

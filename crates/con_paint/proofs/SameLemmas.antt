@@ -2,17 +2,50 @@
 use Rattle.std.proofs.Common.{◌≡◌, ℕ, ◌+◌, ◌<◌, ◌≤◌, Bool, true, false, ◌==◌, ◌&&◌, List, [], ◌∷◌, ◌++◌, length, take, get_or, refl, sym, ap, ◌∙◌, arith, zero, suc}
 use Rattle.std.proofs.lemmas.List.{length-take-le, take_all, take_more}
 use Rattle.std.proofs.lemmas.Bool.Decides.{nat_tests}
+use Rattle.con_units.specs.Attr.{Attribute}
 use Rattle.con_units.specs.Glyph.{Glyph}
-use Rattle.con_paint.specs.Frame.{same_cell, same_cells}
+use Rattle.con_units.specs.declared.shade.Shade.{Shade}
+use Rattle.con_units.specs.declared.shade.Shade.TheVariants.{Plain, Index}
+use Rattle.con_term.specs.Dump.{same_attr, same_shade}
+use Rattle.con_paint.specs.Compared.{same_cell, same_cells}
 
 pub both : (a b : Bool) → (a && b) ≡ true → (a ≡ true) × (b ≡ true)
 both true b h = (refl, h)
 both false b h = cc
 
+shades_same : (a b : Shade) → same_shade a b ≡ true → a ≡ b
+shades_same Plain Plain h = refl
+shades_same Plain (Index n) h = cc
+shades_same (Index m) Plain h = cc
+shades_same (Index m) (Index n) h = let e : m ≡ n = grind (arith, nat_tests) in ap Index e
+
+pub attrs_same : (a b : Attribute) → same_attr a b ≡ true → a ≡ b
+unfolding same_attr
+attrs_same a b h =
+    let k = both ((a.word == b.word) && same_shade a.fore b.fore) (same_shade a.back b.back) h in
+    let l = both (a.word == b.word) (same_shade a.fore b.fore) k.0 in
+    let same = l.0 in
+    let w : a.word ≡ b.word = grind (arith, nat_tests) in
+    ap (λ n. record a { word = n }) w ∙ ap (λ x. record a { word = b.word; fore = x }) (shades_same a.fore b.fore l.1) ∙ ap (λ x. record b { back = x }) (shades_same a.back b.back k.1)
+
+same_number : (n : ℕ) → (n == n) ≡ true
+same_number n = grind (arith, nat_tests)
+
+shade_itself : (a : Shade) → same_shade a a ≡ true
+shade_itself Plain = refl
+shade_itself (Index n) = same_number n
+
+pub attr_itself : (a : Attribute) → same_attr a a ≡ true
+unfolding same_attr
+attr_itself a = rw (same_number a.word, shade_itself a.fore, shade_itself a.back) refl
+
+pub never_same : (a b : Attribute) → same_attr a b ≡ false → a ≡ b → ⊥
+never_same a b f e = let t : same_attr a b ≡ true = ap (same_attr a) (sym e) ∙ attr_itself a in let c : true ≡ false = sym t ∙ f in cc
+
 pub one_same : (a b : Glyph) → same_cell a b ≡ true → a ≡ b
-one_same a b h = let k = both (a.unit == b.unit) (a.word == b.word) h in
-    let u : a.unit ≡ b.unit = grind (arith, nat_tests) in let w : a.word ≡ b.word = grind (arith, nat_tests) in
-    ap (λ n. record a { unit = n }) u ∙ ap (λ n. record b { word = n }) w
+one_same a b h = let k = both (a.unit == b.unit) (same_attr a.attr b.attr) h in
+    let u : a.unit ≡ b.unit = grind (arith, nat_tests) in
+    ap (λ n. record a { unit = n }) u ∙ ap (λ x. record b { attr = x }) (attrs_same a.attr b.attr k.1)
 
 pub are_same : (xs ys : List Glyph) → same_cells xs ys ≡ true → xs ≡ ys
 are_same [] [] h = refl
@@ -22,10 +55,10 @@ are_same (x ∷ xs) (y ∷ ys) h = let k = both (same_cell x y) (same_cells xs y
 
 self_same : (xs : List Glyph) → same_cells xs xs ≡ true
 self_same [] = refl
-self_same (x ∷ xs) = let u : (x.unit == x.unit) ≡ true = grind (arith, nat_tests) in let w : (x.word == x.word) ≡ true = grind (arith, nat_tests) in rw (u, w) (self_same xs)
+self_same (x ∷ xs) = rw (same_number x.unit, attr_itself x.attr) (self_same xs)
 
 self_one : (x : Glyph) → same_cell x x ≡ true
-self_one x = let u : (x.unit == x.unit) ≡ true = grind (arith, nat_tests) in let w : (x.word == x.word) ≡ true = grind (arith, nat_tests) in rw (u, w) refl
+self_one x = rw (same_number x.unit, attr_itself x.attr) refl
 
 pub same_by : (xs ys : List Glyph) → xs ≡ ys → same_cells xs ys ≡ true
 same_by xs ys e = rw e (self_same ys)

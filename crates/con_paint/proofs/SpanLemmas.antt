@@ -4,18 +4,22 @@ use Rattle.std.proofs.lemmas.List.{take_at, drop_at, drop-drop, length-take-le, 
 use Rattle.std.proofs.lemmas.Nat.{mul-le}
 use Rattle.std.proofs.lemmas.Bool.Decides.{nat_tests}
 use Rattle.std.proofs.Math.Seq.{take-add}
-use Rattle.con_units.specs.Glyph.{Glyph}
+use Rattle.con_units.specs.Attr.{Attribute, plain}
+use Rattle.con_units.specs.Glyph.{Glyph, blank_cell}
+use Rattle.con_units.specs.View.{row_of}
 use Rattle.con_term.specs.Pen.{IsPen}
-use Rattle.con_term.specs.Page.{Screen, blank, erased, filled, place}
+use Rattle.con_term.specs.Page.{Page, blank, erased, filled, place}
 use Rattle.con_term.specs.Effect.{row_end, unpended}
 use Rattle.con_paint.specs.Leads.{Leads}
-use Rattle.con_paint.specs.Pens.{pen_for}
-use Rattle.con_paint.specs.Paint.{AllCells, cells_printed, last_word, pasted}
-use Rattle.con_paint.specs.Frame.{blank_cell, row_of, same_cell, Stands, Painted}
+use Rattle.con_paint.specs.Ink.{pen_for}
+use Rattle.con_paint.specs.Paint.{AllCells, cells_printed, last_attr, pasted}
+use Rattle.con_paint.specs.Compared.{same_cell}
+use Rattle.con_paint.specs.Frame.{Stands, Painted}
 use Rattle.con_paint.specs.Span.{IsSpan, piece, behind, patched, RowEnd}
 use Rattle.con_paint.specs.declared.span.Span.{Span}
 use Rattle.con_paint.specs.Spot.{IsBehind}
 use Rattle.con_paint.specs.declared.spot.Spot.{Spot}
+use Rattle.con_paint.proofs.PenLemmas.{pen_is}
 use Rattle.con_paint.proofs.LeadLemmas.{leads_then, leads-none}
 use Rattle.con_paint.proofs.RunLemmas.{run, ran}
 use Rattle.con_paint.proofs.SameLemmas.{one_same}
@@ -81,7 +85,7 @@ pasted_twice c at p u r fits inside =
     let long : length ((take u p ++ r) ++ drop (u + length r) p) ≡ length p = length-pasted p u r inside in
     rw (front, back, long) (simp append_assoc)
 
--- columns that are written in a row of a screen
+-- columns that are written in a row of a page
 pub pasted_within : (c : List Glyph) (at w from : ℕ) (sub : List Glyph) → at + w ≤ length c → from + length sub ≤ w → pasted c (at + from) sub ≡ pasted c at (pasted (take w (drop at c)) from sub)
 pasted_within c at w from sub h k =
     let n : length (take w (drop at c)) ≡ w = length-take-le w (drop at c) (omega (arith, length-drop at c)) in
@@ -123,15 +127,20 @@ span_erased now row from upto e order ends front back =
 
 -- ---- the bytes of a row
 
-small_pen : (word : ℕ) → IsPen (pen_for word)
-small_pen word = record { foreground = omega arith; background = omega arith }
+small_pen : IsPen (pen_for (plain 7))
+small_pen = record { foreground = omega arith; background = omega arith; fore = tt; back = tt }
 
-plain_blank : (s : Screen) → blank (record s { pen = pen_for 7 }) ≡ blank_cell
+-- the pen behind cells is one that a terminal may have
+last_pen : (before : Attribute) (cs : List Glyph) → AllCells cs → IsPen (pen_for before) → IsPen (pen_for (last_attr before cs))
+last_pen before [] all h = h
+last_pen before (c ∷ cs) all h = last_pen c.attr cs all.1 (pen_is c.attr all.0.attr)
+
+plain_blank : (s : Page) → blank (record s { pen = pen_for (plain 7) }) ≡ blank_cell
 plain_blank s = refl
 
--- the screen behind the end of a row
-record Ended (w y : ℕ) (old_cells row : List Glyph) (upto ink : ℕ) (c d : List ℕ) (r : Screen) : Type 0 where
-  pub to : Screen
+-- the page behind the end of a row
+record Ended (w y : ℕ) (old_cells row : List Glyph) (upto : ℕ) (ink : Attribute) (c d : List ℕ) (r : Page) : Type 0 where
+  pub to : Page
   pub count : ℕ
   pub leads : Leads c d r to count
   pub few : count + upto ≤ w
@@ -140,9 +149,9 @@ record Ended (w y : ℕ) (old_cells row : List Glyph) (upto ink : ℕ) (c d : Li
   pub place : upto < w → (to.x ≡ upto) × (to.y ≡ y) × (to.pending ≡ false)
   pub visible : to.visible ≡ r.visible
 
-ends : (erase : Bool) (w h y upto pen ink : ℕ) (cells p row : List Glyph) (c d : List ℕ) (r : Screen) → r.w ≡ w → r.h ≡ h → w ≤ 512 → h ≤ 256 → y < h → r.y ≡ y → upto ≤ w → (erase ≡ true → upto < w) → (upto < w → (r.x ≡ upto) × (r.pending ≡ false)) → r.x < w → length cells ≡ h * w → length p ≡ w → r.pen ≡ pen_for pen
+ends : (erase : Bool) (w h y upto : ℕ) (pen ink : Attribute) (cells p row : List Glyph) (c d : List ℕ) (r : Page) → IsPen (pen_for pen) → r.w ≡ w → r.h ≡ h → w ≤ 512 → h ≤ 256 → y < h → r.y ≡ y → upto ≤ w → (erase ≡ true → upto < w) → (upto < w → (r.x ≡ upto) × (r.pending ≡ false)) → r.x < w → length cells ≡ h * w → length p ≡ w → r.pen ≡ pen_for pen
     → r.cells ≡ pasted cells (y * w) p → behind erase p upto ≡ row → RowEnd erase pen ink c d → Ended w y cells row upto ink c d r
-ends false w h y upto pen ink cells p row c d r ew eh wide high lt ey le er ex xl cl pl pr is same step =
+ends false w h y upto pen ink cells p row c d r may ew eh wide high lt ey le er ex xl cl pl pr is same step =
     let below : y * w + w ≤ h * w = omega (arith, mul-le (y + 1) w h w (omega arith) (omega arith)) in
     let long : length r.cells ≡ h * w = ap length is ∙ length-pasted cells (y * w) p (omega arith) ∙ cl in
     record {
@@ -152,7 +161,7 @@ ends false w h y upto pen ink cells p row c d r ew eh wide high lt ey le er ex x
       few = omega arith;
       cells = is ∙ ap (pasted cells (y * w)) same;
       stands = record {
-        screen = record { width = omega arith; height = omega arith; cells = long ∙ rw (ew, eh) refl; column = omega arith; row = omega arith; pen = rw pr (small_pen pen) };
+        page = record { width = omega arith; height = omega arith; cells = long ∙ rw (ew, eh) refl; column = omega arith; row = omega arith; pen = rw pr may };
         wide = refl;
         high = refl;
         pen = rw step.1 pr;
@@ -160,7 +169,7 @@ ends false w h y upto pen ink cells p row c d r ew eh wide high lt ey le er ex x
       place = λ k. ((ex k).0, ey, (ex k).1);
       visible = refl;
     }
-ends true w h y upto pen ink cells p row c d r ew eh wide high lt ey le er ex xl cl pl pr is same step =
+ends true w h y upto pen ink cells p row c d r may ew eh wide high lt ey le er ex xl cl pl pr is same step =
     let below : y * w + w ≤ h * w = omega (arith, mul-le (y + 1) w h w (omega arith) (omega arith)) in
     let column : r.x ≡ upto = (ex (er refl)).0 in
     let at : place r ≡ y * w + upto = rw (column, ey, ew) refl in
@@ -172,13 +181,13 @@ ends true w h y upto pen ink cells p row c d r ew eh wide high lt ey le er ex xl
     let row_length : length row ≡ w = ap length (sym same) ∙ length-pasted p upto (replicate (length p - upto) blank_cell) (omega arith) ∙ pl in
     let long : length (filled r.cells (place r) (row_end r) blank_cell) ≡ h * w = ap length after ∙ length-pasted cells (y * w) row (omega arith) ∙ cl in
     record {
-      to = unpended (erased (record r { pen = pen_for 7 }) (place r) (row_end r));
+      to = unpended (erased (record r { pen = pen_for (plain 7) }) (place r) (row_end r));
       count = r.w - r.x;
       leads = step.0 r pr;
       few = omega arith;
       cells = after;
       stands = record {
-        screen = record { width = omega arith; height = omega arith; cells = long ∙ rw (ew, eh) refl; column = omega arith; row = omega arith; pen = small_pen 7 };
+        page = record { width = omega arith; height = omega arith; cells = long ∙ rw (ew, eh) refl; column = omega arith; row = omega arith; pen = small_pen };
         wide = refl;
         high = refl;
         pen = rw step.1 refl;
@@ -190,9 +199,9 @@ ends true w h y upto pen ink cells p row c d r ew eh wide high lt ey le er ex xl
 not_equal : (m n : ℕ) → m < n → (m == n) ≡ false
 not_equal m n h = grind (arith, nat_tests)
 
-pub lined : (w h y ink pen before : ℕ) (spot : Spot) (row : List Glyph) (span : Span) (a b c d : List ℕ) (s : Screen) → w ≡ length row → Stands w h before s → y < h → IsSpan row span → AllCells (piece row span.from span.upto) → patched (row_of w y s.cells) row span ≡ row
-    → Leads a b s (record s { x = span.from; y = y; pending = false }) 0 → ((r : Screen) → r.pen ≡ pen_for before → Leads b c r (cells_printed r (piece row span.from span.upto)) (length (piece row span.from span.upto))) → pen ≡ last_word before (piece row span.from span.upto)
-    → RowEnd span.erase pen ink c d → IsBehind spot span.upto w y → Painted w h y (record { word = ink; spot = spot }) row a d s
+pub lined : (w h y : ℕ) (ink pen before : Attribute) (spot : Spot) (row : List Glyph) (span : Span) (a b c d : List ℕ) (s : Page) → w ≡ length row → Stands w h before s → y < h → IsSpan row span → AllCells (piece row span.from span.upto) → patched (row_of w s.cells y) row span ≡ row
+    → Leads a b s (record s { x = span.from; y = y; pending = false }) 0 → ((r : Page) → r.pen ≡ pen_for before → Leads b c r (cells_printed r (piece row span.from span.upto)) (length (piece row span.from span.upto))) → pen ≡ last_attr before (piece row span.from span.upto)
+    → RowEnd span.erase pen ink c d → IsBehind spot span.upto w y → Painted w h y (record { attr = ink; spot = spot }) row a d s
 lined w h y ink pen before spot row span a b c d s ew st lt is all whole go cells last end behind =
     record {
       to = e.to;
@@ -200,7 +209,7 @@ lined w h y ink pen before spot row span a b c d s ew st lt is all whole go cell
       leads = leads_then a c d s r e.to (length sub) e.count (length sub + e.count) (leads_then a b c s g r 0 (length sub) (length sub) go (rw closed at (cells g st.pen)) (omega arith)) e.leads refl;
       few = omega (arith, e.few, sub_length);
       cells = e.cells;
-      stands = record { screen = e.stands.screen; wide = e.stands.wide ∙ st.wide; high = e.stands.high ∙ st.high; pen = e.stands.pen };
+      stands = record { page = e.stands.page; wide = e.stands.wide ∙ st.wide; high = e.stands.high ∙ st.high; pen = e.stands.pen };
       place = record { at = λ k. let q = behind.behind k in let p = e.place q.2 in (p.0 ∙ sym q.0, p.1 ∙ sym q.1, p.2) };
       visible = e.visible;
     }
@@ -208,10 +217,10 @@ lined w h y ink pen before spot row span a b c d s ew st lt is all whole go cell
     sub : List Glyph
     sub = piece row span.from span.upto
 
-    g : Screen
+    g : Page
     g = record s { x = span.from; y = y; pending = false }
 
-    r : Screen
+    r : Page
     r = ran g before sub
 
     wide : s.w ≡ w
@@ -242,7 +251,7 @@ lined w h y ink pen before spot row span a b c d s ew st lt is all whole go cell
     at = rw (gx, gy, wide) refl
 
     long : length s.cells ≡ h * w
-    long = st.screen.cells ∙ rw (wide, high) refl
+    long = st.page.cells ∙ rw (wide, high) refl
 
     below : y * w + w ≤ h * w
     below = omega (arith, mul-le (y + 1) w h w (omega arith) (omega arith))
@@ -250,14 +259,14 @@ lined w h y ink pen before spot row span a b c d s ew st lt is all whole go cell
     closed : cells_printed g sub ≡ ran g before sub
     closed = run g before sub all refl st.pen (omega (arith, gx, starts, wide)) (omega (arith, gx, sub_length, wide, upto_in, order)) (omega (arith, at, long, sub_length, below, upto_in, order))
 
-    now_length : length (row_of w y s.cells) ≡ w
+    now_length : length (row_of w s.cells y) ≡ w
     now_length = length-take-le w (drop (y * w) s.cells) (omega (arith, length-drop (y * w) s.cells, long, below))
 
     patch : List Glyph
-    patch = pasted (row_of w y s.cells) span.from sub
+    patch = pasted (row_of w s.cells y) span.from sub
 
     patch_length : length patch ≡ w
-    patch_length = length-pasted (row_of w y s.cells) span.from sub (omega (arith, now_length, sub_length, upto_in, order)) ∙ now_length
+    patch_length = length-pasted (row_of w s.cells y) span.from sub (omega (arith, now_length, sub_length, upto_in, order)) ∙ now_length
 
     r_cells : r.cells ≡ pasted s.cells (y * w) patch
     r_cells = ap (λ z. pasted s.cells z sub) at ∙ pasted_within s.cells (y * w) w span.from sub (omega (arith, long, below)) (omega (arith, sub_length, upto_in, order))
@@ -274,10 +283,10 @@ lined w h y ink pen before spot row span a b c d s ew st lt is all whole go cell
     inside = omega (arith, wide, starts)
 
     e : Ended w y s.cells row span.upto ink c d r
-    e = ends span.erase w h y span.upto pen ink s.cells patch row c d r wide high (omega (arith, st.screen.width, wide)) (omega (arith, st.screen.height, high)) lt gy upto_in erased_in column inside long patch_length (ap pen_for (sym last)) r_cells whole end
+    e = ends span.erase w h y span.upto pen ink s.cells patch row c d r (rw last (last_pen before sub all (rw st.pen at st.page.pen))) wide high (omega (arith, st.page.width, wide)) (omega (arith, st.page.height, high)) lt gy upto_in erased_in column inside long patch_length (ap pen_for (sym last)) r_cells whole end
 
-pub end_erased : (erase : Bool) (before ink : ℕ) (a b c : List ℕ) → erase ≡ true → ink ≡ 7 → ((s : Screen) → s.pen ≡ pen_for before → Leads a b s (record s { pen = pen_for 7 }) 0) → ((s : Screen) → Leads b c s (unpended (erased s (place s) (row_end s))) (s.w - s.x)) → RowEnd erase before ink a c
-end_erased true before ink a b c e seven pen end = (λ s h. leads_then a b c s (record s { pen = pen_for 7 }) _ 0 (s.w - s.x) (s.w - s.x) (pen s h) (end (record s { pen = pen_for 7 })) (omega arith), seven)
+pub end_erased : (erase : Bool) (before ink : Attribute) (a b c : List ℕ) → erase ≡ true → ink ≡ plain 7 → ((s : Page) → s.pen ≡ pen_for before → Leads a b s (record s { pen = pen_for (plain 7) }) 0) → ((s : Page) → Leads b c s (unpended (erased s (place s) (row_end s))) (s.w - s.x)) → RowEnd erase before ink a c
+end_erased true before ink a b c e seven pen end = (λ s h. leads_then a b c s (record s { pen = pen_for (plain 7) }) _ 0 (s.w - s.x) (s.w - s.x) (pen s h) (end (record s { pen = pen_for (plain 7) })) (omega arith), seven)
 end_erased false before ink a b c e seven pen end = cc
 
 -- ---- columns that are the same
@@ -290,5 +299,5 @@ pub back_same : (known : Bool) (upto : ℕ) (row was now : List Glyph) → lengt
 back_same true upto row was now n h k e = h refl ∙ ap (drop upto) (sym (e refl))
 back_same false upto row was now n h k e = let end : upto ≡ length row = k refl in drop_all upto row (omega arith) ∙ sym (drop_all upto now (omega arith))
 
-pub begins_in : (h y before : ℕ) (row : List Glyph) (span : Span) (s : Screen) → Stands (length row) h before s → y < h → IsSpan row span → (span.from < s.w) × (y < s.h)
+pub begins_in : (h y : ℕ) (before : Attribute) (row : List Glyph) (span : Span) (s : Page) → Stands (length row) h before s → y < h → IsSpan row span → (span.from < s.w) × (y < s.h)
 begins_in h y before row span s st lt is = (omega (arith, is.starts, st.wide), omega (arith, st.high))

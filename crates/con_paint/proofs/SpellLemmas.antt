@@ -11,13 +11,14 @@ use Rattle.con_units.specs.Utf8.{utf8, is_cut_character, whole_character, may_fo
 use Rattle.con_units.specs.Stored.{is_shown, stored_unit, is_control, is_surrogate}
 use Rattle.con_units.specs.ReadLaws.{read_so}
 use Rattle.con_units.specs.SplitLaws.{split_after-append}
+use Rattle.con_units.specs.Decimal.{decimal}
 use Rattle.con_vtgram.specs.Text.{grammar, is_front, whole, kept, sixteen, csi_items, is_parameter_unit, is_digit_or_semicolon, is_acting, after_question, is_question}
 use Rattle.con_vtgram.specs.Numbers.{pieces, parameter, parameters, decimal_value}
 use Rattle.con_vtgram.specs.declared.item.Item.{Item}
 use Rattle.con_vtgram.specs.declared.item.Item.TheVariants.{Print, Control, Csi}
 use Rattle.con_vtgram.specs.SequenceLaws.{first-is_front, first-whole}
 use Rattle.con_term.specs.Play.{units_of}
-use Rattle.con_paint.specs.Bytes.{digits, more_numbers, separated, csi_bytes, utf8_of, ground_bytes}
+use Rattle.con_paint.specs.Bytes.{more_numbers, separated, csi_bytes, utf8_of, ground_bytes}
 use Rattle.con_paint.specs.Spells.{AllSmall, IsFinal, Spells, csi, question, ground_items}
 
 -- ---- one after another
@@ -70,8 +71,8 @@ ascii_spells bytes items h k = record { characters = bytes; decoded = ascii_spli
 abbrev pub is_digit : ℕ → Bool
 is_digit u = nat_le 0x30 u && nat_le u 0x39
 
-pub all_digits : (n : ℕ) → n < 1000 → list_all is_digit (digits n) ≡ true
-unfolding digits
+pub all_digits : (n : ℕ) → n < 1000 → list_all is_digit (decimal n) ≡ true
+unfolding decimal
 all_digits n h = by_size (nat_lt n 100) (nat_lt n 10) refl refl
   where
     last : is_digit (0x30 + n % 10) ≡ true
@@ -89,8 +90,8 @@ all_digits n h = by_size (nat_lt n 100) (nat_lt n 10) refl refl
     by_size false true _ _ = rw (hundreds, last) refl
     by_size false false _ _ = rw (hundreds, tens, last) refl
 
-pub value_of_digits : (n : ℕ) → n < 1000 → decimal_value (digits n) ≡ n
-unfolding digits
+pub value_of_digits : (n : ℕ) → n < 1000 → decimal_value (decimal n) ≡ n
+unfolding decimal
 value_of_digits n h = by_size (nat_lt n 100) (nat_lt n 10) refl refl
   where
     by_size : (a b : Bool) → nat_lt n 100 ≡ a → nat_lt n 10 ≡ b → decimal_value (cond a [] ((0x30 + n / 100) ∷ []) ++ cond b [] ((0x30 + n / 10 % 10) ∷ []) ++ (0x30 + n % 10) ∷ []) ≡ n
@@ -111,13 +112,13 @@ unfolding pieces
 front_piece [] rest p ps h k = k
 front_piece (d ∷ ds) rest p ps h k = let e = both (is_digit d) (list_all is_digit ds) h in rw (no_semicolon d e.0, front_piece ds rest p ps e.1 k) refl
 
-pieces_are : (n : ℕ) (ns : List ℕ) → n < 1000 → AllSmall ns → pieces (digits n ++ more_numbers ns) ≡ digits n ∷ map digits ns
+pieces_are : (n : ℕ) (ns : List ℕ) → n < 1000 → AllSmall ns → pieces (decimal n ++ more_numbers ns) ≡ decimal n ∷ map decimal ns
 unfolding pieces
-pieces_are n [] h all = front_piece (digits n) [] [] [] (all_digits n h) refl ∙ ap (λ p. p ∷ []) (append_none (digits n))
-pieces_are n (m ∷ ms) h all = front_piece (digits n) (0x3B ∷ (digits m ++ more_numbers ms)) [] (pieces (digits m ++ more_numbers ms)) (all_digits n h) refl
-    ∙ rw (append_none (digits n), pieces_are m ms all.0 all.1) refl
+pieces_are n [] h all = front_piece (decimal n) [] [] [] (all_digits n h) refl ∙ ap (λ p. p ∷ []) (append_none (decimal n))
+pieces_are n (m ∷ ms) h all = front_piece (decimal n) (0x3B ∷ (decimal m ++ more_numbers ms)) [] (pieces (decimal m ++ more_numbers ms)) (all_digits n h) refl
+    ∙ rw (append_none (decimal n), pieces_are m ms all.0 all.1) refl
 
-values_are : (ns : List ℕ) → AllSmall ns → map parameter (map digits ns) ≡ ns
+values_are : (ns : List ℕ) → AllSmall ns → map parameter (map decimal ns) ≡ ns
 values_are [] all = refl
 values_are (n ∷ ns) all = let small : min 32767 n ≡ n = omega arith in rw (value_of_digits n all.0, small, values_are ns all.1) refl
 
@@ -125,8 +126,8 @@ parameters_some : (x : ℕ) (xs ys : List ℕ) → ys ≡ x ∷ xs → parameter
 unfolding parameters
 parameters_some x xs ys h = rw h refl
 
-digits_some : (n : ℕ) (rest : List ℕ) → (x : ℕ) × (xs : List ℕ) × (digits n ++ rest ≡ x ∷ xs)
-unfolding digits
+digits_some : (n : ℕ) (rest : List ℕ) → (x : ℕ) × (xs : List ℕ) × (decimal n ++ rest ≡ x ∷ xs)
+unfolding decimal
 digits_some n rest = by_size (nat_lt n 100) (nat_lt n 10)
   where
     by_size : (a b : Bool) → (x : ℕ) × (xs : List ℕ) × ((cond a [] ((0x30 + n / 100) ∷ []) ++ cond b [] ((0x30 + n / 10 % 10) ∷ []) ++ (0x30 + n % 10) ∷ []) ++ rest ≡ x ∷ xs)
@@ -135,9 +136,9 @@ digits_some n rest = by_size (nat_lt n 100) (nat_lt n 10)
     by_size false true = (_, _, refl)
     by_size false false = (_, _, refl)
 
-pub numbers_are : (n : ℕ) (ns : List ℕ) → n < 1000 → AllSmall ns → parameters (digits n ++ more_numbers ns) ≡ n ∷ ns
+pub numbers_are : (n : ℕ) (ns : List ℕ) → n < 1000 → AllSmall ns → parameters (decimal n ++ more_numbers ns) ≡ n ∷ ns
 numbers_are n ns h all = let some = digits_some n (more_numbers ns) in
-    parameters_some some.0 some.1 (digits n ++ more_numbers ns) some.2 ∙ rw (pieces_are n ns h all) (values_are (n ∷ ns) (h, all))
+    parameters_some some.0 some.1 (decimal n ++ more_numbers ns) some.2 ∙ rw (pieces_are n ns h all) (values_are (n ∷ ns) (h, all))
 
 -- ---- control sequences
 
@@ -156,10 +157,10 @@ digit_body x h = grind (arith, nat_tests)
 
 more_body : (ns : List ℕ) → AllSmall ns → list_all is_body (more_numbers ns) ≡ true
 more_body [] all = refl
-more_body (n ∷ ns) all = joined_all is_body (digits n) (more_numbers ns) (weaker is_digit is_body (digits n) digit_body (all_digits n all.0)) (more_body ns all.1)
+more_body (n ∷ ns) all = joined_all is_body (decimal n) (more_numbers ns) (weaker is_digit is_body (decimal n) digit_body (all_digits n all.0)) (more_body ns all.1)
 
-body : (n : ℕ) (ns : List ℕ) → n < 1000 → AllSmall ns → list_all is_body (digits n ++ more_numbers ns) ≡ true
-body n ns h all = joined_all is_body (digits n) (more_numbers ns) (weaker is_digit is_body (digits n) digit_body (all_digits n h)) (more_body ns all)
+body : (n : ℕ) (ns : List ℕ) → n < 1000 → AllSmall ns → list_all is_body (decimal n ++ more_numbers ns) ≡ true
+body n ns h all = joined_all is_body (decimal n) (more_numbers ns) (weaker is_digit is_body (decimal n) digit_body (all_digits n h)) (more_body ns all)
 
 open_body : (done more : List ℕ) → list_all is_parameter_unit done ≡ true → list_all is_parameter_unit more ≡ true → GoesOnBy grammar (0x1B ∷ 0x5B ∷ done) more
 unfolding is_front

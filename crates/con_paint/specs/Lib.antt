@@ -1,3 +1,8 @@
+-- What a reader must believe: the words that public clauses cite.
+pub mod Ink
+pub mod Compared
+pub mod Painter
+-- The code's own words.
 pub mod Bytes
 pub mod Spells
 pub mod Leads
@@ -9,6 +14,6 @@ pub mod Frame
 pub mod Span
 pub mod Rest
 pub mod Lift
-pub mod Painter
 pub mod Placed
+pub mod Drawn
 pub mod Inside

@@ -1,16 +1,15 @@
 -- Frames that lift the rows of a terminal.
 use Rattle.std.specs.Prelude.{ℕ, ◌-◌, ◌*◌, ◌<◌, ◌≤◌, ◌≡◌, Bool, true, false, List, ◌++◌, length, take, drop, replicate}
-use Rattle.con_units.specs.Glyph.{Glyph}
-use Rattle.con_term.specs.Page.{Screen}
+use Rattle.con_units.specs.Attr.{Attribute}
+use Rattle.con_units.specs.Glyph.{Glyph, blank_cell}
+use Rattle.con_term.specs.Pen.{IsPen}
+use Rattle.con_term.specs.Page.{Page}
 use Rattle.con_paint.specs.Leads.{Leads}
-use Rattle.con_paint.specs.Pens.{pen_for}
-use Rattle.con_paint.specs.Frame.{blank_cell, differing, Stands}
+use Rattle.con_paint.specs.Ink.{pen_for}
+use Rattle.con_paint.specs.Compared.{differing, IsLifted}
+use Rattle.con_paint.specs.Frame.{Sized}
 
--- the rows of a view are the old ones lifted by k, with k new rows below
-abbrev pub IsLifted : ℕ → ℕ → ℕ → List Glyph → List Glyph → Type 0
-IsLifted w h k v old = take (h * w - k * w) v ≡ drop (k * w) old
-
--- the cells go up by a count of places, and blanks in the starting word come behind
+-- the cells go up by a count of places, and blanks in the starting attribute come behind
 abbrev pub lifted_cells : List Glyph → ℕ → List Glyph
 lifted_cells cells count = drop count cells ++ replicate count blank_cell
 
@@ -21,9 +20,10 @@ pub record IsLeast (w h : ℕ) (v old : List Glyph) (k : ℕ) : Type 0 where
   pub is : IsLifted w h k v old
   pub least : (j : ℕ) → 0 < j → j < k → IsLifted w h j v old → ⊥
 
--- the bytes lift a terminal's rows, or there are none
-pub record Lifts (w h : ℕ) (known : Bool) (v was now : List Glyph) (before ink : ℕ) (every : Bool) (rows : ℕ) (old new : List ℕ) : Type 0 where
-  pub leads : (s : Screen) → Stands w h before s → (known ≡ true → s.cells ≡ was) → (cells : List Glyph) × Leads old new s (record s { cells = cells; pen = pen_for ink }) 0 × (length cells ≡ h * w) × (known ≡ true → cells ≡ now)
+-- the bytes bring a terminal to a known pen, and lift its rows or not
+pub record Lifts (w h : ℕ) (known : Bool) (v was now : List Glyph) (before ink : Attribute) (every : Bool) (rows : ℕ) (old new : List ℕ) : Type 0 where
+  pub leads : (s : Page) → Sized w h s → (known ≡ true → s.pen ≡ pen_for before) → (known ≡ true → s.cells ≡ was) → (cells : List Glyph) × Leads old new s (record s { cells = cells; pen = pen_for ink }) 0 × (length cells ≡ h * w) × (known ≡ true → cells ≡ now)
+  pub pen : (known ≡ true → IsPen (pen_for before)) → IsPen (pen_for ink)
   pub same : every ≡ false → now ≡ was
   pub size : length now ≡ h * w
   pub few : known ≡ true → differing w h v now ≤ differing w h v was

@@ -1,12 +1,12 @@
 -- The part of a row that is written.
 use Rattle.std.specs.Prelude.{ℕ, ◌-◌, ◌<◌, ◌≤◌, ◌≡◌, Bool, true, false, List, length, take, drop, replicate}
-use Rattle.con_units.specs.Glyph.{Glyph}
-use Rattle.con_term.specs.Page.{Screen, erased, place}
+use Rattle.con_units.specs.Attr.{Attribute, plain}
+use Rattle.con_units.specs.Glyph.{Glyph, blank_cell}
+use Rattle.con_term.specs.Page.{Page, erased, place}
 use Rattle.con_term.specs.Effect.{row_end, unpended}
 use Rattle.con_paint.specs.Leads.{Leads}
-use Rattle.con_paint.specs.Pens.{pen_for}
+use Rattle.con_paint.specs.Ink.{pen_for}
 use Rattle.con_paint.specs.Paint.{pasted}
-use Rattle.con_paint.specs.Frame.{blank_cell}
 use Rattle.con_paint.specs.declared.span.Span.{Span}
 
 -- the columns lie in the row
@@ -30,6 +30,6 @@ abbrev pub patched : List Glyph → List Glyph → Span → List Glyph
 patched now row s = behind s.erase (pasted now s.from (piece row s.from s.upto)) s.upto
 
 -- the end of the row is erased in the starting pen, or nothing is written
-abbrev pub RowEnd : Bool → ℕ → ℕ → List ℕ → List ℕ → Type 0
-RowEnd true before ink old new = ((s : Screen) → s.pen ≡ pen_for before → Leads old new s (unpended (erased (record s { pen = pen_for 7 }) (place s) (row_end s))) (s.w - s.x)) × (ink ≡ 7)
+abbrev pub RowEnd : Bool → Attribute → Attribute → List ℕ → List ℕ → Type 0
+RowEnd true before ink old new = ((s : Page) → s.pen ≡ pen_for before → Leads old new s (unpended (erased (record s { pen = pen_for (plain 7) }) (place s) (row_end s))) (s.w - s.x)) × (ink ≡ plain 7)
 RowEnd false before ink old new = (new ≡ old) × (ink ≡ before)

@@ -1,22 +1,49 @@
 //! Cells, one after another in a row.
 ghost use Rattle.std.specs.Prelude.{◌≡◌, ◌+◌, ◌*◌, ◌<◌, ◌≤◌, true, false, length};
 ghost use Rattle.std.specs.Vec.{vec_len, vec_capacity};
+ghost use Rattle.con_units.specs.Attr.{IsAttribute};
 ghost use Rattle.con_units.specs.Stored.{stored_unit};
-ghost use Rattle.con_term.specs.Page.{Screen};
+ghost use Rattle.con_term.specs.Dump.{same_attr, same_shade};
+ghost use Rattle.con_term.specs.Page.{Page};
 ghost use Rattle.con_paint.specs.Leads.{Leads};
-ghost use Rattle.con_paint.specs.Pens.{pen_for};
-ghost use Rattle.con_paint.specs.Frame.{same_cell, same_cells};
-ghost use Rattle.con_paint.specs.Paint.{IsCell, AllCells, cell_printed, cells_printed, last_word};
+ghost use Rattle.con_paint.specs.Ink.{pen_for};
+ghost use Rattle.con_paint.specs.Compared.{same_cell, same_cells};
+ghost use Rattle.con_paint.specs.Paint.{IsCell, AllCells, cell_printed, cells_printed, last_attr};
 
 use crate::emit::print;
 use crate::pen::choose;
-use con_units::Cell;
+use con_units::{Attr, Cell, Shade};
+
+// Whether two shades are the same.
+fn is_same_shade(a: Shade, b: Shade) -> bool
+    ensures { result ≡ same_shade a b }
+{
+    match a {
+        Shade::Plain => match b {
+            Shade::Plain => true,
+            Shade::Index(_) => false,
+        },
+        Shade::Index(m) => match b {
+            Shade::Plain => false,
+            Shade::Index(n) => m == n,
+        },
+    }
+}
+
+/// Whether two attributes are the same.
+#[tactic(auto, unfolding(con_term::specs::Dump::same_attr))]
+pub(crate) fn is_same_attr(a: Attr, b: Attr) -> bool
+    ensures value { result ≡ same_attr a b }
+    ensures kept { (IsAttribute a × (a.word < 0x10000)) × (IsAttribute b × (b.word < 0x10000)) }
+{
+    a.bits() == b.bits() && is_same_shade(a.fore(), b.fore()) && is_same_shade(a.back(), b.back())
+}
 
 /// Whether two cells are the same.
 pub(crate) fn is_same(a: Cell, b: Cell) -> bool
     ensures { result ≡ same_cell a b }
 {
-    a.unit() == b.unit() && a.attr().bits() == b.attr().bits()
+    a.unit() == b.unit() && is_same_attr(a.attr(), b.attr())
 }
 
 /// Whether two rows have the same cells.
@@ -32,33 +59,34 @@ pub(crate) fn same(a: &[Cell], b: &[Cell]) -> bool
     true
 }
 
-// Prints a unit in a word, where the pen is that of the word before.
-fn cell(out: &mut Vec<u8>, unit: u16, word: u16, before: u16)
+// Prints a unit in an attribute, where the pen is that of the attribute before.
+fn cell(out: &mut Vec<u8>, unit: u16, attr: Attr, before: Attr)
     requires shown { stored_unit unit ≡ unit }
-    requires room { vec_len out.old + 26 ≤ vec_capacity out.old }
-    ensures leads { (s : Screen) → s.pen ≡ pen_for before → Leads out.old.items out.new.items s (cell_printed s (record { unit = unit; word = word })) 1 }
+    requires room { vec_len out.old + 46 ≤ vec_capacity out.old }
+    ensures leads { (s : Page) → s.pen ≡ pen_for before → Leads out.old.items out.new.items s (cell_printed s (record { unit = unit; attr = attr })) 1 }
+    ensures kept { IsAttribute attr × (attr.word < 0x10000) }
     ensures capacity { vec_capacity out.new ≡ vec_capacity out.old }
-    ensures few { vec_len out.new ≤ vec_len out.old + 26 }
+    ensures few { vec_len out.new ≤ vec_len out.old + 46 }
 {
-    choose(out, before, word);
+    choose(out, before, attr);
     print(out, unit);
 }
 
-/// Prints cells, where the pen is that of the word before, and gives the last word.
-pub(crate) fn cells(out: &mut Vec<u8>, row: &[Cell], before: u16) -> u16
-    requires room { vec_len out.old + 26 * length row.now ≤ vec_capacity out.old }
-    ensures leads { (s : Screen) → s.pen ≡ pen_for before → Leads out.old.items out.new.items s (cells_printed s row.now) (length row.now) }
-    ensures pen { result ≡ last_word before row.now }
+/// Prints cells, where the pen is that of the attribute before, and gives the last attribute.
+pub(crate) fn cells(out: &mut Vec<u8>, row: &[Cell], before: Attr) -> Attr
+    requires room { vec_len out.old + 46 * length row.now ≤ vec_capacity out.old }
+    ensures leads { (s : Page) → s.pen ≡ pen_for before → Leads out.old.items out.new.items s (cells_printed s row.now) (length row.now) }
+    ensures pen { result ≡ last_attr before row.now }
     ensures kept { AllCells row.now }
     ensures capacity { vec_capacity out.new ≡ vec_capacity out.old }
-    ensures few { vec_len out.new ≤ vec_len out.old + 26 * length row.now }
+    ensures few { vec_len out.new ≤ vec_len out.old + 46 * length row.now }
 {
     let mut pen = before;
     for one in row {
         let unit = one.unit();
-        let word = one.attr().bits();
-        cell(out, unit, word, pen);
-        pen = word;
+        let attr = one.attr();
+        cell(out, unit, attr, pen);
+        pen = attr;
     }
     pen
 }

@@ -2,10 +2,11 @@
 ghost use Rattle.std.specs.Prelude.{◌≡◌, ◌+◌, ◌-◌, ◌*◌, ◌<◌, ◌≤◌, ◌++◌, ◌||◌, false, length, if◌then◌else◌};
 ghost use Rattle.std.specs.Vec.{vec_len, vec_capacity};
 ghost use Rattle.con_units.specs.Stored.{stored_unit};
+ghost use Rattle.con_units.specs.Decimal.{decimal};
 ghost use Rattle.con_term.specs.Pen.{starting_pen};
-ghost use Rattle.con_term.specs.Page.{Screen, erased, place, printed};
+ghost use Rattle.con_term.specs.Page.{Page, erased, place, printed};
 ghost use Rattle.con_term.specs.Effect.{gone_to, lifted, row_end, unpended};
-ghost use Rattle.con_paint.specs.Bytes.{csi_bytes, digits, part, separated, utf8_of};
+ghost use Rattle.con_paint.specs.Bytes.{csi_bytes, part, separated, utf8_of};
 ghost use Rattle.con_paint.specs.Leads.{Leads};
 ghost use Rattle.con_paint.specs.Places.{lift_numbers, place_numbers};
 
@@ -22,11 +23,11 @@ pub(crate) fn append(out: &mut Vec<u8>, bytes: &[u8])
 }
 
 // Appends a number.
-#[tactic(auto, unfolding(crate::specs::Bytes::digits))]
+#[tactic(auto, unfolding(con_units::specs::Decimal::decimal))]
 fn number(out: &mut Vec<u8>, n: u16)
     requires few { n < 1000 }
     requires room { vec_len out.old + 3 ≤ vec_capacity out.old }
-    ensures bytes { out.new.items ≡ out.old.items ++ digits n }
+    ensures bytes { out.new.items ≡ out.old.items ++ decimal n }
     ensures capacity { vec_capacity out.new ≡ vec_capacity out.old }
     ensures few { vec_len out.new ≤ vec_len out.old + 3 }
 {
@@ -88,7 +89,7 @@ fn place_bytes(out: &mut Vec<u8>, row: u16, column: u16)
 pub(crate) fn go_to(out: &mut Vec<u8>, row: u16, column: u16)
     requires few { (row < 1000) × (column < 1000) }
     requires room { vec_len out.old + 11 ≤ vec_capacity out.old }
-    ensures leads { (s : Screen) → Leads out.old.items out.new.items s (gone_to s row column) 0 }
+    ensures leads { (s : Page) → Leads out.old.items out.new.items s (gone_to s row column) 0 }
     ensures capacity { vec_capacity out.new ≡ vec_capacity out.old }
     ensures few { vec_len out.new ≤ vec_len out.old + 11 }
 {
@@ -98,7 +99,7 @@ pub(crate) fn go_to(out: &mut Vec<u8>, row: u16, column: u16)
 /// Brings the cursor to the first column of its row.
 pub(crate) fn carriage_return(out: &mut Vec<u8>)
     requires room { vec_len out.old + 1 ≤ vec_capacity out.old }
-    ensures leads { (s : Screen) → Leads out.old.items out.new.items s (record s { x = 0; pending = false }) 0 }
+    ensures leads { (s : Page) → Leads out.old.items out.new.items s (record s { x = 0; pending = false }) 0 }
     ensures capacity { vec_capacity out.new ≡ vec_capacity out.old }
     ensures few { vec_len out.new ≤ vec_len out.old + 1 }
 {
@@ -108,7 +109,7 @@ pub(crate) fn carriage_return(out: &mut Vec<u8>)
 /// Brings the cursor to the first column of the next row, where there is one.
 pub(crate) fn next_row(out: &mut Vec<u8>)
     requires room { vec_len out.old + 2 ≤ vec_capacity out.old }
-    ensures leads { (s : Screen) → s.y + 1 < s.h → Leads out.old.items out.new.items s (record s { x = 0; y = s.y + 1; pending = false }) 0 }
+    ensures leads { (s : Page) → s.y + 1 < s.h → Leads out.old.items out.new.items s (record s { x = 0; y = s.y + 1; pending = false }) 0 }
     ensures capacity { vec_capacity out.new ≡ vec_capacity out.old }
     ensures few { vec_len out.new ≤ vec_len out.old + 2 }
 {
@@ -118,7 +119,7 @@ pub(crate) fn next_row(out: &mut Vec<u8>)
 /// Brings the cursor one column back.
 pub(crate) fn backspace(out: &mut Vec<u8>)
     requires room { vec_len out.old + 1 ≤ vec_capacity out.old }
-    ensures leads { (s : Screen) → Leads out.old.items out.new.items s (record s { x = s.x - 1; pending = false }) 0 }
+    ensures leads { (s : Page) → Leads out.old.items out.new.items s (record s { x = s.x - 1; pending = false }) 0 }
     ensures capacity { vec_capacity out.new ≡ vec_capacity out.old }
     ensures few { vec_len out.new ≤ vec_len out.old + 1 }
 {
@@ -148,7 +149,7 @@ fn unit_bytes(out: &mut Vec<u8>, unit: u16)
 pub(crate) fn print(out: &mut Vec<u8>, unit: u16)
     requires shown { stored_unit unit ≡ unit }
     requires room { vec_len out.old + 3 ≤ vec_capacity out.old }
-    ensures leads { (s : Screen) → Leads out.old.items out.new.items s (printed unit s) 1 }
+    ensures leads { (s : Page) → Leads out.old.items out.new.items s (printed unit s) 1 }
     ensures capacity { vec_capacity out.new ≡ vec_capacity out.old }
     ensures few { vec_len out.new ≤ vec_len out.old + 3 }
 {
@@ -158,7 +159,7 @@ pub(crate) fn print(out: &mut Vec<u8>, unit: u16)
 /// Shows or hides the cursor.
 pub(crate) fn show(out: &mut Vec<u8>, visible: bool)
     requires room { vec_len out.old + 6 ≤ vec_capacity out.old }
-    ensures leads { (s : Screen) → Leads out.old.items out.new.items s (record s { visible = visible }) 0 }
+    ensures leads { (s : Page) → Leads out.old.items out.new.items s (record s { visible = visible }) 0 }
     ensures capacity { vec_capacity out.new ≡ vec_capacity out.old }
     ensures few { vec_len out.new ≤ vec_len out.old + 6 }
 {
@@ -171,31 +172,31 @@ pub(crate) fn show(out: &mut Vec<u8>, visible: bool)
 
 /// Brings a terminal to known ground.
 pub(crate) fn ground(out: &mut Vec<u8>)
-    requires room { vec_len out.old + 40 ≤ vec_capacity out.old }
-    ensures leads { (s : Screen) → Leads out.old.items out.new.items s (record s { pen = starting_pen }) 0 }
+    requires room { vec_len out.old + 53 ≤ vec_capacity out.old }
+    ensures leads { (s : Page) → Leads out.old.items out.new.items s (record s { pen = starting_pen }) 0 }
     ensures capacity { vec_capacity out.new ≡ vec_capacity out.old }
-    ensures few { vec_len out.new ≤ vec_len out.old + 40 }
+    ensures few { vec_len out.new ≤ vec_len out.old + 53 }
 {
     append(
         out,
-        b"\x1B[!p\x1B[?69l\x1B[?6l\x1B[4l\x1B[20l\x1B[?7h\x1B[r\x1B(B\x0F\x1B[0m",
+        b"\x1B[!p\x1B[?69l\x1B[?6l\x1B[4l\x1B[20l\x1B[?7h\x1B[?5l\x1B[?2026l\x1B[r\x1B(B\x0F\x1B[0m",
     );
 }
 
 /// Erases from the cursor to the end of its row.
 pub(crate) fn erase_row(out: &mut Vec<u8>)
     requires room { vec_len out.old + 3 ≤ vec_capacity out.old }
-    ensures leads { (s : Screen) → Leads out.old.items out.new.items s (unpended (erased s (place s) (row_end s))) (s.w - s.x) }
+    ensures leads { (s : Page) → Leads out.old.items out.new.items s (unpended (erased s (place s) (row_end s))) (s.w - s.x) }
     ensures capacity { vec_capacity out.new ≡ vec_capacity out.old }
     ensures few { vec_len out.new ≤ vec_len out.old + 3 }
 {
     append(out, b"\x1B[K");
 }
 
-/// Erases from the cursor to the end of the screen.
+/// Erases from the cursor to the end of the page.
 pub(crate) fn erase_rest(out: &mut Vec<u8>)
     requires room { vec_len out.old + 3 ≤ vec_capacity out.old }
-    ensures leads { (s : Screen) → Leads out.old.items out.new.items s (unpended (erased s (place s) (s.h * s.w))) (s.h * s.w - place s) }
+    ensures leads { (s : Page) → Leads out.old.items out.new.items s (unpended (erased s (place s) (s.h * s.w))) (s.h * s.w - place s) }
     ensures capacity { vec_capacity out.new ≡ vec_capacity out.old }
     ensures few { vec_len out.new ≤ vec_len out.old + 3 }
 {
@@ -220,7 +221,7 @@ fn lift_bytes(out: &mut Vec<u8>, n: u16)
 pub(crate) fn up(out: &mut Vec<u8>, n: u16)
     requires few { (n < 1000) × (0 < n) }
     requires room { vec_len out.old + 7 ≤ vec_capacity out.old }
-    ensures leads { (s : Screen) → Leads out.old.items out.new.items s (lifted s n) 0 }
+    ensures leads { (s : Page) → Leads out.old.items out.new.items s (lifted s n) 0 }
     ensures capacity { vec_capacity out.new ≡ vec_capacity out.old }
     ensures few { vec_len out.new ≤ vec_len out.old + 7 }
 {

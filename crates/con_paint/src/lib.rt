@@ -22,7 +22,5 @@ pub mod pen;
 pub mod rows;
 pub mod span;
 pub mod spot;
-#[cfg(test)]
-mod tests;
 
 pub use painter::{Painter, room_for};

@@ -1,23 +1,26 @@
-//! Frames that lift the rows of a terminal.
+//! The begin of a frame, which may lift the rows of a terminal.
 ghost use Rattle.std.specs.Prelude.{◌≡◌, ◌+◌, ◌-◌, ◌*◌, ◌<◌, ◌≤◌, ℕ, true, false, not, ◌&&◌, ◌||◌, ◌++◌, [], length, take, drop, replicate, slice_index_or, if◌then◌else◌};
 ghost use Rattle.std.specs.Vec.{vec_len, vec_capacity};
-ghost use Rattle.con_term.specs.Page.{Screen};
+ghost use Rattle.con_units.specs.Attr.{plain};
+ghost use Rattle.con_units.specs.Glyph.{blank_cell};
+ghost use Rattle.con_units.specs.View.{row_of};
+ghost use Rattle.con_term.specs.Page.{Page};
 ghost use Rattle.con_paint.specs.Leads.{Leads};
-ghost use Rattle.con_paint.specs.Pens.{pen_for};
-ghost use Rattle.con_paint.specs.Frame.{blank_cell, row_of, same_cells, differing};
-ghost use Rattle.con_paint.specs.Lift.{IsLifted, IsLeast, Lifts, lifted_cells};
+ghost use Rattle.con_paint.specs.Ink.{pen_for};
+ghost use Rattle.con_paint.specs.Compared.{same_cells, differing, IsLifted};
+ghost use Rattle.con_paint.specs.Lift.{IsLeast, Lifts, lifted_cells};
 
 use crate::cells::same;
-use crate::emit::up;
+use crate::emit::{ground, up};
 use crate::pen::choose;
 use crate::rows::differs;
-use crate::span::blank;
-use con_units::{Cell, Size};
+use crate::span::{blank, plain_attr};
+use con_units::{Attr, Cell, Size};
 
-/// What a lift leaves: the word of the pen, whether the rows were lifted, and how many rows at most are to be painted then.
+/// What a lift leaves: the attribute of the pen, whether the rows were lifted, and how many rows at most are to be painted then.
 #[derive(Clone, Copy, Debug)]
 pub(crate) struct Lifting {
-    pub(crate) word: u16,
+    pub(crate) attr: Attr,
     pub(crate) lifted: bool,
     pub(crate) rows: u16,
 }
@@ -56,7 +59,7 @@ fn plus_if(count: u16, one: bool) -> u16
 fn count(cells: &[Cell], shadow: &[Cell], marks: &[bool], size: Size) -> u16
     requires few { (size.w ≤ 512) × (size.h ≤ 256) }
     requires lengths { (length cells.now ≡ size.h * size.w) × (length shadow.now ≡ size.h * size.w) × (length marks.now ≡ size.h) }
-    requires marked { (y : ℕ) → y < size.h → slice_index_or marks.now y false ≡ false → row_of size.w y cells.now ≡ row_of size.w y shadow.now }
+    requires marked { (y : ℕ) → y < size.h → slice_index_or marks.now y false ≡ false → row_of size.w cells.now y ≡ row_of size.w shadow.now y }
     ensures { result ≡ differing size.w size.h cells.now shadow.now }
 {
     let width = size.w as usize;
@@ -91,18 +94,58 @@ fn raise(cells: &mut [Cell], count: usize)
 }
 
 // Lifts the rows of a terminal, and the cells.
-fn scroll(out: &mut Vec<u8>, shadow: &mut Vec<Cell>, by: u16, size: Size, before: u16)
+fn scroll(out: &mut Vec<u8>, shadow: &mut Vec<Cell>, by: u16, size: Size, before: Attr)
     requires few { (size.w ≤ 512) × (size.h ≤ 256) × (by ≤ size.h) × (0 < by) }
     requires cells { length shadow.old.items ≡ size.h * size.w }
-    requires room { vec_len out.old + 32 ≤ vec_capacity out.old }
-    ensures leads { (s : Screen) → s.w ≡ size.w → s.h ≡ size.h → s.pen ≡ pen_for before → Leads out.old.items out.new.items s (record s { cells = lifted_cells s.cells (by * size.w); pen = pen_for 7 }) 0 }
+    requires room { vec_len out.old + 50 ≤ vec_capacity out.old }
+    ensures leads { (s : Page) → s.w ≡ size.w → s.h ≡ size.h → s.pen ≡ pen_for before → Leads out.old.items out.new.items s (record s { cells = lifted_cells s.cells (by * size.w); pen = pen_for (plain 7) }) 0 }
     ensures cells { shadow.new.items ≡ lifted_cells shadow.old.items (by * size.w) }
     ensures capacity { vec_capacity out.new ≡ vec_capacity out.old }
-    ensures few { vec_len out.new ≤ vec_len out.old + 32 }
+    ensures few { vec_len out.new ≤ vec_len out.old + 50 }
 {
-    choose(out, before, 7);
+    choose(out, before, plain_attr());
     up(out, by);
     raise(shadow.as_mut_slice(), by as usize * size.w as usize);
+}
+
+// Nothing is lifted.
+fn stay(attr: Attr, rows: u16) -> Lifting
+    ensures { result ≡ record { attr = attr; lifted = false; rows = rows } }
+{
+    Lifting {
+        attr,
+        lifted: false,
+        rows,
+    }
+}
+
+// Lifts the rows of a terminal by the least that brings them to the view's, and the cells, where that saves some of so many.
+fn lift_by_least(
+    out: &mut Vec<u8>,
+    shadow: &mut Vec<Cell>,
+    cells: &[Cell],
+    rows: u16,
+    size: Size,
+    before: Attr,
+) -> Lifting
+    requires few { (size.w ≤ 512) × (size.h ≤ 256) × (0 < size.h) }
+    requires lengths { (length cells.now ≡ size.h * size.w) × (length shadow.old.items ≡ size.h * size.w) }
+    requires rows { rows ≡ differing size.w size.h cells.now shadow.old.items }
+    requires room { vec_len out.old + 50 ≤ vec_capacity out.old }
+    ensures lifts { Lifts size.w size.h true cells.now shadow.old.items shadow.new.items before result.attr result.lifted result.rows out.old.items out.new.items }
+    ensures capacity { vec_capacity out.new ≡ vec_capacity out.old }
+    ensures few { vec_len out.new ≤ vec_len out.old + 50 }
+{
+    let least = least_lift(cells, shadow.as_slice(), size);
+    if rows <= least {
+        return stay(before, rows);
+    }
+    scroll(out, shadow, least, size, before);
+    Lifting {
+        attr: plain_attr(),
+        lifted: true,
+        rows: least,
+    }
 }
 
 /// Lifts the rows of a terminal, and the cells, where that saves rows.
@@ -111,46 +154,48 @@ pub(crate) fn lift_if(
     shadow: &mut Vec<Cell>,
     cells: &[Cell],
     marks: &[bool],
-    known: bool,
     size: Size,
-    before: u16,
+    before: Attr,
 ) -> Lifting
     requires few { (size.w ≤ 512) × (size.h ≤ 256) × (0 < size.h) }
     requires lengths { (length cells.now ≡ size.h * size.w) × (length shadow.old.items ≡ size.h * size.w) × (length marks.now ≡ size.h) }
-    requires marked { known ≡ true → (y : ℕ) → y < size.h → slice_index_or marks.now y false ≡ false → row_of size.w y cells.now ≡ row_of size.w y shadow.old.items }
-    requires room { vec_len out.old + 32 ≤ vec_capacity out.old }
-    ensures lifts { Lifts size.w size.h known cells.now shadow.old.items shadow.new.items before result.word result.lifted result.rows out.old.items out.new.items }
+    requires marked { (y : ℕ) → y < size.h → slice_index_or marks.now y false ≡ false → row_of size.w cells.now y ≡ row_of size.w shadow.old.items y }
+    requires room { vec_len out.old + 50 ≤ vec_capacity out.old }
+    ensures lifts { Lifts size.w size.h true cells.now shadow.old.items shadow.new.items before result.attr result.lifted result.rows out.old.items out.new.items }
     ensures capacity { vec_capacity out.new ≡ vec_capacity out.old }
-    ensures few { vec_len out.new ≤ vec_len out.old + 32 }
+    ensures few { vec_len out.new ≤ vec_len out.old + 50 }
 {
-    if !known {
-        return Lifting {
-            word: before,
-            lifted: false,
-            rows: size.h,
-        };
-    }
     let rows = count(cells, shadow.as_slice(), marks, size);
     if rows < 2 {
-        return Lifting {
-            word: before,
-            lifted: false,
-            rows,
-        };
-    }
-    let least = least_lift(cells, shadow.as_slice(), size);
-    if least < rows {
-        scroll(out, shadow, least, size, before);
-        Lifting {
-            word: 7,
-            lifted: true,
-            rows: least,
-        }
+        stay(before, rows)
     } else {
-        Lifting {
-            word: before,
-            lifted: false,
-            rows,
-        }
+        lift_by_least(out, shadow, cells, rows, size, before)
+    }
+}
+
+/// Begins a frame: a terminal that nothing is known of is brought to known ground; the rows of another are lifted, and the
+/// cells, where that saves rows.
+pub(crate) fn begin(
+    out: &mut Vec<u8>,
+    shadow: &mut Vec<Cell>,
+    cells: &[Cell],
+    marks: &[bool],
+    known: bool,
+    size: Size,
+    before: Attr,
+) -> Lifting
+    requires few { (size.w ≤ 512) × (size.h ≤ 256) × (0 < size.h) }
+    requires lengths { (length cells.now ≡ size.h * size.w) × (length shadow.old.items ≡ size.h * size.w) × (length marks.now ≡ size.h) }
+    requires marked { known ≡ true → (y : ℕ) → y < size.h → slice_index_or marks.now y false ≡ false → row_of size.w cells.now y ≡ row_of size.w shadow.old.items y }
+    requires room { vec_len out.old + 53 ≤ vec_capacity out.old }
+    ensures lifts { Lifts size.w size.h known cells.now shadow.old.items shadow.new.items before result.attr result.lifted result.rows out.old.items out.new.items }
+    ensures capacity { vec_capacity out.new ≡ vec_capacity out.old }
+    ensures few { vec_len out.new ≤ vec_len out.old + 53 }
+{
+    if known {
+        lift_if(out, shadow, cells, marks, size, before)
+    } else {
+        ground(out);
+        stay(plain_attr(), size.h)
     }
 }

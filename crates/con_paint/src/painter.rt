@@ -1,16 +1,16 @@
 //! The painter.
-ghost use Rattle.std.specs.Prelude.{◌≡◌, ◌+◌, ◌*◌, ◌<◌, ◌≤◌, ℕ, true, false, length, drop, slice_index_or, IfOk, MatchResult};
+ghost use Rattle.std.specs.Prelude.{◌≡◌, ◌+◌, ◌*◌, ◌<◌, ◌≤◌, ℕ, true, false, ◌++◌, length, drop, slice_index_or, IfOk, MatchResult};
 ghost use Rattle.std.specs.Vec.{vec_len, vec_capacity};
+ghost use Rattle.con_units.specs.View.{row_of, IsWhole};
+ghost use Rattle.con_units.specs.Limits.{IsWindow};
 ghost use Rattle.con_term.specs.Terminal.{Terminal};
-ghost use Rattle.con_paint.specs.Frame.{row_of};
-ghost use Rattle.con_paint.specs.Painter.{Allows, IsShown, IsWhole, IsWindow, Paints, frame_room, unpainted};
+ghost use Rattle.con_paint.specs.Painter.{Allows, IsShown, Paints, frame_room, unpainted};
 
-use crate::frame::{caret_of, finish, must_hide, start, turn_if};
-use crate::lift::lift_if;
-use crate::rows::{is_many, rows, tail_of};
-use crate::span::blank;
-use crate::spot::{NOWHERE, Spot, State, spot_if};
-use con_units::{Cell, Marks, OutOfMemory, Size, View};
+use crate::frame::{caret_of, draw};
+use crate::lift::begin;
+use crate::span::{blank, plain_attr};
+use crate::spot::{NOWHERE, Spot, spot_if};
+use con_units::{Attr, Cell, Marks, OutOfMemory, Size, View};
 use std::alloc::Global;
 use std::marker::Model;
 
@@ -20,7 +20,7 @@ pub struct Painter {
     size: Size,
     known: bool,
     shadow: Vec<Cell>,
-    word: u16,
+    attr: Attr,
     spot: Spot,
     visible: bool,
 }
@@ -42,7 +42,7 @@ pub fn room_for(size: Size) -> usize
     requires { IsWindow size.w size.h }
     ensures { result ≡ frame_room size.w size.h }
 {
-    160 + size.h as usize * (11 + 26 * size.w as usize)
+    160 + size.h as usize * (11 + 46 * size.w as usize)
 }
 
 // Blanks for all cells of a size.
@@ -75,7 +75,7 @@ impl Painter {
             size,
             known: false,
             shadow,
-            word: 7,
+            attr: plain_attr(),
             spot: NOWHERE,
             visible: false,
         })
@@ -90,21 +90,23 @@ impl Painter {
         self.size = size;
         self.known = false;
         self.shadow = shadow;
-        self.word = 7;
+        self.attr = plain_attr();
         self.spot = NOWHERE;
         self.visible = false;
         Ok(())
     }
 
     /// Appends a frame: bytes that bring each terminal that the painter allows to one that shows the view, and that it
-    /// allows again. A row without a mark is as it was in the view that was painted last.
+    /// allows again. A row without a mark is as it was in the view that was painted last. The bytes before stay as they
+    /// were.
     pub fn paint(&mut self, view: &View, marks: &Marks, out: &mut Vec<u8>)
         requires view { IsWhole view.now }
         requires size { (view.now.size.w ≡ self.old.w) × (view.now.size.h ≡ self.old.h) }
         requires marks { length marks.now ≡ self.old.h }
-        requires marked { self.old.known ≡ true → (y : ℕ) → y < self.old.h → slice_index_or marks.now y false ≡ false → row_of self.old.w y view.now.rows ≡ row_of self.old.w y self.old.cells }
+        requires marked { self.old.known ≡ true → (y : ℕ) → y < self.old.h → slice_index_or marks.now y false ≡ false → row_of self.old.w view.now.rows y ≡ row_of self.old.w self.old.cells y }
         requires room { vec_len out.old + frame_room self.old.w self.old.h ≤ vec_capacity out.old }
         ensures paints { (t : Terminal) → Allows self.old t → Paints self.old self.new view.now (drop (length out.old.items) out.new.items) t }
+        ensures appends { out.new.items ≡ out.old.items ++ drop (length out.old.items) out.new.items }
         ensures shown { IsShown self.new view.now }
         ensures size { (self.new.w ≡ self.old.w) × (self.new.h ≡ self.old.h) }
         ensures quiet { IsShown self.old view.now → out.new.items ≡ out.old.items }
@@ -115,39 +117,31 @@ impl Painter {
         let caret = caret_of(view);
         let cells = view.rows.as_slice();
         let at = spot_if(self.known, self.spot);
-        let begun = start(out, self.known, self.word);
-        let lifting = lift_if(
+        let lifting = begin(
             out,
             &mut self.shadow,
             cells,
             marks.as_slice(),
             self.known,
             self.size,
-            begun,
+            self.attr,
         );
-        let tail = tail_of(cells, self.shadow.as_slice(), self.known, self.size);
-        let many = is_many(lifting.rows, self.size.h - tail);
-        let hidden = must_hide(self.known, many, self.visible, caret.visible);
-        turn_if(out, hidden, false);
-        let painted = rows(
+        let end = draw(
             out,
             cells,
             self.shadow.as_slice(),
             marks.as_slice(),
-            lifting.lifted,
             self.known,
             self.size,
-            tail,
-            State {
-                word: lifting.word,
-                spot: at,
-            },
+            lifting,
+            at,
+            self.visible,
+            caret,
         );
-        let spot = finish(out, self.known, hidden, self.visible, painted.spot, caret);
         keep(&mut self.shadow, cells);
         self.known = true;
-        self.word = painted.word;
-        self.spot = spot;
+        self.attr = end.attr;
+        self.spot = end.spot;
         self.visible = caret.visible;
     }
 }

@@ -1,13 +1,16 @@
 //! Rows, one after another.
 ghost use Rattle.std.specs.Prelude.{◌≡◌, ◌+◌, ◌-◌, ◌*◌, ◌<◌, ◌≤◌, ◌==◌, ℕ, true, false, not, ◌&&◌, ◌||◌, length, drop, replicate, slice_index_or};
 ghost use Rattle.std.specs.Vec.{vec_len, vec_capacity};
-ghost use Rattle.con_paint.specs.Frame.{blank_cell, row_of, rows_to_paint, same_cells, Rows, RowStep};
+ghost use Rattle.con_units.specs.Glyph.{blank_cell};
+ghost use Rattle.con_units.specs.View.{row_of};
+ghost use Rattle.con_paint.specs.Compared.{same_cells};
+ghost use Rattle.con_paint.specs.Frame.{rows_to_paint, Rows, RowStep};
 ghost use Rattle.con_paint.specs.Rest.{RestStep};
 
 use crate::cells::{is_same, same};
 use crate::emit::{either, erase_rest};
 use crate::pen::choose;
-use crate::span::{blank, line, span_of};
+use crate::span::{blank, line, plain_attr, span_of};
 use crate::spot::{Spot, State, go};
 use con_units::{Cell, Size};
 
@@ -31,10 +34,10 @@ fn one_row(
 ) -> State
     requires small { (y < 999) × (0 < length row.now) × (length row.now ≤ 512) }
     requires lengths { length row.now ≡ length was.now }
-    requires room { vec_len out.old + 11 + 26 * length row.now ≤ vec_capacity out.old }
+    requires room { vec_len out.old + 11 + 46 * length row.now ≤ vec_capacity out.old }
     ensures step { RowStep paint known y row.now was.now before out.old.items out.new.items result }
     ensures capacity { vec_capacity out.new ≡ vec_capacity out.old }
-    ensures few { vec_len out.new ≤ vec_len out.old + 11 + 26 * length row.now }
+    ensures few { vec_len out.new ≤ vec_len out.old + 11 + 46 * length row.now }
 {
     if !paint {
         return before;
@@ -57,11 +60,11 @@ fn first_rows(
 ) -> State
     requires few { (0 < size.w) × (size.w ≤ 512) × (size.h ≤ 256) × (tail ≤ size.h) }
     requires lengths { (length cells.now ≡ size.h * size.w) × (length shadow.now ≡ size.h * size.w) × (length marks.now ≡ size.h) }
-    requires marked { known ≡ true → every ≡ false → (y : ℕ) → y < size.h → slice_index_or marks.now y false ≡ false → row_of size.w y cells.now ≡ row_of size.w y shadow.now }
-    requires room { vec_len out.old + size.h * (11 + 26 * size.w) ≤ vec_capacity out.old }
+    requires marked { known ≡ true → every ≡ false → (y : ℕ) → y < size.h → slice_index_or marks.now y false ≡ false → row_of size.w cells.now y ≡ row_of size.w shadow.now y }
+    requires room { vec_len out.old + size.h * (11 + 46 * size.w) ≤ vec_capacity out.old }
     ensures rows { Rows size.w size.h cells.now shadow.now known before out.old.items out.new.items tail result }
     ensures capacity { vec_capacity out.new ≡ vec_capacity out.old }
-    ensures few { vec_len out.new ≤ vec_len out.old + size.h * (11 + 26 * size.w) }
+    ensures few { vec_len out.new ≤ vec_len out.old + size.h * (11 + 46 * size.w) }
 {
     let width = size.w as usize;
     let mut state = before;
@@ -134,23 +137,24 @@ pub(crate) fn tail_of(cells: &[Cell], shadow: &[Cell], known: bool, size: Size) 
 // Erases the last rows.
 fn rest(out: &mut Vec<u8>, tail: u16, size: Size, before: State) -> State
     requires few { (0 < size.w) × (size.h ≤ 256) }
-    requires room { vec_len out.old + 37 ≤ vec_capacity out.old }
+    requires room { vec_len out.old + 57 ≤ vec_capacity out.old }
     ensures rest { RestStep size.w size.h tail before out.old.items out.new.items result }
     ensures capacity { vec_capacity out.new ≡ vec_capacity out.old }
-    ensures few { vec_len out.new ≤ vec_len out.old + 37 }
+    ensures few { vec_len out.new ≤ vec_len out.old + 57 }
 {
     if size.h <= tail {
         return before;
     }
     go(out, before.spot, 0, tail);
-    choose(out, before.word, 7);
+    let attr = plain_attr();
+    choose(out, before.attr, attr);
     erase_rest(out);
     let spot = Spot {
         known: true,
         x: 0,
         y: tail,
     };
-    State { word: 7, spot }
+    State { attr, spot }
 }
 
 /// Whether the cursor goes through more than one row, where one sequence erases the last ones.
@@ -177,11 +181,11 @@ pub(crate) fn rows(
     requires blank { drop (tail * size.w) cells.now ≡ replicate ((size.h - tail) * size.w) blank_cell }
     requires differ { rows_to_paint known size.w size.h cells.now shadow.now ≡ rows_to_paint known size.w tail cells.now shadow.now + (size.h - tail) }
     requires lengths { (length cells.now ≡ size.h * size.w) × (length shadow.now ≡ size.h * size.w) × (length marks.now ≡ size.h) }
-    requires marked { known ≡ true → every ≡ false → (y : ℕ) → y < size.h → slice_index_or marks.now y false ≡ false → row_of size.w y cells.now ≡ row_of size.w y shadow.now }
-    requires room { vec_len out.old + 37 + size.h * (11 + 26 * size.w) ≤ vec_capacity out.old }
+    requires marked { known ≡ true → every ≡ false → (y : ℕ) → y < size.h → slice_index_or marks.now y false ≡ false → row_of size.w cells.now y ≡ row_of size.w shadow.now y }
+    requires room { vec_len out.old + 57 + size.h * (11 + 46 * size.w) ≤ vec_capacity out.old }
     ensures rows { Rows size.w size.h cells.now shadow.now known before out.old.items out.new.items size.h result }
     ensures capacity { vec_capacity out.new ≡ vec_capacity out.old }
-    ensures few { vec_len out.new ≤ vec_len out.old + 37 + size.h * (11 + 26 * size.w) }
+    ensures few { vec_len out.new ≤ vec_len out.old + 57 + size.h * (11 + 46 * size.w) }
 {
     let first = first_rows(out, cells, shadow, marks, every, known, size, tail, before);
     rest(out, tail, size, first)

@@ -1,9 +1,11 @@
 //! The part of a row that is written: from the first cell that differs to the last one, or to the blanks at the row's end.
 ghost use Rattle.std.specs.Prelude.{◌≡◌, ◌+◌, ◌-◌, ◌*◌, ◌<◌, ◌≤◌, ℕ, List, Bool, true, false, length, take, drop, replicate};
 ghost use Rattle.std.specs.Vec.{vec_len, vec_capacity};
-ghost use Rattle.con_units.specs.Glyph.{Glyph};
-ghost use Rattle.con_term.specs.Page.{Screen};
-ghost use Rattle.con_paint.specs.Frame.{blank_cell, row_of, Stands, Painted};
+ghost use Rattle.con_units.specs.Attr.{plain};
+ghost use Rattle.con_units.specs.Glyph.{Glyph, blank_cell};
+ghost use Rattle.con_units.specs.View.{row_of};
+ghost use Rattle.con_term.specs.Page.{Page};
+ghost use Rattle.con_paint.specs.Frame.{Stands, Painted};
 ghost use Rattle.con_paint.specs.Span as spans;
 ghost use Rattle.con_paint.specs.Spot.{IsAt};
 
@@ -21,11 +23,18 @@ pub struct Span {
     pub erase: bool,
 }
 
-/// A space in the word that a terminal starts with.
+/// The attribute that a terminal starts with.
+pub(crate) fn plain_attr() -> Attr
+    ensures { result ≡ plain 7 }
+{
+    Attr::of(7)
+}
+
+/// A space in the attribute that a terminal starts with.
 pub(crate) fn blank() -> Cell
     ensures { result ≡ blank_cell }
 {
-    Cell::new(0x20, Attr::of(7))
+    Cell::new(0x20, plain_attr())
 }
 
 // The first column in which two rows differ, or the last one where there is none.
@@ -129,34 +138,35 @@ pub(crate) fn span_of(known: bool, row: &[Cell], was: &[Cell]) -> Span
     }
 }
 
-// Erases the end of the row in the starting pen, where it is to be, and gives the word of the pen.
-fn erase_if(out: &mut Vec<u8>, erase: bool, before: u16) -> u16
-    requires room { erase ≡ true → vec_len out.old + 26 ≤ vec_capacity out.old }
+// Erases the end of the row in the starting pen, where it is to be, and gives the attribute of the pen.
+fn erase_if(out: &mut Vec<u8>, erase: bool, before: Attr) -> Attr
+    requires room { erase ≡ true → vec_len out.old + 46 ≤ vec_capacity out.old }
     ensures end { spans.RowEnd erase before result out.old.items out.new.items }
     ensures capacity { vec_capacity out.new ≡ vec_capacity out.old }
     ensures same { erase ≡ false → vec_len out.new ≤ vec_len out.old }
-    ensures few { vec_len out.new ≤ vec_len out.old + 26 }
+    ensures few { vec_len out.new ≤ vec_len out.old + 46 }
 {
     if !erase {
         return before;
     }
-    choose(out, before, 7);
+    let plain = plain_attr();
+    choose(out, before, plain);
     erase_row(out);
-    7
+    plain
 }
 
 /// Writes a part of row y, which makes it the whole row, and gives what is known then.
 pub(crate) fn line(out: &mut Vec<u8>, y: u16, row: &[Cell], span: Span, before: State) -> State
     requires small { (y < 999) × (length row.now ≤ 512) }
     requires inside { spans.IsSpan row.now span }
-    requires room { vec_len out.old + 11 + 26 * length row.now ≤ vec_capacity out.old }
-    ensures painted { (h : ℕ) (s : Screen) → Stands (length row.now) h before.word s → IsAt before.spot s → y < h → spans.patched (row_of (length row.now) y s.cells) row.now span ≡ row.now → Painted (length row.now) h y result row.now out.old.items out.new.items s }
+    requires room { vec_len out.old + 11 + 46 * length row.now ≤ vec_capacity out.old }
+    ensures painted { (h : ℕ) (s : Page) → Stands (length row.now) h before.attr s → IsAt before.spot s → y < h → spans.patched (row_of (length row.now) s.cells y) row.now span ≡ row.now → Painted (length row.now) h y result row.now out.old.items out.new.items s }
     ensures capacity { vec_capacity out.new ≡ vec_capacity out.old }
-    ensures few { vec_len out.new ≤ vec_len out.old + 11 + 26 * length row.now }
+    ensures few { vec_len out.new ≤ vec_len out.old + 11 + 46 * length row.now }
 {
     go(out, before.spot, span.from as u16, y);
-    let pen = cells(out, &row[span.from..span.upto], before.word);
-    let word = erase_if(out, span.erase, pen);
+    let pen = cells(out, &row[span.from..span.upto], before.attr);
+    let attr = erase_if(out, span.erase, pen);
     let spot = spot_behind(span.upto, row.len(), y);
-    State { word, spot }
+    State { attr, spot }
 }

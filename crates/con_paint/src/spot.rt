@@ -1,11 +1,12 @@
 //! Where a terminal's cursor stands, as far as a painter knows.
 ghost use Rattle.std.specs.Prelude.{◌≡◌, ◌+◌, ◌<◌, ◌≤◌, true, false};
 ghost use Rattle.std.specs.Vec.{vec_len, vec_capacity};
-ghost use Rattle.con_term.specs.Page.{Screen};
+ghost use Rattle.con_term.specs.Page.{Page};
 ghost use Rattle.con_paint.specs.Leads.{Leads};
 ghost use Rattle.con_paint.specs.Spot as spots;
 
 use crate::emit::{backspace, carriage_return, go_to, next_row};
+use con_units::Attr;
 
 /// A place, counted from 0, where the cursor stands with no wrap pending, if that is known.
 #[derive(Clone, Copy, Debug)]
@@ -15,10 +16,10 @@ pub struct Spot {
     pub y: u16,
 }
 
-/// What is known between two rows: the word of the pen, and the cursor's place.
+/// What is known between two rows: the attribute of the pen, and the cursor's place.
 #[derive(Clone, Copy, Debug)]
 pub struct State {
-    pub word: u16,
+    pub attr: Attr,
     pub spot: Spot,
 }
 
@@ -59,7 +60,7 @@ fn go_in_row(out: &mut Vec<u8>, at: Spot, x: u16, y: u16)
     requires known { at.known ≡ true }
     requires row { at.y ≡ y }
     requires room { vec_len out.old + 11 ≤ vec_capacity out.old }
-    ensures leads { (s : Screen) → (x < s.w) × (y < s.h) → spots.IsAt at s → Leads out.old.items out.new.items s (record s { x = x; y = y; pending = false }) 0 }
+    ensures leads { (s : Page) → (x < s.w) × (y < s.h) → spots.IsAt at s → Leads out.old.items out.new.items s (record s { x = x; y = y; pending = false }) 0 }
     ensures quiet { at.x ≡ x → out.new.items ≡ out.old.items }
     ensures capacity { vec_capacity out.new ≡ vec_capacity out.old }
     ensures few { vec_len out.new ≤ vec_len out.old + 11 }
@@ -80,7 +81,7 @@ fn go_in_row(out: &mut Vec<u8>, at: Spot, x: u16, y: u16)
 pub(crate) fn go(out: &mut Vec<u8>, at: Spot, x: u16, y: u16)
     requires small { (x < 999) × (y < 999) }
     requires room { vec_len out.old + 11 ≤ vec_capacity out.old }
-    ensures leads { (s : Screen) → (x < s.w) × (y < s.h) → spots.IsAt at s → Leads out.old.items out.new.items s (record s { x = x; y = y; pending = false }) 0 }
+    ensures leads { (s : Page) → (x < s.w) × (y < s.h) → spots.IsAt at s → Leads out.old.items out.new.items s (record s { x = x; y = y; pending = false }) 0 }
     ensures quiet { at.known ≡ true → at.x ≡ x → at.y ≡ y → out.new.items ≡ out.old.items }
     ensures capacity { vec_capacity out.new ≡ vec_capacity out.old }
     ensures few { vec_len out.new ≤ vec_len out.old + 11 }

@@ -1,6 +1,6 @@
 -- The cells so far.
 use Rattle.std.proofs.Common.{◌≡◌, take, true}
-use Rattle.con_paint.specs.Frame.{same_cells}
+use Rattle.con_paint.specs.Compared.{same_cells}
 use Rattle.con_paint.proofs.cells.same.Given as goal
 
 abbrev pub invariant-loop-i : goal.invariant-loop-i

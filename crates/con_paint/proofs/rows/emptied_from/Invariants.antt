@@ -1,6 +1,7 @@
 -- The last rows.
 use Rattle.std.proofs.Common.{◌≡◌, ◌+◌, ◌-◌, ◌*◌, drop, replicate}
-use Rattle.con_paint.specs.Frame.{blank_cell, rows_to_paint}
+use Rattle.con_units.specs.Glyph.{blank_cell}
+use Rattle.con_paint.specs.Frame.{rows_to_paint}
 use Rattle.con_paint.proofs.rows.emptied_from.Given as goal
 
 abbrev pub invariant-loop-k : goal.invariant-loop-k

@@ -1,22 +1,32 @@
 //! Frames, byte by byte, and the terminal that plays them.
 ghost use Rattle.std.specs.Prelude.{◌≡◌, IfOk};
-ghost use Rattle.con_paint.specs.Painter.{IsWhole};
+ghost use Rattle.con_units.specs.View.{IsWhole};
 
-use crate::{Painter, room_for};
+use con_paint::{Painter, room_for};
 use con_term::Terminal;
-use con_units::{Attr, Cell, Coord, Marks, OutOfMemory, Rows, Size, View};
+use con_units::{Attr, Cell, Coord, Marks, OutOfMemory, Rows, Shade, Size, View};
 use std::alloc::Global;
 use std::process::Abort;
 use std::test::Fail;
 
 const SIZE: Size = Size { w: 6, h: 3 };
 
-// A view of 18 cells, the second of which is in another word, with a visible cursor, or with none where x is negative.
-fn view(
+// The attribute of a cell: those of the second to the fourth are given, and the others are plain white on black.
+fn attr_at(i: usize, attrs: [Attr; 3]) -> Attr {
+    match i {
+        1 => attrs[0],
+        2 => attrs[1],
+        3 => attrs[2],
+        _ => Attr::of(7),
+    }
+}
+
+// A view of 18 cells, some in other attributes, with a visible cursor, or with none where x is negative.
+fn view_in(
     rt: &impl Abort,
     alloc: Global,
     text: &[u8],
-    word: u16,
+    attrs: [Attr; 3],
     x: i16,
     y: i16,
 ) -> Result<View, OutOfMemory>
@@ -24,7 +34,7 @@ fn view(
 {
     let mut rows = Vec::new(alloc);
     for (i, byte) in text.iter().enumerate() {
-        let attr = Attr::of(if i == 1 { word } else { 7 });
+        let attr = attr_at(i, attrs);
         let Ok(()) = rows.push(Cell::new(*byte as u16, attr)) else {
             return Err(OutOfMemory);
         };
@@ -36,6 +46,21 @@ fn view(
         cursor: Coord { x, y },
         visible: 0 <= x,
     })
+}
+
+// The same with the second cell in a word.
+fn view(
+    rt: &impl Abort,
+    alloc: Global,
+    text: &[u8],
+    word: u16,
+    x: i16,
+    y: i16,
+) -> Result<View, OutOfMemory>
+    ensures { IfOk result (λ v. IsWhole v × (v.size.w ≡ 6) × (v.size.h ≡ 3)) }
+{
+    let attrs = [Attr::of(word), Attr::of(7), Attr::of(7)];
+    view_in(rt, alloc, text, attrs, x, y)
 }
 
 // Plays the bytes of a frame in which every row is marked, and appends them to a text, ESC as ^.
@@ -86,7 +111,7 @@ fn whole_frame_and_one_changed_cell(rt: HostRuntime) -> Result<(), Fail> {
     let text = two_frames(rt.alloc(), &first, &second)?;
     assert_eq!(rt;
         text.as_str(),
-        "^[!p^[?69l^[?6l^[4l^[20l^[?7h^[r^(B\u{F}^[0m^[?25l^[Ha^[31;40mb^[m^[K\r\ncdefgh^[3H^[K^[2;2H^[?25h\n^[2;3HX^[2;2H\n6x3 cursor 1,1\n|ab    |\n|cdXfgh|\n|      |\n@0,1+1 0004\n"
+        "^[!p^[?69l^[?6l^[4l^[20l^[?7h^[?5l^[?2026l^[r^(B\u{F}^[0m^[?25l^[Ha^[31;40mb^[m^[K\r\ncdefgh^[3H^[K^[2;2H^[?25h\n^[2;3HX^[2;2H\n6x3 cursor 1,1\n|ab    |\n|cdXfgh|\n|      |\n@0,1+1 0004\n"
     );
     Ok(())
 }
@@ -99,7 +124,7 @@ fn lifted_rows_and_hidden_cursor(rt: HostRuntime) -> Result<(), Fail> {
     let text = two_frames(rt.alloc(), &first, &second)?;
     assert_eq!(rt;
         text.as_str(),
-        "^[!p^[?69l^[?6l^[4l^[20l^[?7h^[r^(B\u{F}^[0m^[?25l^[Habcdef^[2Hghijkl^[3Hmnopqr^[3H^[?25h\n^[S^[?25lstuvwx\n6x3 cursor hidden\n|ghijkl|\n|mnopqr|\n|stuvwx|\n"
+        "^[!p^[?69l^[?6l^[4l^[20l^[?7h^[?5l^[?2026l^[r^(B\u{F}^[0m^[?25l^[Habcdef^[2Hghijkl^[3Hmnopqr^[3H^[?25h\n^[S^[?25lstuvwx\n6x3 cursor hidden\n|ghijkl|\n|mnopqr|\n|stuvwx|\n"
     );
     Ok(())
 }
@@ -111,7 +136,7 @@ fn equal_view_gives_no_byte(rt: HostRuntime) -> Result<(), Fail> {
     let text = two_frames(rt.alloc(), &first, &second)?;
     assert_eq!(rt;
         text.as_str(),
-        "^[!p^[?69l^[?6l^[4l^[20l^[?7h^[r^(B\u{F}^[0m^[H^[J^[1;4H^[?25h\n\n6x3 cursor 3,0\n|      |\n|      |\n|      |\n"
+        "^[!p^[?69l^[?6l^[4l^[20l^[?7h^[?5l^[?2026l^[r^(B\u{F}^[0m^[H^[J^[1;4H^[?25h\n\n6x3 cursor 3,0\n|      |\n|      |\n|      |\n"
     );
     Ok(())
 }
@@ -143,6 +168,37 @@ fn short_ways_to_a_place(rt: HostRuntime) -> Result<(), Fail> {
     let text = two_frames(rt.alloc(), &first, &second)?;
     assert!(rt;
         text.as_str().ends_with("\n\u{8} \u{8}\n6x3 cursor 2,0\n|ab    |\n|      |\n|      |\n")
+    );
+    Ok(())
+}
+
+// Index 196 on black, the same on index 21, and index 124 with its intensity set on black.
+#[tactic(auto, unfolding(con_units::specs::Shade::near))]
+fn red() -> Attr {
+    Attr::shaded(0x000C, Shade::Index(196), Shade::Plain)
+}
+
+#[tactic(auto, unfolding(con_units::specs::Shade::near))]
+fn red_on_blue() -> Attr {
+    Attr::shaded(0x009C, Shade::Index(196), Shade::Index(21))
+}
+
+#[tactic(auto, unfolding(con_units::specs::Shade::near))]
+fn bright_red() -> Attr {
+    Attr::shaded(0x000C, Shade::Index(124), Shade::Plain)
+}
+
+// One ground alone changes between cells and between frames; an index gives way to plain colours.
+#[test]
+fn shades_of_both_grounds(rt: HostRuntime) -> Result<(), Fail> {
+    let attrs = [red(), red_on_blue(), bright_red()];
+    let first = view_in(&rt, rt.alloc(), b"abcd              ", attrs, 0, 1)?;
+    let attrs = [red_on_blue(), Attr::of(7), bright_red()];
+    let second = view_in(&rt, rt.alloc(), b"abcd              ", attrs, 0, 1)?;
+    let text = two_frames(rt.alloc(), &first, &second)?;
+    assert_eq!(rt;
+        text.as_str(),
+        "^[!p^[?69l^[?6l^[4l^[20l^[?7h^[?5l^[?2026l^[r^(B\u{F}^[0m^[?25l^[Ha^[38;5;196;40mb^[48;5;21mc^[1;38;5;124;40md^[m  ^[2H^[J^[?25h\n^[1;2H^[38;5;196;48;5;21mb^[mc\r\n\n6x3 cursor 0,1\n|abcd  |\n|      |\n|      |\n@0,1+1 009c f196 b21\n@0,3+1 000c f124\n"
     );
     Ok(())
 }
