@@ -125,6 +125,6 @@ ends_link End = true
 abbrev pub goes_on : Frame → Bool
 goes_on frame = not (ends_link frame)
 
--- frames of which the last one, and it alone, ends the link
-abbrev pub IsLink : List Frame → Type 0
-IsLink frames = (front : List Frame) × (last : Frame) × (frames ≡ front ++ last ∷ []) × (list_all goes_on front ≡ true) × (ends_link last ≡ true)
+-- frames of which the last one, and it alone, ends the link, of which this is left
+abbrev pub IsLink : List Frame → Option (List ℕ) → Type 0
+IsLink frames left = (front : List Frame) × (last : Frame) × (frames ≡ front ++ last ∷ []) × (list_all goes_on front ≡ true) × (ends_link last ≡ true) × IsEnd last left

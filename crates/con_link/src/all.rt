@@ -1,8 +1,9 @@
 //! All frames of a link.
 
-ghost use Rattle.std.specs.Prelude.{◌≡◌, ℕ, ◌≤◌, List, [], ◌++◌, length, OnOk, IfErr, flat_map, Err};
+ghost use Rattle.std.specs.Prelude.{◌≡◌, ℕ, ◌≤◌, true, List, [], ◌++◌, length, OnOk, OnErr, IfErr, flat_map, Err};
+ghost use Rattle.std.specs.List.{list_all};
 ghost use Rattle.con_outside.specs.Outside.{Rose, then_left};
-ghost use Rattle.con_link.specs.Frames.{spelling, ends_link, Answers, IsLink};
+ghost use Rattle.con_link.specs.Frames.{spelling, is_frame, goes_on, ends_link, Answers, IsLink};
 
 use crate::fault::LinkFault;
 use crate::reader::LinkReader;
@@ -16,7 +17,9 @@ fn ends(frame: &Frame) -> bool
     matches!(frame, Frame::End | Frame::Hangup)
 }
 
-/// Reads the frames of a link through its first hangup or to its end. Where one is not read, those before it are there.
+/// Reads the frames of a link through its first hangup or to its end: each is the frame that the bytes spell after those
+/// before it, and none stands past the one that ends the link. Where one is not read, those before it are there, and none of
+/// them ends the link.
 pub fn all_frames<I: Source>(
     alloc: Global,
     link: &mut I,
@@ -24,7 +27,9 @@ pub fn all_frames<I: Source>(
 ) -> Result<(), LinkFault>
     requires { frames.old.items ≡ [] }
     ensures spelled { OnOk result (I.left link.old ≡ then_left (flat_map spelling frames.new.items) (I.left link.new)) }
-    ensures whole { OnOk result (IsLink frames.new.items) }
+    ensures frames { list_all is_frame frames.new.items ≡ true }
+    ensures whole { OnOk result (IsLink frames.new.items (I.left link.new)) }
+    ensures going { OnErr result (list_all goes_on frames.new.items ≡ true) }
 
     // What was taken after the frames, and why that is none.
     ensures stopped { IfErr result (λ fault. (text : List ℕ) × (I.left link.old ≡ then_left (flat_map spelling frames.new.items ++ text) (I.left link.new))

@@ -19,8 +19,6 @@ pub mod fault;
 pub mod fill;
 pub mod laws;
 pub mod reader;
-#[cfg(test)]
-mod tests;
 
 pub use all::all_frames;
 pub use con_units::{Frame, FrameFault};

@@ -21,6 +21,3 @@ pub mod taken;
 pub use record::{Key, Mouse, Record};
 pub use records::Records;
 pub use taken::Taken;
-
-#[cfg(test)]
-mod tests;

@@ -4,3 +4,5 @@ pub mod StepLemmas
 pub mod FeedLemmas
 pub mod BackLemmas
 pub mod CharacterLemmas
+pub mod FewLemmas
+pub mod PieceLemmas

@@ -1,9 +1,10 @@
 -- Lists and tests.
-use Rattle.std.proofs.Common.{◌≡◌, ◌≢◌, ℕ, ◌+◌, ◌<◌, Bool, true, false, ◌&&◌, List, [], ◌∷◌, ◌++◌, length, take, replicate, refl, ap, arith, set, add-one}
-use Rattle.std.proofs.Math.Seq.{take-suc-set}
+use Rattle.std.proofs.Common.{◌≡◌, ◌≢◌, ℕ, ◌+◌, ◌<◌, Bool, true, false, ◌&&◌, List, [], ◌∷◌, ◌++◌, length, take, replicate, refl, ap, ◌∙◌, arith, set, add-one, Some}
+use Rattle.std.proofs.Math.Seq.{take-suc-set, take-append_seam}
 use Rattle.std.specs.Prelude.{not}
 use Rattle.std.specs.List.{list_all}
 use Rattle.con_vtin.specs.Table.{replacement}
+use Rattle.con_vtin.specs.Holding.{kept_of}
 use Rattle.con_vtin.specs.Keys.{skip_while, front_while, replacements}
 
 pub both : (a b : Bool) → (a && b) ≡ true → (a ≡ true) × (b ≡ true)
@@ -51,3 +52,9 @@ first_set (x ∷ xs) v h = refl
 
 pub longer_set : (xs : List ℕ) (n v : ℕ) → n < length xs → take (n + 1) (set xs n v) ≡ take n xs ++ v ∷ []
 longer_set xs n v h = rw add-one (take-suc-set xs n v h)
+
+-- bytes that are written over the front of others, and one more
+pub kept_is : (held front rest : List ℕ) (byte : ℕ) → front ≡ held → length held < length (front ++ rest) → kept_of (length held + 1) (set (front ++ rest) (length held) byte) ≡ Some (held ++ byte ∷ [])
+kept_is held front rest byte is fits =
+    let room : length held < length (held ++ rest) = rw is at fits in
+    rw (is, add-one (length held)) (ap (λ (xs : List ℕ). Some xs) (take-suc-set (held ++ rest) (length held) byte room ∙ ap (λ (xs : List ℕ). xs ++ byte ∷ []) (take-append_seam held rest)))

@@ -1,7 +1,8 @@
 -- What the state of a reader says of the bytes that are no key yet.
-use Rattle.std.specs.Prelude.{◌≡◌, ◌≢◌, ℕ, ◌<◌, Bool, true, false, not, ◌&&◌, ◌==◌, nat_le, List, [], ◌∷◌, ◌++◌, length, Some, None, option_to_list}
+use Rattle.std.specs.Prelude.{◌≡◌, ◌≢◌, ℕ, zero, suc, ◌<◌, Bool, true, false, not, ◌&&◌, ◌==◌, nat_le, List, [], ◌∷◌, ◌++◌, length, take, Option, Some, None, option_to_list}
 use Rattle.std.specs.List.{list_all}
 use Rattle.con_vtin.specs.Keys.{is_front, whole, is_parameter, is_intermediate}
+use Rattle.con_vtin.specs.Pieces.{is_keyless}
 use Rattle.con_vtin.specs.declared.unfinished.Phase.{Phase}
 use Rattle.con_vtin.specs.declared.unfinished.Phase.TheVariants.{Nothing, Escape, Single, First, Second}
 use Rattle.con_vtin.specs.declared.unfinished.Step.{Step}
@@ -38,6 +39,11 @@ Advances advances.GoesOn bytes b after = (is_front (bytes ++ b ∷ []) ≡ true)
 Advances (advances.Ends key) bytes b after = (is_front (bytes ++ b ∷ []) ≡ false) × (whole (bytes ++ b ∷ []) ≡ Some (option_to_list key)) × (after ≡ [])
 Advances advances.Breaks bytes b after = (is_front (bytes ++ b ∷ []) ≡ false) × (whole (bytes ++ b ∷ []) ≡ None) × (after ≡ bytes)
 
+-- so many bytes, or none where there are no bytes
+abbrev pub kept_of : ℕ → List ℕ → Option (List ℕ)
+kept_of zero bytes = None
+kept_of (suc n) bytes = Some (take (suc n) bytes)
+
 -- the bytes of a character that is not whole, which ESC is none of
 abbrev pub is_text : List ℕ → Bool
 is_text [] = true
@@ -51,3 +57,14 @@ held_of (b ∷ bs) text = b ∷ bs
 abbrev pub IsApart : List ℕ → List ℕ → Type 0
 IsApart [] text = is_text text ≡ true
 IsApart (b ∷ bs) text = text ≡ []
+
+-- the byte ends a control sequence that gives no key
+abbrev pub ends_keyless : List ℕ → ℕ → Bool
+ends_keyless bytes b = not (is_front (bytes ++ b ∷ [])) && is_keyless (bytes ++ b ∷ [])
+
+-- the step ends a sequence that gives no key
+abbrev pub ends_none : Step → Bool
+ends_none (steps.GoesOn phase) = false
+ends_none (steps.Ends None) = true
+ends_none (steps.Ends (Some key)) = false
+ends_none steps.Breaks = false

@@ -1,6 +1,9 @@
+-- What a reader must believe: the words of the public contracts.
 pub mod Table
 pub mod Keys
+pub mod Pieces
 pub mod Sequences
-pub mod Holding
 pub mod ReadBack
 pub mod Characters
+-- The code's own words: what the state of a reader says of the bytes held.
+pub mod Holding

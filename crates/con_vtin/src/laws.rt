@@ -4,6 +4,7 @@ ghost use Rattle.con_units.specs.Split.{split_after, with_items};
 ghost use Rattle.con_units.specs.Laws.{IsReadSo};
 ghost use Rattle.con_vtin.specs.Keys.{grammar};
 ghost use Rattle.con_vtin.specs.Characters.{ReadsCharacters};
+ghost use Rattle.con_vtin.specs.Pieces.{IsReadInPieces};
 ghost use Rattle.con_vtin.specs.ReadBack.{ReadBack};
 
 /// Bytes are read by the three cases of their sequences, which determine the keys.
@@ -14,6 +15,12 @@ pub fn is_read_by_cases()
 /// However bytes are cut, their keys are those of the whole.
 pub fn is_read_however_cut()
     ensures { (held front rest : List ℕ) → split_after grammar held (front ++ rest) ≡ with_items (split_after grammar held front).items (split_after grammar (split_after grammar held front).tail rest) }
+{}
+
+/// The pieces of bytes, keys and control sequences that give none, in their order: each byte's are its keys, and then the
+/// sequence that it ended without one.
+pub fn is_read_in_pieces()
+    ensures { IsReadInPieces }
 {}
 
 /// Which keys are read back from the units that they send.

@@ -108,7 +108,8 @@ fn modifier_of(state: u32) -> u16
 }
 
 fn plain_row(row: Row, cursor_keys: bool) -> Sequence
-    ensures { result ≡ spec.padded (spec.plain_row row cursor_keys) }
+    ensures units { result ≡ spec.padded (spec.plain_row row cursor_keys) }
+    ensures few { result.count ≤ 7 }
 {
     match row {
         Row::Letter(last) => {
@@ -134,7 +135,8 @@ fn plain_row(row: Row, cursor_keys: bool) -> Sequence
 }
 
 fn modified_row(row: Row, modifier: u16) -> Sequence
-    ensures { result ≡ spec.padded (spec.modified_row row modifier) }
+    ensures units { result ≡ spec.padded (spec.modified_row row modifier) }
+    ensures few { result.count ≤ 7 }
 {
     match row {
         Row::Letter(last) => Sequence {
@@ -183,7 +185,8 @@ fn own_unit(key: Key) -> Option<u16>
 }
 
 fn own_sequence(key: Key) -> Sequence
-    ensures { result ≡ spec.padded (spec.escaped (spec.alt_in key.state == 1) (spec.own_units key)) }
+    ensures units { result ≡ spec.padded (spec.escaped (spec.alt_in key.state == 1) (spec.own_units key)) }
+    ensures few { result.count ≤ 7 }
 {
     match own_unit(key) {
         None => Sequence {
@@ -207,7 +210,8 @@ fn own_sequence(key: Key) -> Sequence
 /// The units that a key sends to a program that reads virtual terminal input, by whether cursor keys are in
 /// application mode.
 pub fn sequence_of(key: Key, cursor_keys: bool) -> Sequence
-    ensures { result ≡ spec.padded (spec.key_units key cursor_keys) }
+    ensures units { result ≡ spec.padded (spec.key_units key cursor_keys) }
+    ensures few { result.count ≤ 7 }
 {
     match row_of(key) {
         None => own_sequence(key),

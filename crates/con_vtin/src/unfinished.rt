@@ -2,7 +2,7 @@
 ghost use Rattle.std.specs.Prelude.{◌≡◌, ◌≢◌, ℕ, ◌+◌, ◌<◌, ◌≤◌, true, List, [], ◌∷◌, ◌++◌, length, IsTrue, ◌↔◌, vec_len, vec_capacity};
 ghost use Rattle.std.specs.List.{list_all};
 ghost use Rattle.con_vtin.specs.Keys as spec;
-ghost use Rattle.con_vtin.specs.Holding.{Holds, Steps, Advances, IsSecond};
+ghost use Rattle.con_vtin.specs.Holding.{Holds, Steps, Advances, IsSecond, ends_keyless, ends_none};
 
 use crate::character::push_replacements;
 use crate::table::{byte_key, control_sequence_key, escape, letter_key, with_alt};
@@ -144,6 +144,31 @@ fn step_of(phase: Phase, bytes: &[u8], byte: u8) -> Step
     }
 }
 
+fn gives_no_key(step: Step) -> bool
+    ensures { result ≡ ends_none step }
+{
+    match step {
+        Step::GoesOn(_) => false,
+        Step::Ends(key) => key.is_none(),
+        Step::Breaks => false,
+    }
+}
+
+// Whether the byte ends a control sequence that gives no key.
+fn is_keyless_end(phase: Phase, bytes: &[u8], byte: u8) -> bool
+    requires holds { Holds phase bytes.now }
+    requires some { bytes.now ≢ [] }
+    ensures { result ≡ ends_keyless bytes.now byte }
+{
+    match phase {
+        Phase::Nothing => unreachable!(),
+        Phase::Escape => false,
+        Phase::Single => false,
+        Phase::First => gives_no_key(step_of(phase, bytes, byte)),
+        Phase::Second => gives_no_key(step_of(phase, bytes, byte)),
+    }
+}
+
 /// A sequence that begins with ESC and is not whole yet, or nothing. Contracts see its bytes, of which there are 32 at most.
 #[derive(Debug, Drop)]
 pub(crate) struct Unfinished {
@@ -219,6 +244,30 @@ impl Unfinished {
             }
             Step::Breaks => Advance::Breaks,
         }
+    }
+
+    /// The bytes.
+    pub(crate) fn as_slice(&self) -> &[u8]
+        ensures is { result.now ≡ self.now }
+        ensures few { length result.now ≤ 32 }
+    {
+        &self.bytes[..self.count as usize]
+    }
+
+    /// How many bytes there are.
+    pub(crate) fn len(&self) -> u8
+        ensures is { result ≡ length self.now }
+        ensures few { result ≤ 32 }
+    {
+        self.count
+    }
+
+    /// Whether the byte ends a control sequence that gives no key.
+    pub(crate) fn ends_keyless(&self, byte: u8) -> bool
+        requires { self.now ≢ [] }
+        ensures { result ≡ ends_keyless self.now byte }
+    {
+        is_keyless_end(self.phase, &self.bytes[..self.count as usize], byte)
     }
 
     /// Adds what the sequence gives where it is broken off.

@@ -1,8 +1,9 @@
-use Rattle.con_vtin.proofs.FeedLemmas.{tail_is_few}
+use Rattle.std.proofs.Common.{◌≡◌, rules}
+use Rattle.con_vtin.proofs.FewLemmas.{fed_few}
 use Rattle.con_vtin.proofs.reader.KeyReader.feed.Goals as goal
 
-pub returns-then-is_empty-clause-few : goal.returns-then-is_empty-clause-few
-returns-then-is_empty-clause-few c = rw c.feed_text.ensures.tail (tail_is_few c.self.inside.text c.args.byte)
-
-pub returns-else-is_empty-clause-few : goal.returns-else-is_empty-clause-few
-returns-else-is_empty-clause-few c = rw c.feed_sequence.ensures.tail (tail_is_few c.self.inside.sequence c.args.byte)
+pub returns-clause-few : goal.returns-clause-few
+returns-clause-few c =
+    let few = fed_few c.args.out.now.items c.take.new.out.items c.note.new.self.held c.take.new.self.held c.args.byte c.take.ensures.keys c.take.ensures.held in
+    let few_of = rw c.note.ensures.held at few in
+    search (rules, few_of)

@@ -1,0 +1,3 @@
+-- What a reader must believe: the words of the public contracts.
+pub mod Reports
+pub mod Presses

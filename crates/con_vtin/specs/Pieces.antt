@@ -1,0 +1,63 @@
+-- Bytes fall into pieces: keys, and the control sequences that give none.
+use Rattle.std.specs.Prelude.{◌≡◌, ℕ, Bool, true, false, not, ◌&&◌, ◌==◌, List, [], ◌∷◌, ◌++◌, map, Option, Some, None, option_map, if◌then◌else◌}
+use Rattle.con_units.specs.Split.{Grammar, Split, next, split}
+use Rattle.con_records.specs.declared.record.Key.{Key}
+use Rattle.con_vtin.specs.Keys.{grammar, is_front, whole, broken}
+
+-- the bytes begin with ESC [
+abbrev pub is_control : List ℕ → Bool
+is_control [] = false
+is_control (a ∷ []) = false
+is_control (a ∷ b ∷ bytes) = (a == 0x1B) && (b == 0x5B)
+
+abbrev pub gives_none : Option (List Key) → Bool
+gives_none None = false
+gives_none (Some []) = true
+gives_none (Some (k ∷ ks)) = false
+
+-- a whole control sequence that gives no key
+abbrev pub is_keyless : List ℕ → Bool
+is_keyless bytes = is_control bytes && gives_none (whole bytes)
+
+-- the whole control sequence without a key that a byte ends, after the bytes held
+abbrev pub ended_by : List ℕ → ℕ → Option (List ℕ)
+ended_by held byte = if not (is_front (held ++ byte ∷ [])) && is_keyless (held ++ byte ∷ []) then Some (held ++ byte ∷ []) else None
+
+-- what a reader has: the bytes that are no key yet, and the control sequence that the last byte ended and that gave no key
+pub record Reading : Type 0 where
+  pub held : List ℕ
+  pub ended : Option (List ℕ)
+
+-- a key, or the bytes of a control sequence that gives none
+pub data Piece : Type 0 where
+  Typed : Key → Piece
+  Ended : List ℕ → Piece
+
+abbrev pub typed : List Key → List Piece
+typed keys = map Typed keys
+
+-- the pieces of a whole sequence: its keys, or itself
+abbrev pub pieces_of : List ℕ → Bool → List Key → List Piece
+pieces_of bytes true keys = Ended bytes ∷ []
+pieces_of bytes false keys = typed keys
+
+abbrev pub piece_grammar : Grammar Piece
+piece_grammar = record {
+  is_front = is_front;
+  whole = λ bytes. option_map (pieces_of bytes (is_keyless bytes)) (whole bytes);
+  broken = λ bytes. typed (broken bytes);
+  kept = λ _. [];
+}
+
+-- the pieces of bytes in their order, and what of the bytes is unfinished
+abbrev pub pieces : List ℕ → Split Piece
+pieces bytes = split piece_grammar bytes
+
+abbrev pub ended_piece : Option (List ℕ) → List Piece
+ended_piece None = []
+ended_piece (Some bytes) = Ended bytes ∷ []
+
+-- a byte's pieces are its keys, and then the sequence that it ended without one
+abbrev pub IsReadInPieces : Type 0
+IsReadInPieces = (held : List ℕ) (byte : ℕ) → next piece_grammar held byte
+    ≡ record { items = typed (next grammar held byte).items ++ ended_piece (ended_by held byte); tail = (next grammar held byte).tail }
