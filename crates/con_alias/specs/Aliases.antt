@@ -1,6 +1,6 @@
 -- Aliases by program, in order of insertion.
-use Rattle.std.specs.Prelude.{ℕ, ◌+◌, ◌-◌, Bool, not, nat_eq, nat_lt, nat_le, ◌==◌, ◌||◌, ◌&&◌, List, [], ◌∷◌, ◌++◌, Option, Some, None, is_some, Result, Ok, Err, length, max, if◌then◌else◌}
-use Rattle.std.specs.List.{list_any, position_or_len}
+use Rattle.std.specs.Prelude.{ℕ, ◌+◌, Bool, not, nat_eq, nat_lt, nat_le, ◌==◌, ◌||◌, ◌&&◌, List, [], ◌∷◌, ◌++◌, Option, Some, None, is_some, Result, Ok, Err, length, if◌then◌else◌}
+use Rattle.std.specs.List.{list_any}
 use Rattle.std.specs.Cmp.Lexicographic.{pointwise}
 use Rattle.con_units.specs.Stored.{is_control}
 use Rattle.con_units.specs.declared.code.Code.{Code}
@@ -15,11 +15,6 @@ pub record Entry : Type 0 where
 pub record AliasList : Type 0 where
   pub program : List ℕ
   pub entries : List Entry
-
--- all of them, and for how many more programs there is memory
-pub record AliasTable : Type 0 where
-  pub programs : List AliasList
-  pub spare : ℕ
 
 -- texts are compared exactly
 abbrev pub same_units : List ℕ → List ℕ → Bool
@@ -38,10 +33,6 @@ same_name = pointwise same_letter
 
 abbrev pub entry_of : List ℕ → List ℕ → Entry
 entry_of source target = record { source = source; target = target }
-
--- where a source's alias stands, or how many there are
-abbrev pub source_place : List ℕ → List Entry → ℕ
-source_place source entries = position_or_len (λ e. same_name e.source source) entries
 
 -- the alias of a source
 abbrev pub find_entry : List Entry → List ℕ → Option Entry
@@ -62,31 +53,23 @@ without_entry (e ∷ es) source = if same_name e.source source then es else e �
 abbrev pub is_full : List Entry → List ℕ → Bool
 is_full entries source = nat_le 256 (length entries) && not (is_some (find_entry entries source))
 
--- the aliases with one more
-abbrev pub with_entry : AliasList → Entry → AliasList
-with_entry list new = if is_full list.entries new.source then list else record list { entries = put_entry list.entries new }
+-- the aliases with one more, where there is place for it
+abbrev pub with_entry : List Entry → Entry → List Entry
+with_entry entries new = if is_full entries new.source then entries else put_entry entries new
 
 -- the aliases of a program
 abbrev pub entries_in : List AliasList → List ℕ → List Entry
 entries_in [] program = []
 entries_in (l ∷ ls) program = if same_units l.program program then l.entries else entries_in ls program
 
--- where a program's list stands, or how many there are
-abbrev pub place_of : List ℕ → List AliasList → ℕ
-place_of program programs = position_or_len (λ l. same_units l.program program) programs
-
+-- whether a program has a list
 abbrev pub is_known : List AliasList → List ℕ → Bool
-is_known programs program = nat_lt (place_of program programs) (length programs)
+is_known programs program = list_any (λ l. same_units l.program program) programs
 
--- a program's list, changed
-abbrev pub changed_in : (AliasList → AliasList) → List AliasList → List ℕ → List AliasList
+-- a program's aliases, changed
+abbrev pub changed_in : (List Entry → List Entry) → List AliasList → List ℕ → List AliasList
 changed_in f [] program = []
-changed_in f (l ∷ ls) program = if same_units l.program program then f l ∷ ls else l ∷ changed_in f ls program
-
--- room for one alias, and for the list of a program that has none
-pub record Prepared : Type 0 where
-  pub new : Option Entry
-  pub list : Option AliasList
+changed_in f (l ∷ ls) program = if same_units l.program program then (record l { entries = f l.entries }) ∷ ls else l ∷ changed_in f ls program
 
 abbrev pub is_text : ℕ → ℕ → List ℕ → Bool
 is_text least most text = nat_le least (length text) && nat_le (length text) most
@@ -101,49 +84,35 @@ is_bad program source target =
     not (is_text 1 255 program) || not (is_text 1 255 source) || not (is_text 1 1024 target)
     || list_any (λ u. u == 32) source || has_control source || has_control target
 
--- a program that has no list gets an empty one
 abbrev pub empty_list : List ℕ → AliasList
 empty_list program = record { program = program; entries = [] }
 
--- what has to be there before an alias is added
-abbrev pub room_for : AliasTable → List ℕ → List ℕ → List ℕ → Prepared
-room_for s program source target =
-    if is_bad program source target then (let r : Prepared = record { new = None; list = None } in r)
-    else (let r : Prepared = record {
-      new = Some (entry_of source target);
-      list = if is_known s.programs program then None else Some (empty_list program);
-    } in r)
-
--- all aliases after one was added
-abbrev pub added : AliasTable → List ℕ → List ℕ → List ℕ → AliasTable
-added s program source target =
-    if is_bad program source target then s
-    else if is_known s.programs program then record s { programs = changed_in (λ l. with_entry l (entry_of source target)) s.programs program }
-    else record { programs = s.programs ++ with_entry (empty_list program) (entry_of source target) ∷ []; spare = s.spare - 1 }
+-- all aliases after one was added; a program that has no list gets one, which goes last
+abbrev pub added : List AliasList → List ℕ → List ℕ → List ℕ → List AliasList
+added ls program source target =
+    if is_bad program source target then ls
+    else if is_known ls program then changed_in (λ es. with_entry es (entry_of source target)) ls program
+    else ls ++ (let l : AliasList = record { program = program; entries = with_entry [] (entry_of source target) } in l) ∷ []
 
 -- whether 256 are there and this one is new
-abbrev pub is_over : AliasTable → List ℕ → List ℕ → Bool
-is_over s program source = is_full (entries_in s.programs program) source
+abbrev pub is_over : List AliasList → List ℕ → List ℕ → Bool
+is_over ls program source = is_full (entries_in ls program) source
 
 -- what the call answers
-abbrev pub add_answer : AliasTable → List ℕ → List ℕ → List ℕ → Result (Unit {0}) Code
-add_answer s program source target =
-    if is_bad program source target then Err code.BadArgument else if is_over s program source then Err code.Limit else Ok tt
+abbrev pub add_answer : List AliasList → List ℕ → List ℕ → List ℕ → Result (Unit {0}) Code
+add_answer ls program source target =
+    if is_bad program source target then Err code.BadArgument else if is_over ls program source then Err code.Limit else Ok tt
 
 -- a source that no alias can have: an empty one, or one of more than 255 units
 abbrev pub is_no_source : List ℕ → Bool
 is_no_source source = length source == 0 || nat_lt 255 (length source)
 
 -- the alias that a source names
-abbrev pub alias_at : AliasTable → List ℕ → List ℕ → Option Entry
-alias_at s program source = if is_no_source source then None else find_entry (entries_in s.programs program) source
+abbrev pub alias_at : List AliasList → List ℕ → List ℕ → Option Entry
+alias_at ls program source = if is_no_source source then None else find_entry (entries_in ls program) source
 
-abbrev pub removed : AliasTable → List ℕ → List ℕ → AliasTable
-removed s program source = if is_no_source source then s else record s { programs = changed_in (λ l. record l { entries = without_entry l.entries source }) s.programs program }
+abbrev pub removed : List AliasList → List ℕ → List ℕ → List AliasList
+removed ls program source = if is_no_source source then ls else changed_in (λ es. without_entry es source) ls program
 
-abbrev pub remove_answer : AliasTable → List ℕ → List ℕ → Result (Unit {0}) Code
-remove_answer s program source = if is_some (alias_at s program source) then Ok tt else Err code.NoAlias
-
--- room for one more program
-abbrev pub with_room : AliasTable → AliasTable
-with_room s = record s { spare = max s.spare 1 }
+abbrev pub remove_answer : List AliasList → List ℕ → List ℕ → Result (Unit {0}) Code
+remove_answer ls program source = if is_some (alias_at ls program source) then Ok tt else Err code.NoAlias

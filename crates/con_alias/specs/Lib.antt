@@ -1,2 +1,6 @@
+-- What a reader must believe: the public clauses cite these.
 pub mod Aliases
 pub mod Expansion
+-- The code's own words: the memory that is promised, and how sources are looked up.
+pub mod Room
+pub mod Hashed

@@ -1,16 +1,19 @@
 //! The aliases of all programs.
-ghost use Rattle.std.specs.Prelude.{◌≡◌, ℕ, ◌≤◌, ◌<◌, ◌+◌, ◌-◌, ◌||◌, ◌==◌, ◌↔◌, List, [], ◌∷◌, Bool, not, false, true, is_some, Some, None, length, position, slice_index_or, option_copied, unwrap_or, IfOk, IfErr, IsErr, IsOk, OnErr, OnOk, IsTrue, MatchOption, if◌then◌else◌, nat_lt, vec_len, vec_capacity};
+ghost use Rattle.std.specs.Prelude.{◌≡◌, ℕ, ◌≤◌, ◌<◌, ◌-◌, ◌||◌, ◌==◌, List, [], Bool, not, is_some, Some, None, length, max, slice_index_or, option_copied, unwrap_or, IfOk, IsOk, OnErr, OnOk, IsTrue, MatchOption, if◌then◌else◌, vec_capacity};
 ghost use Rattle.std.specs.List.{list_any};
 ghost use Rattle.std.specs.Bool.{OnFalse};
 ghost use Rattle.con_units.specs.Stored.{is_control};
-ghost use Rattle.con_alias.specs.Aliases.{AliasTable, AliasList, Entry, Prepared, same_units, entry_of, find_entry, entries_in, is_known, is_text, has_control, is_bad, is_no_source, room_for, place_of, changed_in, added, add_answer, alias_at, removed, remove_answer, with_room};
+ghost use Rattle.std.specs.Option.{option_map};
+ghost use Rattle.con_alias.specs.Aliases.{Entry, entries_in, is_text, has_control, is_bad, is_no_source, added, add_answer, alias_at, removed, remove_answer};
+ghost use Rattle.con_alias.specs.Room.{room_for, has_room};
 ghost use Rattle.con_alias.specs.Expansion.{expansion};
 
-use crate::alias::Alias;
+use crate::alias::{Alias, Target};
 use crate::expand::{append, behind_word, fits, spell, word};
 use crate::program::ProgramAliases;
 use crate::room::AliasRoom;
 use con_units::{Code, OutOfMemory, Units};
+use indexmap::IndexMap;
 use std::alloc::Global;
 use std::marker::Model;
 
@@ -28,37 +31,20 @@ pub struct Pair<'a> {
 /// The aliases of all programs.
 #[derive(Drop)]
 pub struct Aliases {
-    programs: Vec<ProgramAliases>,
+    programs: IndexMap<Vec<u16>, ProgramAliases>,
     spare: usize,
 }
 
 impl Model for Aliases {
-    ghost use Rattle.std.specs.Prelude.{◌≤◌, ◌+◌, vec_len, vec_capacity};
-    ghost use Rattle.con_alias.specs.Aliases.{AliasTable};
+    ghost use Rattle.std.specs.Prelude.{◌≤◌};
+    ghost use Rattle.indexmap.specs.IndexMap.{spare as map_spare};
+    ghost use Rattle.con_alias.specs.Room.{AliasTable, Places, lists_of, places_of};
 
     ghost Value = { AliasTable };
 
-    ghost view = { λ a. record { programs = a.programs.items; spare = a.spare } };
+    ghost view = { λ a. record { programs = lists_of a.programs.entries; places = record { lists = places_of a.programs.entries; spare = a.spare } } };
 
-    ghost invariant = { λ a. vec_len a.programs + a.spare ≤ vec_capacity a.programs };
-}
-
-// The place of a program's list.
-fn position(programs: &[ProgramAliases], program: &Units) -> Option<usize>
-    ensures { result ≡ position (λ l. same_units l.program program.now) programs.now }
-{
-    programs.iter().position(|list| list.is_of(program))
-}
-
-// Where a program's list stands, or how many there are.
-fn place(programs: &[ProgramAliases], program: &Units) -> usize
-    ensures place { result ≡ place_of program.now programs.now }
-    ensures within { result ≤ length programs.now }
-{
-    match position(programs, program) {
-        Some(k) => k,
-        None => programs.len(),
-    }
+    ghost invariant = { λ a. a.spare ≤ map_spare a.programs };
 }
 
 fn is_length(text: &Units, most: usize) -> bool
@@ -108,35 +94,13 @@ fn answer(ok: bool, code: Code) -> Result<(), Code>
     if ok { Ok(()) } else { Err(code) }
 }
 
-// The program's list.
-fn list_of<'a>(programs: &'a [ProgramAliases], program: &Units) -> Option<&'a ProgramAliases>
-    ensures { MatchOption result (entries_in programs.now program.now ≡ []) (λ l. l.now.entries ≡ entries_in programs.now program.now) }
-{
-    let known = place(programs, program);
-    if known < programs.len() {
-        Some(&programs[known])
-    } else {
-        None
-    }
-}
-
-// The alias in memory of its own.
-fn copied(source: &Units, target: &Units) -> Result<Alias, OutOfMemory>
-    requires { length target.now ≤ 1024 }
-    ensures { IfOk result (λ e. e ≡ entry_of source.now target.now) }
-{
-    let source = source.copied()?;
-    let target = target.copied()?;
-    Ok(Alias::new(source, target))
-}
-
 impl Aliases {
     /// No alias.
     pub fn new(alloc: Global) -> Aliases
-        ensures { result ≡ record { programs = []; spare = 0 } }
+        ensures { result ≡ record { programs = []; places = record { lists = []; spare = 0 } } }
     {
         Aliases {
-            programs: Vec::new(alloc),
+            programs: IndexMap::new(alloc),
             spare: 0,
         }
     }
@@ -148,7 +112,7 @@ impl Aliases {
         source: &Units,
         target: &Units,
     ) -> Result<AliasRoom, OutOfMemory>
-        ensures { IfOk result (λ room. room ≡ room_for self.now program.now source.now target.now) }
+        ensures { IfOk result (λ room. room ≡ room_for self.now.programs program.now source.now target.now) }
     {
         let alloc = *self.programs.allocator();
         if refused(program, source, target) {
@@ -157,18 +121,33 @@ impl Aliases {
                 list: None,
             });
         }
-        let new = copied(source, target)?;
-        if place(&self.programs, program) < self.programs.len() {
+        let new = Alias::of(source, target)?;
+        if self.programs.contains_key(program.as_slice()) {
             return Ok(AliasRoom {
                 new: Some(new),
                 list: None,
             });
         }
-        let list = ProgramAliases::new(alloc, program)?;
+        let Units(program) = program.copied()?;
+        let list = ProgramAliases::new(alloc)?;
         Ok(AliasRoom {
             new: Some(new),
-            list: Some(list),
+            list: Some((program, list)),
         })
+    }
+
+    // Room for one more list.
+    fn list_room(&mut self) -> Result<(), OutOfMemory>
+        ensures ok { OnOk result (self.new ≡ record self.old { places = record self.old.places { spare = max self.old.places.spare 1 } }) }
+        ensures err { OnErr result (self.new ≡ self.old) }
+    {
+        if self.spare == 0 {
+            if self.programs.reserve(1).is_err() {
+                return Err(OutOfMemory);
+            }
+            self.spare = 1;
+        }
+        Ok(())
     }
 
     /// Makes room for [`add`](Aliases::add) of these texts, and changes nothing that is shown.
@@ -178,17 +157,17 @@ impl Aliases {
         source: &Units,
         target: &Units,
     ) -> Result<AliasRoom, OutOfMemory>
-        ensures room { IfOk result (λ room. room ≡ room_for self.old program.now source.now target.now) }
-        ensures ok { OnOk result (self.new ≡ with_room self.old) }
+        ensures room { IfOk result (λ room. room ≡ room_for self.new.programs program.now source.now target.now) }
+        ensures aliases { self.new.programs ≡ self.old.programs }
+        ensures ready { OnOk result (IsTrue (has_room self.new.places program.now)) }
         ensures err { OnErr result (self.new ≡ self.old) }
     {
         let room = self.room(program, source, target)?;
-        if self.spare == 0 {
-            if self.programs.reserve(1).is_err() {
-                return Err(OutOfMemory);
-            }
-            self.spare = 1;
+        if let Some(list) = self.programs.get_mut(program.as_slice()) {
+            list.add_room()?;
+            return Ok(room);
         }
+        self.list_room()?;
         Ok(room)
     }
 
@@ -202,51 +181,58 @@ impl Aliases {
         target: &Units,
         room: AliasRoom,
     ) -> Result<(), Code>
-        requires room { room ≡ room_for self.old program.now source.now target.now }
-        requires spare { 0 < self.old.spare }
-        ensures aliases { self.new ≡ added self.old program.now source.now target.now }
-        ensures refused { result ≡ add_answer self.old program.now source.now target.now }
+        requires room { room ≡ room_for self.old.programs program.now source.now target.now }
+        requires ready { IsTrue (has_room self.old.places program.now) }
+        ensures aliases { self.new.programs ≡ added self.old.programs program.now source.now target.now }
+        ensures refused { result ≡ add_answer self.old.programs program.now source.now target.now }
     {
         if refused(program, source, target) {
             return Err(Code::BadArgument);
         }
         let AliasRoom { new, list } = room;
         let Some(new) = new else { unreachable!() };
-        let known = place(&self.programs, program);
-        if known < self.programs.len() {
-            return answer(self.programs[known].add(new), Code::Limit);
+        if let Some(list) = self.programs.get_mut(program.as_slice()) {
+            return answer(list.add(new), Code::Limit);
         }
-        let Some(mut list) = list else { unreachable!() };
+        let Some((program, mut list)) = list else {
+            unreachable!()
+        };
         list.add(new);
-        self.programs.push_reserved(list);
+        self.programs.insert(program, list).unwrap();
         self.spare -= 1;
         Ok(())
     }
 
     /// Removes a program's alias. Refused where it has no such alias.
     pub fn remove(&mut self, program: &Units, source: &Units) -> Result<(), Code>
-        ensures aliases { self.new ≡ removed self.old program.now source.now }
-        ensures answer { result ≡ remove_answer self.old program.now source.now }
+        ensures aliases { self.new ≡ record self.old { programs = removed self.old.programs program.now source.now } }
+        ensures answer { result ≡ remove_answer self.old.programs program.now source.now }
     {
         let units = source.as_slice();
         if is_no_source(units) {
             return Err(Code::NoAlias);
         }
-        let known = place(&self.programs, program);
-        if known < self.programs.len() {
-            return answer(self.programs[known].remove(units), Code::NoAlias);
+        if let Some(list) = self.programs.get_mut(program.as_slice()) {
+            return answer(list.remove(units), Code::NoAlias);
         }
         Err(Code::NoAlias)
     }
 
-    // The alias that a source names.
-    fn find(&self, program: &Units, source: &[u16]) -> Option<&Alias>
-        ensures { option_copied result ≡ alias_at self.now program.now source.now }
+    // The program's list.
+    fn list_of(&self, program: &Units) -> Option<&ProgramAliases>
+        ensures { MatchOption result (entries_in self.now.programs program.now ≡ []) (λ l. l.now.entries ≡ entries_in self.now.programs program.now) }
+    {
+        self.programs.get(program.as_slice())
+    }
+
+    // The target of the alias that a source names.
+    fn find(&self, program: &Units, source: &[u16]) -> Option<&Target>
+        ensures { option_copied result ≡ option_map (λ e. e.target) (alias_at self.now.programs program.now source.now) }
     {
         if is_no_source(source) {
             return None;
         }
-        match list_of(&self.programs, program) {
+        match self.list_of(program) {
             Some(list) => list.find(source),
             None => None,
         }
@@ -254,10 +240,10 @@ impl Aliases {
 
     /// The target of a program's alias. Refused where it has no such alias.
     pub fn get(&self, program: &Units, source: &Units) -> Result<&Units, Code>
-        ensures { MatchOption (alias_at self.now program.now source.now) (result ≡ Err Code.NoAlias) (λ e. IfOk result (λ t. t.now ≡ e.target) × IsOk result) }
+        ensures { MatchOption (alias_at self.now.programs program.now source.now) (result ≡ Err Code.NoAlias) (λ e. IfOk result (λ t. t.now ≡ e.target) × IsOk result) }
     {
         match self.find(program, source.as_slice()) {
-            Some(alias) => Ok(alias.target()),
+            Some(target) => Ok(target.units()),
             None => Err(Code::NoAlias),
         }
     }
@@ -266,7 +252,7 @@ impl Aliases {
     pub fn count(&self, program: &Units) -> usize
         ensures { result ≡ length (entries_in self.now.programs program.now) }
     {
-        match list_of(&self.programs, program) {
+        match self.list_of(program) {
             Some(list) => list.count(),
             None => 0,
         }
@@ -278,12 +264,12 @@ impl Aliases {
         ensures source { (d : Entry) → result.source.now ≡ (slice_index_or (entries_in self.now.programs program.now) k d).source }
         ensures target { (d : Entry) → result.target.now ≡ (slice_index_or (entries_in self.now.programs program.now) k d).target }
     {
-        match list_of(&self.programs, program) {
+        match self.list_of(program) {
             Some(list) => {
-                let alias = list.at(k);
+                let (source, target) = list.at(k);
                 Pair {
-                    source: alias.source(),
-                    target: alias.target(),
+                    source: source.units(),
+                    target: target.units(),
                 }
             }
             None => unreachable!(),
@@ -297,14 +283,14 @@ impl Aliases {
         requires line { length line.now ≤ 1024 }
         requires empty { out.old.items ≡ [] }
         requires spare { 5122 ≤ vec_capacity out.old }
-        ensures lines { out.new.items ≡ unwrap_or (expansion self.now program.now line.now) [] }
-        ensures answer { result ≡ is_some (expansion self.now program.now line.now) }
+        ensures lines { out.new.items ≡ unwrap_or (expansion self.now.programs program.now line.now) [] }
+        ensures answer { result ≡ is_some (expansion self.now.programs program.now line.now) }
         ensures room { vec_capacity out.old ≤ vec_capacity out.new }
     {
         let rest = behind_word(line);
         match self.find(program, word(line)) {
-            Some(alias) => {
-                let target = alias.target().as_slice();
+            Some(target) => {
+                let target = target.units().as_slice();
                 if fits(target, rest) {
                     spell(target, rest, out);
                     append(out, &[13, 10]);

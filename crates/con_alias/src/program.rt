@@ -1,68 +1,47 @@
 //! The aliases of one program.
-ghost use Rattle.std.specs.Prelude.{◌≡◌, ℕ, ◌≤◌, ◌<◌, List, [], Bool, not, is_some, Some, None, length, position, slice_get, slice_index_or, IfOk, option_copied, if◌then◌else◌};
-ghost use Rattle.con_alias.specs.Aliases.{Entry, AliasList, same_units, same_name, source_place, put_entry, find_entry, without_entry, is_full, with_entry};
+ghost use Rattle.std.specs.Prelude.{◌≡◌, ℕ, ◌≤◌, ◌<◌, List, [], max, Bool, not, is_some, length, slice_index_or, IfOk, OnOk, OnErr, option_copied};
+ghost use Rattle.std.specs.Option.{option_map};
+ghost use Rattle.con_alias.specs.Aliases.{Entry, find_entry, is_full, with_entry, without_entry};
+ghost use Rattle.con_alias.specs.Room.{Listed};
 
-use crate::alias::Alias;
-use con_units::{OutOfMemory, Units};
+use crate::alias::{Alias, Target};
+use crate::name::{Source, Word};
+use con_units::OutOfMemory;
+use indexmap::IndexMap;
 use std::alloc::Global;
 use std::marker::Model;
 
 /// How many aliases a program has at most.
 const MOST_ALIASES: usize = 256;
 
-/// A program's aliases in order of insertion, with memory for all that it may ever have.
+/// A program's aliases in order of insertion, and for how many more there is memory.
 #[derive(Drop)]
 pub struct ProgramAliases {
-    program: Units,
-    aliases: Vec<Alias>,
+    aliases: IndexMap<Source, Target>,
+    spare: usize,
 }
 
 impl Model for ProgramAliases {
-    ghost use Rattle.std.specs.Prelude.{◌≤◌, vec_capacity};
-    ghost use Rattle.con_alias.specs.Aliases.{AliasList};
+    ghost use Rattle.std.specs.Prelude.{◌≤◌};
+    ghost use Rattle.indexmap.specs.IndexMap.{spare as map_spare};
+    ghost use Rattle.con_alias.specs.Room.{Listed, entries_of};
 
-    ghost Value = { AliasList };
+    ghost Value = { Listed };
 
-    ghost view = { λ a. record { program = a.program; entries = a.aliases.items } };
+    ghost view = { λ a. record { entries = entries_of a.aliases.entries; spare = a.spare } };
 
-    ghost invariant = { λ a. 256 ≤ vec_capacity a.aliases };
-}
-
-// The place of a source's alias.
-fn position(aliases: &[Alias], source: &[u16]) -> Option<usize>
-    ensures { result ≡ position (λ e. same_name e.source source.now) aliases.now }
-{
-    aliases.iter().position(|alias| alias.is_of(source))
-}
-
-// Where a source's alias stands, or how many there are.
-fn place(aliases: &[Alias], source: &[u16]) -> usize
-    ensures place { result ≡ source_place source.now aliases.now }
-    ensures within { result ≤ length aliases.now }
-{
-    match position(aliases, source) {
-        Some(k) => k,
-        None => aliases.len(),
-    }
+    ghost invariant = { λ a. a.spare ≤ map_spare a.aliases };
 }
 
 impl ProgramAliases {
-    /// No alias of a program.
-    pub fn new(alloc: Global, program: &Units) -> Result<ProgramAliases, OutOfMemory>
-        ensures { IfOk result (λ list. list ≡ record { program = program.now; entries = [] }) }
+    /// No alias, and room for one.
+    pub fn new(alloc: Global) -> Result<ProgramAliases, OutOfMemory>
+        ensures { IfOk result (λ list. list ≡ record { entries = []; spare = 1 }) }
     {
-        let program = program.copied()?;
-        match Vec::with_capacity(alloc, MOST_ALIASES) {
-            Ok(aliases) => Ok(ProgramAliases { program, aliases }),
+        match IndexMap::with_capacity(alloc, 1) {
+            Ok(aliases) => Ok(ProgramAliases { aliases, spare: 1 }),
             Err(_) => Err(OutOfMemory),
         }
-    }
-
-    /// Whether these are the aliases of a program.
-    pub fn is_of(&self, program: &Units) -> bool
-        ensures { result ≡ same_units self.now.program program.now }
-    {
-        self.program.as_slice() == program.as_slice()
     }
 
     /// How many there are.
@@ -72,21 +51,33 @@ impl ProgramAliases {
         self.aliases.len()
     }
 
+    /// Makes room for one more.
+    pub fn add_room(&mut self) -> Result<(), OutOfMemory>
+        ensures ok { OnOk result (self.new ≡ record self.old { spare = max self.old.spare 1 }) }
+        ensures err { OnErr result (self.new ≡ self.old) }
+    {
+        if self.spare == 0 {
+            if self.aliases.reserve(1).is_err() {
+                return Err(OutOfMemory);
+            }
+            self.spare = 1;
+        }
+        Ok(())
+    }
+
     /// Adds an alias, or gives a present one its new target. False, and nothing changes, where 256 are there and this
     /// one is new.
     pub fn add(&mut self, new: Alias) -> bool
-        ensures list { self.new ≡ with_entry self.old new }
+        requires { 0 < self.old.spare }
+        ensures list { self.new.entries ≡ with_entry self.old.entries new }
         ensures answer { result ≡ not (is_full self.old.entries new.source) }
     {
-        let known = place(&self.aliases, new.source().as_slice());
-        if known < self.aliases.len() {
-            self.aliases[known].set_target(new);
-            return true;
-        }
-        if self.aliases.len() >= MOST_ALIASES {
+        let (source, target) = new.parts();
+        if self.aliases.len() >= MOST_ALIASES && !self.aliases.contains_key(source.word()) {
             return false;
         }
-        self.aliases.push_reserved(new);
+        self.aliases.insert(source, target).unwrap();
+        self.spare -= 1;
         true
     }
 
@@ -95,31 +86,22 @@ impl ProgramAliases {
         ensures list { self.new ≡ record self.old { entries = without_entry self.old.entries source.now } }
         ensures found { result ≡ is_some (find_entry self.old.entries source.now) }
     {
-        let known = place(&self.aliases, source);
-        if known < self.aliases.len() {
-            self.aliases.remove(known);
-            return true;
-        }
-        false
+        self.aliases.shift_remove(Word(source)).is_some()
     }
 
-    /// The alias of a source.
-    pub fn find(&self, source: &[u16]) -> Option<&Alias>
-        ensures { option_copied result ≡ find_entry self.now.entries source.now }
+    /// The target of a source's alias.
+    pub fn find(&self, source: &[u16]) -> Option<&Target>
+        ensures { option_copied result ≡ option_map (λ e. e.target) (find_entry self.now.entries source.now) }
     {
-        let known = place(&self.aliases, source);
-        if known < self.aliases.len() {
-            Some(&self.aliases[known])
-        } else {
-            None
-        }
+        self.aliases.get(Word(source))
     }
 
     /// The alias at a place, in order of insertion.
-    pub fn at(&self, k: usize) -> &Alias
+    pub fn at(&self, k: usize) -> (&Source, &Target)
         requires { k < length self.now.entries }
-        ensures { (d : Entry) → result.now ≡ slice_index_or self.now.entries k d }
+        ensures source { (d : Entry) → result.0.now ≡ (slice_index_or self.now.entries k d).source }
+        ensures target { (d : Entry) → result.1.now ≡ (slice_index_or self.now.entries k d).target }
     {
-        &self.aliases[k]
+        self.aliases.get_index(k).unwrap()
     }
 }

@@ -10,13 +10,17 @@ use std::marker::Model;
 #[derive(Drop)]
 pub struct AliasRoom {
     pub(crate) new: Option<Alias>,
-    pub(crate) list: Option<ProgramAliases>,
+    pub(crate) list: Option<(Vec<u16>, ProgramAliases)>,
 }
 
 impl Model for AliasRoom {
-    ghost use Rattle.con_alias.specs.Aliases.{Prepared};
+    ghost use Rattle.std.specs.Prelude.{◌<◌};
+    ghost use Rattle.std.specs.Option.{ForSome, option_map};
+    ghost use Rattle.con_alias.specs.Room.{Prepared, listed};
 
     ghost Value = { Prepared };
 
-    ghost view = { λ room. record { new = room.new; list = room.list } };
+    ghost view = { λ room. record { new = room.new; list = option_map (λ p. listed p.0.items p.1) room.list } };
+
+    ghost invariant = { λ room. ForSome room.list (λ p. 0 < p.1.spare) };
 }

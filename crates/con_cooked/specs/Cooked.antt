@@ -1,13 +1,14 @@
 -- A line read: its line after all presses, what each press answers, and how it ends.
-use Rattle.std.specs.Prelude.{ℕ, ◌+◌, ◌-◌, Bool, true, false, ◌==◌, List, [], ◌∷◌, ◌++◌, Option, Some, None, length, take, fold, min, slice_index_or, unwrap_or, if◌then◌else◌}
+use Rattle.std.specs.Prelude.{ℕ, ◌+◌, ◌-◌, Bool, true, false, ◌==◌, List, [], ◌∷◌, ◌++◌, Option, Some, None, length, take, drop, fold, min, slice_index_or, unwrap_or, if◌then◌else◌}
 use Rattle.con_records.specs.declared.record.Record.{Record}
 use Rattle.con_line.specs.Line.{LineText, pressed as line_pressed, first_difference}
 use Rattle.con_line.specs.declared.press.Press.{Press}
 use Rattle.con_line.specs.declared.press.Press.TheVariants as press
 use Rattle.con_history.specs.Histories.{LineHistories, found, lines_of, added_to}
-use Rattle.con_alias.specs.Aliases.{AliasTable}
+use Rattle.con_alias.specs.Aliases.{AliasList}
 use Rattle.con_alias.specs.Expansion.{expansion, line_end}
 use Rattle.con_cooked.specs.Keys.{key_of}
+use Rattle.con_cooked.specs.Mask.{is_masked, waking_unit}
 use Rattle.con_cooked.specs.declared.keys.LineKey.{LineKey}
 use Rattle.con_cooked.specs.declared.keys.LineKey.TheVariants as key
 use Rattle.con_cooked.specs.declared.progress.Echo.{Echo}
@@ -24,10 +25,12 @@ pub record Moment : Type 0 where
   pub pressed : Record
   pub lines : List (List ℕ)
 
--- a read: its program, its insert flag at the beginning, and its presses
+-- a read: its program, its insert flag and its text at the beginning, the controls that wake it, and its presses
 pub record Reading : Type 0 where
   pub program : List ℕ
   pub insert : Bool
+  pub initial : List ℕ
+  pub mask : ℕ
   pub presses : List Moment
 
 -- a recalled place that is not below the number of lines counts as that number
@@ -74,19 +77,27 @@ key_pressed e key.Rest lines = record e { line = line_pressed e.line press.RestO
 key_pressed e key.Search lines = matched e lines (found (take e.line.caret e.line.units) lines (place_in e.recalled lines))
 key_pressed e key.Nothing lines = e
 
-abbrev pub pressed_at : Edited → Moment → Edited
-pressed_at e m = key_pressed e (key_of m.pressed) m.lines
+-- a masked key acts before the table, and changes nothing
+abbrev pub pressed_at : ℕ → Edited → Moment → Edited
+pressed_at mask e m = if is_masked mask m.pressed then e else key_pressed e (key_of m.pressed) m.lines
 
--- no text, the flag as it is at the beginning
-abbrev pub blank : Bool → Edited
-blank insert = record { line = record { units = []; caret = 0; insert = insert }; recalled = None }
+-- the initial text with the caret at its end, and the flag as it is at the beginning
+abbrev pub opened : Bool → List ℕ → Edited
+opened insert initial = record { line = record { units = initial; caret = length initial; insert = insert }; recalled = None }
 
 -- the line of a list of presses
-abbrev pub line_after : Bool → List Moment → Edited
-line_after insert presses = fold pressed_at (blank insert) presses
+abbrev pub line_after : ℕ → Edited → List Moment → Edited
+line_after mask e presses = fold (pressed_at mask) e presses
 
 abbrev pub line_of : Reading → Edited
-line_of r = line_after r.insert r.presses
+line_of r = line_after r.mask (opened r.insert r.initial) r.presses
+
+-- the control by which the last press woke the read, or 0 where it did not
+abbrev pub woken_after : ℕ → List Moment → ℕ
+woken_after mask presses = fold (λ before m. waking_unit mask m.pressed) 0 presses
+
+abbrev pub woken_by : Reading → ℕ
+woken_by r = woken_after r.mask r.presses
 
 -- a read after one more record
 abbrev pub after_press : Reading → Record → LineHistories → Reading
@@ -122,16 +133,27 @@ is_return key.Rest = false
 is_return key.Search = false
 is_return key.Nothing = false
 
--- what a press answers
+-- what a press answers: a masked key ends the read and shows nothing, and return ends it with its line
 abbrev pub progress_of : Reading → Record → LineHistories → Progress
 progress_of r one histories =
     let echo : Echo = echo_between (line_of r).line (line_of (after_press r one histories)).line in
-    if is_return (key_of one) then progress.Done echo else progress.Going echo
+    if is_masked r.mask one then progress.Woken
+    else if is_return (key_of one) then progress.Done echo
+    else progress.Going echo
 
--- the lines that a read gives: those of its expansion, or its own, each with its end
-abbrev pub answer_of : Reading → AliasTable → List ℕ
-answer_of r aliases = unwrap_or (expansion aliases r.program (line_of r).line.units) ((line_of r).line.units ++ line_end)
+-- the lines that a text stands for: those of its expansion, or itself, each with its end
+abbrev pub lines_for : List AliasList → List ℕ → List ℕ → List ℕ
+lines_for ls program text = unwrap_or (expansion ls program text) (text ++ line_end)
 
--- the histories after it
+-- a text with a control where its caret is
+abbrev pub split_by : ℕ → LineText → List ℕ
+split_by control l = take l.caret l.units ++ control ∷ drop l.caret l.units
+
+-- what a read gives: where a control woke it, the units before the caret, the control, and the units from the caret on;
+-- else the lines that its text stands for
+abbrev pub answer_of : Reading → List AliasList → List ℕ
+answer_of r ls = if woken_by r == 0 then lines_for ls r.program (line_of r).line.units else split_by (woken_by r) (line_of r).line
+
+-- the histories after it: a line that a control woke is not added
 abbrev pub histories_after : Reading → LineHistories → LineHistories
-histories_after r histories = added_to histories r.program (line_of r).line.units
+histories_after r histories = if woken_by r == 0 then added_to histories r.program (line_of r).line.units else histories

@@ -1,2 +1,6 @@
+-- What a reader must believe: the public clauses cite these.
 pub mod Keys
+pub mod Mask
 pub mod Cooked
+-- What follows from them, and is the contract of the functions of `laws`.
+pub mod Laws

@@ -20,4 +20,6 @@ pub enum Progress {
     Going(Echo),
     /// The return key went down: the line is whole.
     Done(Echo),
+    /// A masked control went down: the line is handed over as it stands, and nothing is to be drawn.
+    Woken,
 }

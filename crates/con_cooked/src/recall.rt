@@ -2,7 +2,7 @@
 ghost use Rattle.std.specs.Prelude.{◌≡◌, ℕ, ◌+◌, ◌-◌, ◌≤◌, ◌<◌, List, [], Bool, true, false, Option, Some, None, length, take, min, slice_index_or, unwrap_or, ◌≢◌, IfSome, IfOk, if◌then◌else◌};
 ghost use Rattle.con_line.specs.Line.{IsLine, edit_between};
 ghost use Rattle.con_history.specs.Histories.{lines_of, found};
-ghost use Rattle.con_cooked.specs.Cooked.{Edited, recall, edited, key_pressed, blank, place_in};
+ghost use Rattle.con_cooked.specs.Cooked.{Edited, recall, edited, key_pressed, opened, place_in};
 
 use crate::keys::LineKey;
 use con_history::Histories;
@@ -29,11 +29,13 @@ impl Model for EditedLine {
 }
 
 impl EditedLine {
-    /// No text.
-    pub fn new(alloc: Global, insert: bool) -> Result<EditedLine, OutOfMemory>
-        ensures { IfOk result (λ e. e ≡ blank insert) }
+    /// A text, with the caret at its end.
+    pub fn new(alloc: Global, insert: bool, initial: &[u16]) -> Result<EditedLine, OutOfMemory>
+        requires { length initial.now ≤ 1024 }
+        ensures { IfOk result (λ e. e ≡ opened insert initial.now) }
     {
-        let line = Line::new(alloc, insert)?;
+        let mut line = Line::new(alloc, insert)?;
+        line.press(Press::Recall, initial);
         Ok(EditedLine {
             line,
             recalled: None,
@@ -105,6 +107,24 @@ impl EditedLine {
             .press(Press::Recall, histories.at(program, k).as_slice())
     }
 
+    // One older than the recalled line, or the newest.
+    fn up(&mut self, histories: &Histories, program: &Units) -> Edit
+        ensures line { self.new ≡ key_pressed self.old LineKey.Up (lines_of histories.now program.now) }
+        ensures edit { result ≡ edit_between self.old.line.units self.new.line.units }
+    {
+        let place = self.place(histories.count(program)).saturating_sub(1);
+        self.recall(histories, program, place)
+    }
+
+    // The newest line.
+    fn newest(&mut self, histories: &Histories, program: &Units) -> Edit
+        ensures line { self.new ≡ key_pressed self.old LineKey.PageDown (lines_of histories.now program.now) }
+        ensures edit { result ≡ edit_between self.old.line.units self.new.line.units }
+    {
+        let last = histories.count(program).saturating_sub(1);
+        self.recall(histories, program, last)
+    }
+
     fn rest(&mut self, histories: &Histories, program: &Units) -> Edit
         ensures line { self.new ≡ key_pressed self.old LineKey.Rest (lines_of histories.now program.now) }
         ensures edit { result ≡ edit_between self.old.line.units self.new.line.units }
@@ -166,7 +186,6 @@ impl EditedLine {
         ensures line { self.new ≡ key_pressed self.old key (lines_of histories.now program.now) }
         ensures edit { result ≡ edit_between self.old.line.units self.new.line.units }
     {
-        let count = histories.count(program);
         match key {
             LineKey::Unit(unit) => self.plain(Press::Unit(unit)),
             LineKey::Back => self.plain(Press::Back),
@@ -179,13 +198,10 @@ impl EditedLine {
             LineKey::Home => self.plain(Press::Home),
             LineKey::End => self.plain(Press::End),
             LineKey::Insert => self.plain(Press::Insert),
-            LineKey::Up => {
-                let place = self.place(count).saturating_sub(1);
-                self.recall(histories, program, place)
-            }
+            LineKey::Up => self.up(histories, program),
             LineKey::Down => self.down(histories, program),
             LineKey::PageUp => self.recall(histories, program, 0),
-            LineKey::PageDown => self.recall(histories, program, count.saturating_sub(1)),
+            LineKey::PageDown => self.newest(histories, program),
             LineKey::Rest => self.rest(histories, program),
             LineKey::Search => self.search(histories, program),
             LineKey::Return | LineKey::Nothing => self.nothing(),

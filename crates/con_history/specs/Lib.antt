@@ -1,2 +1,4 @@
+-- What a reader must believe: the public clauses cite it.
 pub mod Histories
+-- The code's own words: what holds of all histories at all times.
 pub mod Sound

@@ -23,6 +23,3 @@ mod room;
 pub use histories::Histories;
 pub use info::HistoryInfo;
 pub use room::{ConfigRoom, HistoryRoom};
-
-#[cfg(test)]
-mod tests;

@@ -19,6 +19,3 @@ mod press;
 pub use edit::Edit;
 pub use line::Line;
 pub use press::Press;
-
-#[cfg(test)]
-mod tests;

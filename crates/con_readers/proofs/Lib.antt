@@ -7,3 +7,6 @@ pub mod OneRecord
 pub mod Pieces
 pub mod Texts
 pub mod Rest
+pub mod Answering
+pub mod Distinctness
+pub mod Echoes

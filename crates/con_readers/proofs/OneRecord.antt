@@ -2,7 +2,7 @@
 use Rattle.std.proofs.Common.{◌≡◌, ℕ, List, [], ◌∷◌, refl, ap, ◌∙◌, sym}
 use Rattle.con_records.specs.declared.record.Record.{Record}
 use Rattle.con_history.specs.declared.histories.Histories.{Histories}
-use Rattle.con_alias.specs.declared.aliases.Aliases.{Aliases}
+use Rattle.con_alias.specs.Aliases.{AliasList}
 use Rattle.con_cooked.specs.declared.cooked.Cooked.{Cooked}
 use Rattle.con_cooked.specs.declared.progress.Progress.{Progress}
 use Rattle.con_cooked.specs.declared.progress.Progress.TheVariants as progress
@@ -14,30 +14,31 @@ use Rattle.con_readers.specs.Serving.{Took, took_one, took_line}
 with_records : Took → List Record → Took
 with_records t rs = record t { records = rs }
 
-one-took : (p : ℕ) (al : Aliases) (line line' : Cooked) (rs : List Record) (hs : Histories) (g : Progress) → with_records (took_one p al line line' [] hs g) rs ≡ took_one p al line line' rs hs g
+one-took : (p : ℕ) (al : List AliasList) (line line' : Cooked) (rs : List Record) (hs : Histories) (g : Progress) → with_records (took_one p al line line' [] hs g) rs ≡ took_one p al line line' rs hs g
 unfolding with_records
 one-took p al line line' rs hs (progress.Going echo) = refl
 one-took p al line line' rs hs (progress.Done echo) = refl
+one-took p al line line' rs hs progress.Woken = refl
 
-line-took : (p : ℕ) (al : Aliases) (line : Cooked) (r : Record) (rs items : List Record) (hs : Histories) → items ≡ r ∷ rs
+line-took : (p : ℕ) (al : List AliasList) (line : Cooked) (r : Record) (rs items : List Record) (hs : Histories) → items ≡ r ∷ rs
     → with_records (took_one p al line (line_after line r hs) [] hs (line_progress line r hs)) rs ≡ took_line p al line items hs
 line-took p al line r rs items hs e = one-took p al line (line_after line r hs) rs hs (line_progress line r hs) ∙ ap (λ (xs : List Record). took_line p al line xs hs) (sym e)
 
-pub line-read : (p : ℕ) (al : Aliases) (line : Cooked) (r : Record) (rs items : List Record) (hs : Histories) → items ≡ r ∷ rs
+pub line-read : (p : ℕ) (al : List AliasList) (line : Cooked) (r : Record) (rs items : List Record) (hs : Histories) → items ≡ r ∷ rs
     → (took_one p al line (line_after line r hs) [] hs (line_progress line r hs)).read ≡ (took_line p al line items hs).read
 unfolding with_records
 line-read p al line r rs items hs e = ap (λ (t : Took). t.read) (line-took p al line r rs items hs e)
 
-pub line-told : (p : ℕ) (al : Aliases) (line : Cooked) (r : Record) (rs items : List Record) (hs : Histories) → items ≡ r ∷ rs
+pub line-told : (p : ℕ) (al : List AliasList) (line : Cooked) (r : Record) (rs items : List Record) (hs : Histories) → items ≡ r ∷ rs
     → told (took_one p al line (line_after line r hs) [] hs (line_progress line r hs)).act ≡ told (took_line p al line items hs).act
 unfolding with_records
 line-told p al line r rs items hs e = ap (λ (t : Took). told t.act) (line-took p al line r rs items hs e)
 
-pub line-records : (p : ℕ) (al : Aliases) (line : Cooked) (r : Record) (rs items : List Record) (hs : Histories) → items ≡ r ∷ rs → rs ≡ (took_line p al line items hs).records
+pub line-records : (p : ℕ) (al : List AliasList) (line : Cooked) (r : Record) (rs items : List Record) (hs : Histories) → items ≡ r ∷ rs → rs ≡ (took_line p al line items hs).records
 unfolding with_records
 line-records p al line r rs items hs e = ap (λ (t : Took). t.records) (line-took p al line r rs items hs e)
 
-pub line-histories : (p : ℕ) (al : Aliases) (line : Cooked) (r : Record) (rs items : List Record) (hs : Histories) → items ≡ r ∷ rs
+pub line-histories : (p : ℕ) (al : List AliasList) (line : Cooked) (r : Record) (rs items : List Record) (hs : Histories) → items ≡ r ∷ rs
     → (took_one p al line (line_after line r hs) [] hs (line_progress line r hs)).histories ≡ (took_line p al line items hs).histories
 unfolding with_records
 line-histories p al line r rs items hs e = ap (λ (t : Took). t.histories) (line-took p al line r rs items hs e)

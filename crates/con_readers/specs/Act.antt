@@ -2,6 +2,7 @@
 use Rattle.std.specs.Prelude.{ℕ, Option, Some, None}
 use Rattle.con_cooked.specs.declared.cooked.Cooked.{Cooked}
 use Rattle.con_cooked.specs.declared.progress.Echo.{Echo}
+use Rattle.con_readers.specs.declared.open.OpenRead.{OpenRead}
 use Rattle.con_readers.specs.declared.step.Step.{Step}
 use Rattle.con_readers.specs.declared.step.Step.TheVariants as steps
 
@@ -12,8 +13,10 @@ pub data Act : Type 0 where
   typed : ℕ → Cooked → Cooked → Echo → Act
   -- its read of units took records without a unit
   passed : ℕ → Act
-  -- its read is done: the length of an ended line before its expansion, 0 for another read
-  ended : ℕ → ℕ → Act
+  -- its read is done: the read as it stood at its end, and the length of an ended line before its expansion, 0 for another read
+  ended : ℕ → OpenRead → ℕ → Act
+  -- a masked control ended its line: the line as it stood
+  woke : ℕ → Cooked → Act
 
 -- what a caller is told of it
 abbrev pub told : Option Act → Step
@@ -21,4 +24,5 @@ told None = steps.Idle
 told (Some (began p)) = steps.Started p
 told (Some (typed p line line' echo)) = steps.Echo p echo
 told (Some (passed p)) = steps.Dropped p
-told (Some (ended p len)) = steps.Finished p len
+told (Some (ended p read len)) = steps.Finished p len
+told (Some (woke p line)) = steps.Woken p

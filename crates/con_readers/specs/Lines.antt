@@ -2,7 +2,7 @@
 use Rattle.std.specs.Prelude.{ℕ, List}
 use Rattle.con_records.specs.declared.record.Record.{Record}
 use Rattle.con_history.specs.declared.histories.Histories.{Histories}
-use Rattle.con_alias.specs.declared.aliases.Aliases.{Aliases}
+use Rattle.con_alias.specs.Aliases.{AliasList}
 use Rattle.con_cooked.specs.declared.cooked.Cooked.{Cooked}
 use Rattle.con_cooked.specs.declared.progress.Progress.{Progress}
 use Rattle.con_cooked.specs.Cooked.{line_of, after_press, progress_of, answer_of, histories_after}
@@ -20,7 +20,7 @@ abbrev pub line_text : Cooked → List ℕ
 line_text line = (line_of line).line.units
 
 -- what it answers at its end
-abbrev pub line_answer : Cooked → Aliases → List ℕ
+abbrev pub line_answer : Cooked → List AliasList → List ℕ
 line_answer line al = answer_of line al
 
 -- the histories after its end

@@ -2,7 +2,7 @@
 use Rattle.std.specs.Prelude.{ℕ, ◌-◌, List, [], ◌∷◌, ◌++◌, length, take, if◌then◌else◌}
 use Rattle.con_records.specs.declared.record.Record.{Record}
 use Rattle.con_history.specs.declared.histories.Histories.{Histories}
-use Rattle.con_alias.specs.declared.aliases.Aliases.{Aliases}
+use Rattle.con_alias.specs.Aliases.{AliasList}
 use Rattle.con_readers.specs.Serving.{is_done, served}
 use Rattle.con_readers.specs.declared.open.Open.{Open}
 
@@ -11,7 +11,7 @@ abbrev pub front : List Record → List Record → List Record
 front rs rest = take (length rs - length rest) rs
 
 -- a process and what its read took
-unfoldable pub pieces_of : Aliases → List Open → List Record → Histories → List (ℕ × List Record)
+unfoldable pub pieces_of : List AliasList → List Open → List Record → Histories → List (ℕ × List Record)
 pieces_of al [] rs hs = []
 pieces_of al (o ∷ os) rs hs =
     if is_done o.read then pieces_of al os rs hs

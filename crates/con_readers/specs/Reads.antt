@@ -5,7 +5,7 @@ use Rattle.con_units.specs.declared.code.Code.{Code}
 use Rattle.con_units.specs.declared.code.Code.TheVariants as code
 use Rattle.con_records.specs.declared.record.Record.{Record}
 use Rattle.con_history.specs.declared.histories.Histories.{Histories}
-use Rattle.con_alias.specs.declared.aliases.Aliases.{Aliases}
+use Rattle.con_alias.specs.Aliases.{AliasList}
 use Rattle.con_readers.specs.Lines.{line_text}
 use Rattle.con_readers.specs.Act.{Act, began}
 use Rattle.con_readers.specs.Serving.{took, is_done, is_line, served}
@@ -30,12 +30,12 @@ pub record Moved : Type 0 where
   pub histories : Histories
   pub act : Option Act
 
-abbrev pub moved_on : Aliases → Open → List Record → Histories → Moved
+abbrev pub moved_on : List AliasList → Open → List Record → Histories → Moved
 moved_on al o [] hs = record { one = o; records = []; histories = hs; act = None }
 moved_on al o (r ∷ rs) hs = let t = took o.process al o.read (r ∷ rs) hs in record { one = record o { read = t.read }; records = t.records; histories = t.histories; act = t.act }
 
 -- one step of the first read that is not done: it starts, then it takes records
-abbrev pub moved : Aliases → Open → List Record → Histories → Moved
+abbrev pub moved : List AliasList → Open → List Record → Histories → Moved
 moved al o rs hs = if o.started then moved_on al o rs hs else record { one = record o { started = true }; records = rs; histories = hs; act = Some (began o.process) }
 
 -- the first k reads are done
@@ -51,7 +51,7 @@ pub record Pumped : Type 0 where
   pub act : Option Act
 
 -- one step of the first read that is not done, or none
-abbrev pub pumped : Aliases → List Open → List Record → Histories → Pumped
+abbrev pub pumped : List AliasList → List Open → List Record → Histories → Pumped
 pumped al [] rs hs = record { reads = []; records = rs; histories = hs; act = None }
 pumped al (o ∷ os) rs hs =
     if is_done o.read then (let p = pumped al os rs hs in record p { reads = o ∷ p.reads })
@@ -77,7 +77,7 @@ abbrev pub first_acts : Open → List Act → List Act
 first_acts o acts = if o.started then acts else began o.process ∷ acts
 
 -- the first read that is not done takes records until it is done or none is left, then the next one follows
-unfoldable pub settled : Aliases → List Open → List Record → Histories → Settled
+unfoldable pub settled : List AliasList → List Open → List Record → Histories → Settled
 settled al [] rs hs = record { reads = []; records = rs; histories = hs; acts = [] }
 settled al (o ∷ os) rs hs =
     if is_done o.read then (let t = settled al os rs hs in record t { reads = o ∷ t.reads })
@@ -94,7 +94,7 @@ after_act None p t = record { reads = p.reads; records = p.records; histories = 
 after_act (Some a) p t = before a t
 
 -- what settles after a step, with what happened in that step before it
-unfoldable pub settled_after : Aliases → Pumped → Settled
+unfoldable pub settled_after : List AliasList → Pumped → Settled
 settled_after al p = after_act p.act p (settled al p.reads p.records p.histories)
 
 -- a number that each step lowers
@@ -153,6 +153,17 @@ answer_of (reads.Records n) = answers.Fail code.Closed
 abbrev pub answer_in : Option Open → Answer
 answer_in None = answers.Fail code.Closed
 answer_in (Some o) = answer_of o.read
+
+-- the answer of a read that is done
+abbrev pub answered : OpenRead → Option Answer
+answered (reads.Done a) = Some a
+answered (reads.Line l) = None
+answered (reads.Units n) = None
+answered (reads.Records n) = None
+
+abbrev pub answered_in : Option Open → Option Answer
+answered_in None = None
+answered_in (Some o) = answered o.read
 
 abbrev pub failed : Code → Open → Open
 failed why o = record o { read = reads.Done (answers.Fail why) }

@@ -2,13 +2,13 @@
 use Rattle.std.specs.Prelude.{ℕ, Bool, true, false, List, [], ◌∷◌, length, take, drop, Option, Some, None}
 use Rattle.con_records.specs.declared.record.Record.{Record}
 use Rattle.con_history.specs.declared.histories.Histories.{Histories}
-use Rattle.con_alias.specs.declared.aliases.Aliases.{Aliases}
+use Rattle.con_alias.specs.Aliases.{AliasList}
 use Rattle.con_cooked.specs.declared.cooked.Cooked.{Cooked}
 use Rattle.con_cooked.specs.declared.progress.Progress.{Progress}
 use Rattle.con_cooked.specs.declared.progress.Progress.TheVariants as progress
 use Rattle.con_readers.specs.Wants.{units_of, rest_of}
 use Rattle.con_readers.specs.Lines.{line_after, line_progress, line_text, line_answer, with_line}
-use Rattle.con_readers.specs.Act.{Act, typed, passed, ended}
+use Rattle.con_readers.specs.Act.{Act, typed, passed, ended, woke}
 use Rattle.con_readers.specs.declared.answer.Answer.TheVariants as answers
 use Rattle.con_readers.specs.declared.open.OpenRead.{OpenRead}
 use Rattle.con_readers.specs.declared.open.OpenRead.TheVariants as reads
@@ -35,20 +35,21 @@ pub record Took : Type 0 where
 -- a read of n units, where the records have these
 abbrev pub took_units : ℕ → ℕ → List Record → Histories → List ℕ → Took
 took_units p n rs hs [] = record { read = reads.Units n; records = []; histories = hs; act = Some (passed p) }
-took_units p n rs hs (u ∷ us) = record { read = reads.Done (answers.Units (u ∷ us)); records = rest_of n rs; histories = hs; act = Some (ended p 0) }
+took_units p n rs hs (u ∷ us) = record { read = reads.Done (answers.Units (u ∷ us)); records = rest_of n rs; histories = hs; act = Some (ended p (reads.Units n) 0) }
 
 -- a line that took one record, by whether it goes on
-abbrev pub took_one : ℕ → Aliases → Cooked → Cooked → List Record → Histories → Progress → Took
+abbrev pub took_one : ℕ → List AliasList → Cooked → Cooked → List Record → Histories → Progress → Took
 took_one p al line line' rs hs (progress.Going echo) = record { read = reads.Line line'; records = rs; histories = hs; act = Some (typed p line line' echo) }
-took_one p al line line' rs hs (progress.Done echo) = record { read = reads.Done (answers.Units (line_answer line' al)); records = rs; histories = with_line line' hs; act = Some (ended p (length (line_text line'))) }
+took_one p al line line' rs hs (progress.Done echo) = record { read = reads.Done (answers.Units (line_answer line' al)); records = rs; histories = with_line line' hs; act = Some (ended p (reads.Line line') (length (line_text line'))) }
+took_one p al line line' rs hs progress.Woken = record { read = reads.Done (answers.Units (line_answer line' al)); records = rs; histories = with_line line' hs; act = Some (woke p line') }
 
-abbrev pub took_line : ℕ → Aliases → Cooked → List Record → Histories → Took
+abbrev pub took_line : ℕ → List AliasList → Cooked → List Record → Histories → Took
 took_line p al line [] hs = record { read = reads.Line line; records = []; histories = hs; act = None }
 took_line p al line (r ∷ rs) hs = took_one p al line (line_after line r hs) rs hs (line_progress line r hs)
 
 -- one step of a read that is not done, where records are there
-abbrev pub took : ℕ → Aliases → OpenRead → List Record → Histories → Took
-took p al (reads.Records n) rs hs = record { read = reads.Done (answers.Records (take n rs)); records = drop n rs; histories = hs; act = Some (ended p 0) }
+abbrev pub took : ℕ → List AliasList → OpenRead → List Record → Histories → Took
+took p al (reads.Records n) rs hs = record { read = reads.Done (answers.Records (take n rs)); records = drop n rs; histories = hs; act = Some (ended p (reads.Records n) 0) }
 took p al (reads.Units n) rs hs = took_units p n rs hs (units_of n rs)
 took p al (reads.Line line) rs hs = took_line p al line rs hs
 took p al (reads.Done a) rs hs = record { read = reads.Done a; records = rs; histories = hs; act = None }
@@ -60,12 +61,13 @@ pub record Served : Type 0 where
   pub histories : Histories
   pub acts : List Act
 
-abbrev pub served_on : ℕ → Aliases → Cooked → Cooked → List Record → Histories → Served → Progress → Served
+abbrev pub served_on : ℕ → List AliasList → Cooked → Cooked → List Record → Histories → Served → Progress → Served
 served_on p al line line' rs hs later (progress.Going echo) = record later { acts = typed p line line' echo ∷ later.acts }
-served_on p al line line' rs hs later (progress.Done echo) = record { read = reads.Done (answers.Units (line_answer line' al)); records = rs; histories = with_line line' hs; acts = ended p (length (line_text line')) ∷ [] }
+served_on p al line line' rs hs later (progress.Done echo) = record { read = reads.Done (answers.Units (line_answer line' al)); records = rs; histories = with_line line' hs; acts = ended p (reads.Line line') (length (line_text line')) ∷ [] }
+served_on p al line line' rs hs later progress.Woken = record { read = reads.Done (answers.Units (line_answer line' al)); records = rs; histories = with_line line' hs; acts = woke p line' ∷ [] }
 
 -- a line takes records one by one, up to the one that ends it
-abbrev pub served_line : ℕ → Aliases → Cooked → List Record → Histories → Served
+abbrev pub served_line : ℕ → List AliasList → Cooked → List Record → Histories → Served
 served_line p al line [] hs = record { read = reads.Line line; records = []; histories = hs; acts = [] }
 served_line p al line (r ∷ rs) hs = served_on p al line (line_after line r hs) rs hs (served_line p al (line_after line r hs) rs hs) (line_progress line r hs)
 
@@ -77,7 +79,7 @@ abbrev pub served_at_once : Took → Served
 served_at_once t = record { read = t.read; records = t.records; histories = t.histories; acts = listed t.act }
 
 -- the first read takes records until it is done or none is left
-unfoldable pub served : ℕ → Aliases → OpenRead → List Record → Histories → Served
+unfoldable pub served : ℕ → List AliasList → OpenRead → List Record → Histories → Served
 served p al (reads.Records n) [] hs = record { read = reads.Records n; records = []; histories = hs; acts = [] }
 served p al (reads.Records n) (r ∷ rs) hs = served_at_once (took p al (reads.Records n) (r ∷ rs) hs)
 served p al (reads.Units n) [] hs = record { read = reads.Units n; records = []; histories = hs; acts = [] }

@@ -9,3 +9,4 @@ is_idle (steps.Started p) = false
 is_idle (steps.Echo p e) = false
 is_idle (steps.Dropped p) = false
 is_idle (steps.Finished p n) = false
+is_idle (steps.Woken p) = false

@@ -5,11 +5,12 @@
 //! records until it is done or none is left, and then the next one follows.
 //!
 //! - [`Readers::begin`] puts a read last. [`Readers::pump`] does one step, and says which.
-//! - [`Readers::collect`] removes a read that is done and gives its answer; [`Readers::cancel`] removes any.
+//! - [`Readers::answer`] shows the answer of a read that is done, [`Readers::collect`] removes the read and gives it;
+//!   [`Readers::cancel`] removes any.
 //! - [`Readers::abort_line`] ends the first line read with ctrl+C, [`Readers::close_all`] each read as the console closes.
 //!
 //! `settled` says what all steps until `Idle` come to, without speaking of steps, and [`laws`] has what follows: that serving loses
-//! no record and gives none twice. It never waits, and doesn't show an echo: it tells what to show.
+//! no record and gives none twice, what each read answers of the records that it took, and that no process gets two reads. It never waits, and doesn't show an echo: it tells what to show.
 #![tactic(auto)]
 
 pub mod answer;
@@ -26,6 +27,3 @@ pub use readers::Readers;
 pub use step::{Step, is_idle};
 pub use wants_records::WantsRecords;
 pub use wants_units::WantsUnits;
-
-#[cfg(test)]
-mod tests;

@@ -1,10 +1,10 @@
 // An open read.
-ghost use Rattle.std.specs.Prelude.{◌≡◌, ℕ, List, [], ◌∷◌, length, ◌≤◌};
+ghost use Rattle.std.specs.Prelude.{◌≡◌, ℕ, List, [], ◌∷◌, length, ◌≤◌, option_copied};
 ghost use Rattle.con_readers.specs.Wants.{units_of};
 ghost use Rattle.con_readers.specs.Lines.{line_after, line_progress, line_text};
 ghost use Rattle.con_readers.specs.Act.{told};
 ghost use Rattle.con_readers.specs.Serving.{took, took_units, took_one, took_line, is_done, is_line};
-ghost use Rattle.con_readers.specs.Reads.{moved, moved_on, failed, closed_one, answer_of, text_in};
+ghost use Rattle.con_readers.specs.Reads.{moved, moved_on, failed, closed_one, answer_of, answered, text_in};
 
 use crate::answer::Answer;
 use crate::step::Step;
@@ -89,9 +89,9 @@ fn take_one(
     histories: &mut Histories,
     aliases: &Aliases,
 ) -> Taking
-    ensures read { result.read ≡ (took_one process aliases.now line (line_after line one histories.old) [] histories.old (line_progress line one histories.old)).read }
-    ensures step { result.step ≡ told (took_one process aliases.now line (line_after line one histories.old) [] histories.old (line_progress line one histories.old)).act }
-    ensures histories { histories.new ≡ (took_one process aliases.now line (line_after line one histories.old) [] histories.old (line_progress line one histories.old)).histories }
+    ensures read { result.read ≡ (took_one process aliases.now.programs line (line_after line one histories.old) [] histories.old (line_progress line one histories.old)).read }
+    ensures step { result.step ≡ told (took_one process aliases.now.programs line (line_after line one histories.old) [] histories.old (line_progress line one histories.old)).act }
+    ensures histories { histories.new ≡ (took_one process aliases.now.programs line (line_after line one histories.old) [] histories.old (line_progress line one histories.old)).histories }
 {
     match line.press(&one, histories) {
         Progress::Going(echo) => Taking {
@@ -105,6 +105,10 @@ fn take_one(
                 step: Step::Finished(process, len),
             }
         }
+        Progress::Woken => Taking {
+            read: OpenRead::Done(Answer::Units(line.finish(histories, aliases))),
+            step: Step::Woken(process),
+        },
     }
 }
 
@@ -115,10 +119,10 @@ fn take_line(
     histories: &mut Histories,
     aliases: &Aliases,
 ) -> Taking
-    ensures read { result.read ≡ (took_line process aliases.now line records.old.items histories.old).read }
-    ensures step { result.step ≡ told (took_line process aliases.now line records.old.items histories.old).act }
-    ensures records { records.new ≡ record records.old { items = (took_line process aliases.now line records.old.items histories.old).records } }
-    ensures histories { histories.new ≡ (took_line process aliases.now line records.old.items histories.old).histories }
+    ensures read { result.read ≡ (took_line process aliases.now.programs line records.old.items histories.old).read }
+    ensures step { result.step ≡ told (took_line process aliases.now.programs line records.old.items histories.old).act }
+    ensures records { records.new ≡ record records.old { items = (took_line process aliases.now.programs line records.old.items histories.old).records } }
+    ensures histories { histories.new ≡ (took_line process aliases.now.programs line records.old.items histories.old).histories }
 {
     match records.pop() {
         Some(one) => take_one(process, line, one, histories, aliases),
@@ -134,10 +138,10 @@ fn take(
     histories: &mut Histories,
     aliases: &Aliases,
 ) -> Taking
-    ensures read { result.read ≡ (took process aliases.now read records.old.items histories.old).read }
-    ensures step { result.step ≡ told (took process aliases.now read records.old.items histories.old).act }
-    ensures records { records.new ≡ record records.old { items = (took process aliases.now read records.old.items histories.old).records } }
-    ensures histories { histories.new ≡ (took process aliases.now read records.old.items histories.old).histories }
+    ensures read { result.read ≡ (took process aliases.now.programs read records.old.items histories.old).read }
+    ensures step { result.step ≡ told (took process aliases.now.programs read records.old.items histories.old).act }
+    ensures records { records.new ≡ record records.old { items = (took process aliases.now.programs read records.old.items histories.old).records } }
+    ensures histories { histories.new ≡ (took process aliases.now.programs read records.old.items histories.old).histories }
 {
     match read {
         OpenRead::Records(wants) => Taking {
@@ -165,6 +169,18 @@ impl OpenRead {
         matches!(self, OpenRead::Line(_))
     }
 
+    /// Its answer, where it is done.
+    pub fn answer(&self) -> Option<&Answer>
+        ensures { option_copied result ≡ answered self.now }
+    {
+        match self {
+            OpenRead::Done(answer) => Some(answer),
+            OpenRead::Line(_) => None,
+            OpenRead::Units(_) => None,
+            OpenRead::Records(_) => None,
+        }
+    }
+
     /// The text so far of a line that is not done, and none for another read.
     pub fn text(&self) -> &[u16]
         ensures { result.now ≡ text_in self.now }
@@ -186,10 +202,10 @@ impl Open {
         histories: &mut Histories,
         aliases: &Aliases,
     ) -> Step
-        ensures one { self.new ≡ (moved aliases.now self.old records.old.items histories.old).one }
-        ensures records { records.new ≡ record records.old { items = (moved aliases.now self.old records.old.items histories.old).records } }
-        ensures histories { histories.new ≡ (moved aliases.now self.old records.old.items histories.old).histories }
-        ensures step { result ≡ told (moved aliases.now self.old records.old.items histories.old).act }
+        ensures one { self.new ≡ (moved aliases.now.programs self.old records.old.items histories.old).one }
+        ensures records { records.new ≡ record records.old { items = (moved aliases.now.programs self.old records.old.items histories.old).records } }
+        ensures histories { histories.new ≡ (moved aliases.now.programs self.old records.old.items histories.old).histories }
+        ensures step { result ≡ told (moved aliases.now.programs self.old records.old.items histories.old).act }
     {
         if !self.started {
             self.started = true;

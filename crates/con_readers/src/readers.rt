@@ -1,10 +1,11 @@
 // The list of reads.
-ghost use Rattle.std.specs.Prelude.{◌≡◌, slice_index_or, ℕ, ◌+◌, ◌-◌, ◌<◌, ◌≤◌, List, [], ◌∷◌, ◌++◌, length, OnOk, OnErr, true, false, not, max, is_some, slice_get, Some};
+ghost use Rattle.std.specs.Prelude.{◌≡◌, slice_index_or, ℕ, ◌+◌, ◌-◌, ◌<◌, ◌≤◌, List, [], ◌∷◌, ◌++◌, length, OnOk, OnErr, true, false, not, max, is_some, slice_get, Some, option_copied};
 ghost use Rattle.con_readers.specs.Lines.{line_text};
 ghost use Rattle.con_readers.specs.Act.{told, Act, typed};
 ghost use Rattle.con_readers.specs.Steps.{is_idle};
 ghost use Rattle.con_readers.specs.Serving.{is_done};
-ghost use Rattle.con_readers.specs.Reads.{Pumped, Queued, begun, settled, settled_after, work, pumped, done_upto, is_at_rest, head_text, is_of, is_open, has_done, has_undone, place_of, is_open_line, without, answer_in, all_closed, line_aborted};
+ghost use Rattle.con_readers.specs.Reads.{Pumped, Queued, begun, settled, settled_after, work, pumped, done_upto, is_at_rest, head_text, is_of, is_open, has_done, has_undone, place_of, is_open_line, without, answer_in, answered_in, all_closed, line_aborted};
+ghost use Rattle.con_cooked.specs.Cooked.{line_of, echo_between};
 ghost use Rattle.std.specs.List.{position_or_len, position};
 
 use crate::answer::Answer;
@@ -54,10 +55,10 @@ fn pump_reads(
     histories: &mut Histories,
     aliases: &Aliases,
 ) -> Step
-    ensures reads { reads.new ≡ (pumped aliases.now reads.old records.old.items histories.old).reads }
-    ensures records { records.new ≡ record records.old { items = (pumped aliases.now reads.old records.old.items histories.old).records } }
-    ensures histories { histories.new ≡ (pumped aliases.now reads.old records.old.items histories.old).histories }
-    ensures step { result ≡ told (pumped aliases.now reads.old records.old.items histories.old).act }
+    ensures reads { reads.new ≡ (pumped aliases.now.programs reads.old records.old.items histories.old).reads }
+    ensures records { records.new ≡ record records.old { items = (pumped aliases.now.programs reads.old records.old.items histories.old).records } }
+    ensures histories { histories.new ≡ (pumped aliases.now.programs reads.old records.old.items histories.old).histories }
+    ensures step { result ≡ told (pumped aliases.now.programs reads.old records.old.items histories.old).act }
 {
     let i = first_open(reads);
     if i < reads.len() {
@@ -175,19 +176,20 @@ impl Readers {
         histories: &mut Histories,
         aliases: &Aliases,
     ) -> Step
-        ensures reads { self.new ≡ record self.old { reads = (pumped aliases.now self.old.reads records.old.items histories.old).reads } }
-        ensures records { records.new ≡ record records.old { items = (pumped aliases.now self.old.reads records.old.items histories.old).records } }
-        ensures histories { histories.new ≡ (pumped aliases.now self.old.reads records.old.items histories.old).histories }
-        ensures step { result ≡ told (pumped aliases.now self.old.reads records.old.items histories.old).act }
-        ensures idle { is_idle result ≡ not (is_some (pumped aliases.now self.old.reads records.old.items histories.old).act) }
+        ensures reads { self.new ≡ record self.old { reads = (pumped aliases.now.programs self.old.reads records.old.items histories.old).reads } }
+        ensures records { records.new ≡ record records.old { items = (pumped aliases.now.programs self.old.reads records.old.items histories.old).records } }
+        ensures histories { histories.new ≡ (pumped aliases.now.programs self.old.reads records.old.items histories.old).histories }
+        ensures step { result ≡ told (pumped aliases.now.programs self.old.reads records.old.items histories.old).act }
+        ensures idle { is_idle result ≡ not (is_some (pumped aliases.now.programs self.old.reads records.old.items histories.old).act) }
         ensures rest { is_idle result ≡ is_at_rest self.old.reads records.old.items }
 
         // all steps until Idle come to what `settled` says, and they end
-        ensures settles { settled aliases.now self.old.reads records.old.items histories.old ≡ settled_after aliases.now (pumped aliases.now self.old.reads records.old.items histories.old) }
-        ensures less { is_some (pumped aliases.now self.old.reads records.old.items histories.old).act ≡ true → work (pumped aliases.now self.old.reads records.old.items histories.old).reads (pumped aliases.now self.old.reads records.old.items histories.old).records < work self.old.reads records.old.items }
+        ensures settles { settled aliases.now.programs self.old.reads records.old.items histories.old ≡ settled_after aliases.now.programs (pumped aliases.now.programs self.old.reads records.old.items histories.old) }
+        ensures less { is_some (pumped aliases.now.programs self.old.reads records.old.items histories.old).act ≡ true → work (pumped aliases.now.programs self.old.reads records.old.items histories.old).reads (pumped aliases.now.programs self.old.reads records.old.items histories.old).records < work self.old.reads records.old.items }
 
-        // what is to be shown is of the first read's text
-        ensures text { (p : ℕ) (old new : _) (echo : _) → (pumped aliases.now self.old.reads records.old.items histories.old).act ≡ Some (typed p old new echo) → head_text (pumped aliases.now self.old.reads records.old.items histories.old).reads ≡ line_text new }
+        // what is to be shown is what differs between the line before and after, and is of the first read's text
+        ensures echo { (p : ℕ) (old new : _) (echo : _) → (pumped aliases.now.programs self.old.reads records.old.items histories.old).act ≡ Some (typed p old new echo) → echo ≡ echo_between (line_of old).line (line_of new).line }
+        ensures text { (p : ℕ) (old new : _) (echo : _) → (pumped aliases.now.programs self.old.reads records.old.items histories.old).act ≡ Some (typed p old new echo) → head_text (pumped aliases.now.programs self.old.reads records.old.items histories.old).reads ≡ line_text new }
     {
         pump_reads(self.reads.as_mut_slice(), records, histories, aliases)
     }
@@ -225,6 +227,17 @@ impl Readers {
         match self.reads.get(i) {
             Some(one) => !one.read.done(),
             None => false,
+        }
+    }
+
+    /// The answer of the process's read, where it is done.
+    pub fn answer(&self, process: u8) -> Option<&Answer>
+        ensures { option_copied result ≡ answered_in (slice_get self.now.reads (place_of self.now.reads process)) }
+    {
+        let i = find_place(self.reads.as_slice(), process);
+        match self.reads.get(i) {
+            Some(one) => one.read.answer(),
+            None => None,
         }
     }
 

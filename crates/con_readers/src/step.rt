@@ -6,7 +6,7 @@ use con_cooked::Echo;
 
 /// What happened in one step, and to which process's read: nothing; it became the first that is not done; its line took a record, and
 /// this is to be shown; it took records without a unit; it is done, with the length of an ended line before its expansion,
-/// and 0 for another read.
+/// and 0 for another read; a masked control ended its line, and nothing is to be shown.
 #[derive(Clone, Copy, PartialEq, Eq, Debug)]
 pub enum Step {
     Idle,
@@ -14,6 +14,7 @@ pub enum Step {
     Echo(u8, Echo),
     Dropped(u8),
     Finished(u8, u16),
+    Woken(u8),
 }
 
 /// Whether nothing happened.

@@ -1,5 +1,5 @@
 // A read of records.
-ghost use Rattle.std.specs.Prelude.{◌≡◌, ◌+◌, ◌≤◌, take, IfOk};
+ghost use Rattle.std.specs.Prelude.{◌≡◌, ◌+◌, ◌<◌, ◌≤◌, take, IfOk};
 ghost use Rattle.con_records.specs.Queue.{without_first};
 
 use con_records::{Record, Records, Taken};
@@ -27,6 +27,7 @@ impl Model for WantsRecords {
 impl WantsRecords {
     /// A read of n records.
     pub fn new(alloc: Global, n: u32) -> Result<WantsRecords, OutOfMemory>
+        requires { 0 < n }
         ensures { IfOk result (λ w. w ≡ n) }
     {
         let n = n as usize;

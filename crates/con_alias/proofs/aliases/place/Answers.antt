@@ -1,5 +1,0 @@
-use Rattle.con_alias.proofs.Places.{place-none}
-use Rattle.con_alias.proofs.aliases.place.Goals as goal
-
-pub returns-in-None-clause-place : goal.returns-in-None-clause-place
-returns-in-None-clause-place c = place-none _ _ c.in-None.ensures
