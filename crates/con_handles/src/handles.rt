@@ -1,6 +1,7 @@
 // The table.
-ghost use Rattle.std.specs.Prelude.{◌≡◌, ℕ, ◌+◌, ◌-◌, ◌<◌, ◌≤◌, List, [], IfSome, OnOk, OnErr, true, option_map, vec_len, ◌↔◌, Err};
+ghost use Rattle.std.specs.Prelude.{◌≡◌, ℕ, ◌+◌, ◌-◌, ◌<◌, ◌≤◌, List, [], IfSome, OnOk, OnErr, IfOk, IsTrue, true, false, option_map, vec_len, ◌↔◌, Err};
 ghost use Rattle.con_handles.specs.Handles.{Table, look, new_number, count_of, opened, closed, object_of, least_of, is_used, taken, with_room};
+ghost use Rattle.con_handles.specs.Tables.{IsTable};
 
 use crate::handle::{Handle, Held, Kind, Object};
 use crate::places;
@@ -24,14 +25,15 @@ impl Model for Handles {
 
     ghost view = { λ a. record { open_ones = listed 0 a.places.items; spare = a.spare } };
 
-    ghost invariant = { λ a. (a.spare ≤ 1) × (a.spare * 16384 ≤ vec_len a.places) };
+    ghost invariant = { λ a. (a.spare ≤ 1) × (a.spare * 16384 ≤ vec_len a.places) × (vec_len a.places ≤ 16384) };
 }
 
 impl Handles {
     /// A table with no handle, and room for none.
     #[tactic(auto, unfolding(crate::specs::Places::listed))]
     pub fn new(alloc: Global) -> Handles
-        ensures { result ≡ record { open_ones = []; spare = 0 } }
+        ensures new { result ≡ record { open_ones = []; spare = 0 } }
+        ensures table { IsTable result.open_ones }
     {
         Handles {
             places: Vec::new(alloc),
@@ -43,6 +45,7 @@ impl Handles {
     pub fn reserve(&mut self) -> Result<(), OutOfMemory>
         ensures ok { OnOk result (self.new ≡ with_room self.old) }
         ensures err { OnErr result (self.new ≡ self.old) }
+        ensures table { IsTable self.new.open_ones }
     {
         if self.spare < 1 {
             places::fill(&mut self.places)?;
@@ -51,12 +54,36 @@ impl Handles {
         Ok(())
     }
 
+    /// Whether the process has all of its 64 handles.
+    pub fn is_full(&self, process: u8) -> bool
+        ensures limit { IsTrue result ↔ (new_number self.now.open_ones process ≡ Err Code.Limit) }
+        ensures count { IsTrue result ↔ (count_of self.now.open_ones process ≡ 64) }
+    {
+        places::first_free(self.places.as_slice(), process) > places::MOST
+    }
+
+    /// The number that `open` would give: the process's least free one, from 1 on. `Limit`: the process has 64.
+    pub fn next(&self, process: u8) -> Result<u32, Code>
+        ensures number { result ≡ new_number self.now.open_ones process }
+        ensures free { IfOk result (λ n. is_used self.now.open_ones process n ≡ false) }
+        ensures table { IsTable self.now.open_ones }
+    {
+        let number = places::first_free(self.places.as_slice(), process);
+        if number <= places::MOST {
+            Ok(number)
+        } else {
+            Err(Code::Limit)
+        }
+    }
+
     /// Opens the process's least free number, from 1 on. `Limit`: the process has 64.
     pub fn open(&mut self, process: u8, object: Object, rights: u8) -> Result<u32, Code>
         requires { 0 < self.old.spare }
         ensures number { result ≡ new_number self.old.open_ones process }
         ensures state { self.new ≡ opened self.old process object rights }
         ensures limit { (result ≡ Err Code.Limit) ↔ (count_of self.old.open_ones process ≡ 64) }
+        ensures free { IfOk result (λ n. is_used self.old.open_ones process n ≡ false) }
+        ensures table { IsTable self.new.open_ones }
     {
         let number = places::first_free(self.places.as_slice(), process);
         if number > places::MOST {
@@ -71,7 +98,8 @@ impl Handles {
     /// What a handle stands for. `BadHandle`: the process has no such number, or it is of another kind; `Denied`: a bit
     /// of `right` is missing.
     pub fn look(&self, process: u8, handle: u32, kind: Kind, right: u8) -> Result<Object, Code>
-        ensures { result ≡ look self.now.open_ones process handle kind right }
+        ensures answer { result ≡ look self.now.open_ones process handle kind right }
+        ensures table { IsTable self.now.open_ones }
     {
         match places::found(self.places.as_slice(), process, handle) {
             Some(one) => places::may(one, kind, right),
@@ -84,6 +112,7 @@ impl Handles {
         ensures object { result ≡ object_of self.old.open_ones process handle }
         ensures ok { OnOk result (self.new ≡ closed self.old process handle) }
         ensures err { OnErr result (self.new ≡ self.old) }
+        ensures table { IsTable self.new.open_ones }
     {
         match places::found(self.places.as_slice(), process, handle) {
             Some(one) => {
@@ -98,6 +127,7 @@ impl Handles {
     pub fn take_any(&mut self, process: u8) -> Option<Object>
         ensures object { result ≡ option_map (λ h. h.object) (least_of self.old.open_ones process) }
         ensures state { self.new ≡ taken self.old process }
+        ensures table { IsTable self.new.open_ones }
         ensures least { IfSome (least_of self.old.open_ones process) (λ h. (m : ℕ) → is_used self.old.open_ones process m ≡ true → h.number ≤ m) }
     {
         let one = places::least(self.places.as_slice(), process)?;

@@ -26,6 +26,7 @@ pub fn fill(places: &mut Vec<Option<Held>>) -> Result<(), OutOfMemory>
     ensures same { listed 0 places.new.items ≡ listed 0 places.old.items }
     ensures len { OnOk result (16384 ≤ vec_len places.new) }
     ensures less { vec_len places.old ≤ vec_len places.new }
+    ensures most { vec_len places.old ≤ 16384 → vec_len places.new ≤ 16384 }
 {
     if places.len() >= PLACES {
         return Ok(());

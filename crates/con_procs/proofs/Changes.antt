@@ -52,7 +52,7 @@ ids_more ps i out out' all p lt here grown h = by_live (is_live p) refl
     by_live true live = let out_is : out' ≡ out ++ (i + 1) ∷ [] = rw live at grown in rw (out_is, append_assoc) (rw (drop_at ps i p lt here, live) at h)
     by_live false live = let out_is : out' ≡ out = rw live at grown in rw out_is (rw (drop_at ps i p lt here, live) at h)
 
-drop_past : (ps : List Proc) (i : ℕ) → length ps ≤ i → drop i ps ≡ []
+pub drop_past : (ps : List Proc) (i : ℕ) → length ps ≤ i → drop i ps ≡ []
 drop_past [] zero le = refl
 drop_past [] (suc i) le = refl
 drop_past (p ∷ ps) zero le = absurd (omega arith)

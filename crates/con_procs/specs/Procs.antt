@@ -48,6 +48,11 @@ program_in (Some p) = p.program
 abbrev pub program_of : List Proc → ℕ → List ℕ
 program_of ps k = program_in (proc_of ps k)
 
+-- the programs of the attached ones, in the order of their numbers
+abbrev pub programs_of : List Proc → List (List ℕ)
+programs_of [] = []
+programs_of (p ∷ ps) = if is_live p then p.program ∷ programs_of ps else programs_of ps
+
 -- whether an event, signalled to a group, reaches a process: ctrl+C (0), ctrl+break (1), close (2)
 abbrev pub reaches : ℕ → ℕ → Proc → Bool
 reaches event group p =

@@ -11,15 +11,14 @@
 //! It runs no process, and promises nothing of when one takes its events.
 #![tactic(auto)]
 
+pub mod laws;
 pub mod pending;
 pub mod proc;
 pub mod procs;
 pub mod rack;
 
+pub use laws::is_attached_still;
 pub use pending::Pending;
 pub use proc::{Proc, ProcStart};
 pub use procs::Procs;
 pub use rack::{Place, Rack};
-
-#[cfg(test)]
-mod tests;

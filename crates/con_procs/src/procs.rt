@@ -1,7 +1,7 @@
 // All processes.
-ghost use Rattle.std.specs.Prelude.{◌≡◌, ℕ, ◌+◌, ◌-◌, ◌<◌, ◌≤◌, List, [], length, IfOk, Some, None, true, map, vec_len, vec_capacity};
+ghost use Rattle.std.specs.Prelude.{◌≡◌, ℕ, ◌+◌, ◌-◌, ◌<◌, ◌≤◌, List, [], length, IfOk, Some, None, true, map, take, vec_len, vec_capacity, if◌then◌else◌};
 ghost use Rattle.std.specs.List.{list_any};
-ghost use Rattle.con_procs.specs.Procs.{started, is_attached, is_member, group_known, ids_of, ids_from, program_of, signalled, told, exited, status_of, ignoring, is_fresh, is_chained, first_pending, took_pending, place_in, add_answer, handler_added, remove_answer, handler_removed};
+ghost use Rattle.con_procs.specs.Procs.{started, is_live, is_attached, is_member, group_known, ids_of, ids_from, program_of, programs_of, signalled, told, exited, status_of, ignoring, is_fresh, is_chained, first_pending, took_pending, place_in, add_answer, handler_added, remove_answer, handler_removed};
 
 use crate::proc::{Proc, ProcStart};
 use crate::rack::Place;
@@ -13,17 +13,40 @@ use std::marker::Model;
 #[derive(Drop)]
 pub struct Procs {
     procs: Vec<Proc>,
+    // Those of the attached processes.
+    programs: Vec<Units>,
 }
 
 impl Model for Procs {
-    ghost use Rattle.std.specs.Prelude.{List, ◌≤◌, vec_len};
+    ghost use Rattle.std.specs.Prelude.{List, ◌≡◌, ◌≤◌, vec_len};
     ghost use Rattle.con_procs.specs.declared.proc.Proc.{Proc};
+    ghost use Rattle.con_procs.specs.Procs.{programs_of};
 
     ghost Value = { List Proc };
 
     ghost view = { λ a. a.procs.items };
 
-    ghost invariant = { λ a. vec_len a.procs ≤ 255 };
+    ghost invariant = { λ a. (vec_len a.procs ≤ 255) × (a.programs.items ≡ programs_of a.procs.items) };
+}
+
+fn weight(p: &Proc) -> usize
+    ensures is { result ≡ (if is_live p.now then 1 else 0) }
+    ensures small { result ≤ 1 }
+{
+    if p.is_live() { 1 } else { 0 }
+}
+
+// How many of the first processes are attached.
+fn rank(procs: &[Proc], n: usize) -> usize
+    requires { n ≤ length procs.now }
+    ensures { result ≡ length (programs_of (take n procs.now)) }
+{
+    let mut at = 0;
+    for i in 0..n {
+        let p = &procs[i];
+        at += weight(p);
+    }
+    at
 }
 
 impl Procs {
@@ -36,11 +59,17 @@ impl Procs {
             Ok(procs) => procs,
             Err(_) => return Err(OutOfMemory),
         };
+        let mut programs = match Vec::with_capacity(alloc, starts.len()) {
+            Ok(programs) => programs,
+            Err(_) => return Err(OutOfMemory),
+        };
         for start in starts {
             let one = Proc::new(alloc, start)?;
+            let program = start.program.copied()?;
             procs.push_reserved(one);
+            programs.push_reserved(program);
         }
-        Ok(Procs { procs })
+        Ok(Procs { procs, programs })
     }
 
     /// How many processes were ever attached.
@@ -91,6 +120,13 @@ impl Procs {
         ensures { result.now ≡ program_of self.now process }
     {
         &self.procs[process as usize - 1].program
+    }
+
+    /// The programs of the attached processes, in the order of their numbers.
+    pub fn programs(&self) -> &[Units]
+        ensures { result.now ≡ programs_of self.now }
+    {
+        self.programs.as_slice()
     }
 
     /// Whether the process ignores ctrl+C from now on.
@@ -148,6 +184,8 @@ impl Procs {
         requires { is_attached self.old process ≡ true }
         ensures { self.new ≡ exited self.old process status }
     {
+        let at = rank(self.procs.as_slice(), process as usize - 1);
+        self.programs.remove(at);
         let p = &mut self.procs[process as usize - 1];
         p.ended = Some(status);
     }

@@ -9,4 +9,8 @@ loop-places-preserved c = record {
   same = ap (λ (ps : List (Option Held)). listed 0 ps) c.push_reserved.ensures.items ∙ listed-none c.loop-places.places.items 0 ∙ c.loop-places.invariant.same;
   room = omega arith;
   less = omega arith;
+  most = omega arith;
 }
+
+pub returns-clause-most : goal.returns-clause-most
+returns-clause-most c = λ few. c.loop-places.invariant.most

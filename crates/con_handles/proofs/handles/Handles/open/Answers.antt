@@ -1,9 +1,10 @@
 -- The limit is reached exactly at 64.
-use Rattle.std.proofs.Common.{◌∙◌, ap, List, Option}
+use Rattle.std.proofs.Common.{rules, ◌∙◌, ap, List, Option}
 use Rattle.con_handles.specs.declared.handle.Held.{Held}
 use Rattle.con_handles.specs.Handles.{least_free}
 use Rattle.con_handles.specs.Places.{listed}
 use Rattle.con_handles.proofs.Counting.{limit_for, number_past, number_found}
+use Rattle.con_handles.proofs.Tables.{table_of, table_of_taken}
 use Rattle.con_handles.proofs.handles.Handles.open.Goals as goal
 
 pub returns-then-number-gt-MOST-clause-limit : goal.returns-then-number-gt-MOST-clause-limit
@@ -15,3 +16,9 @@ pub returns-clause-limit : goal.returns-clause-limit
 returns-clause-limit c =
     let is = c.first_free-number.ensures.is ∙ ap (λ (ps : List (Option Held)). least_free (listed 0 ps) c.args.process) c.as_slice.ensures.value in
     rw (← c.self.view_is) (limit_for c.self.inside.places.items c.args.process _ (number_found (listed 0 c.self.inside.places.items) c.args.process c.first_free-number.result is c.if-number-gt-MOST.false))
+
+pub returns-then-number-gt-MOST-clause-table : goal.returns-then-number-gt-MOST-clause-table
+returns-then-number-gt-MOST-clause-table c = rw (← c.self.view_is) (table_of c.self.inside.places.items (search rules))
+
+pub returns-clause-table : goal.returns-clause-table
+returns-clause-table c = table_of_taken _ _ c.self.invariant.2

@@ -1,4 +1,5 @@
-use Rattle.std.proofs.Common.{◌≡◌, ◌∙◌, sym, true, slice_set}
+use Rattle.std.proofs.Common.{◌≡◌, ◌∙◌, sym, true, slice_set, ◌-◌, refl}
+use Rattle.con_procs.proofs.Programs.{programs_set_to}
 use Rattle.con_procs.proofs.Changes.{set_is, attached_some}
 use Rattle.con_procs.specs.Procs.{is_fresh, place_in}
 use Rattle.con_procs.specs.declared.proc.Proc.{Proc}
@@ -9,3 +10,7 @@ pub returns-clause-state : goal.returns-clause-state
 returns-clause-state c =
     let free : is_fresh (place_in c.args.self.now c.args.process c.args.place) ≡ true = sym c.is_fresh.ensures ∙ c.if-not-is_fresh.false in
     rw (free, c.set.ensures) (rw (← c.self.view_is) (set_is (λ (p : Proc). record p { rack = slice_set p.rack c.args.place Chained }) c.self.inside.procs.items c.args.process c.index_mut-p.result.now (attached_some c.args.self.now c.args.process c.requires) c.index_mut-p.ensures.value))
+
+pub invariant_of-self : goal.invariant_of-self
+invariant_of-self c =
+    (c.self.invariant.0, c.self.invariant.1 ∙ sym (programs_set_to c.self.inside.procs.items (c.args.process - 1) c.index_mut-p.result.now _ refl refl c.index_mut-p.ensures.value))

@@ -1,4 +1,5 @@
-use Rattle.std.proofs.Common.{◌<◌, ◌≤◌, ◌-◌, length, ◌∙◌, arith, drop}
+use Rattle.std.proofs.Common.{◌<◌, ◌≤◌, ◌-◌, length, ◌∙◌, arith, drop, sym, refl}
+use Rattle.con_procs.proofs.Programs.{programs_set_to}
 use Rattle.con_procs.proofs.Changes.{set_is, changed_past, first_at, not_zero}
 use Rattle.con_procs.specs.declared.proc.Proc.{Proc}
 use Rattle.con_procs.proofs.procs.Procs.take_pending.Goals as goal
@@ -15,3 +16,7 @@ returns-clause-first c =
 
 pub returns-clause-rest : goal.returns-clause-rest
 returns-clause-rest c = rw (c.take.ensures.rest, ← c.self.view_is) (set_is (λ (p : Proc). record p { pending = drop 1 p.pending }) c.self.inside.procs.items c.args.process c.index_mut-p.result.now (not_zero c.args.process (omega arith)) c.index_mut-p.ensures.value)
+
+pub invariant_of-self : goal.invariant_of-self
+invariant_of-self c =
+    (c.self.invariant.0, c.self.invariant.1 ∙ sym (programs_set_to c.self.inside.procs.items (c.args.process - 1) c.index_mut-p.result.now _ refl refl c.index_mut-p.ensures.value))

@@ -1,6 +1,5 @@
 // Who gets an event, and in which order.
-use crate::proc::ProcStart;
-use crate::procs::Procs;
+use con_procs::{ProcStart, Procs};
 use con_units::{Code, Units};
 use std::alloc::Global;
 use std::process::Abort;

@@ -1,6 +1,5 @@
 // Cases by hand.
-use crate::handle::{Kind, Object};
-use crate::handles::Handles;
+use con_handles::{Handles, Kind, Object};
 use con_units::{BufferId, Code};
 use std::alloc::Global;
 use std::process::Abort;
