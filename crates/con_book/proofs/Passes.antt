@@ -21,7 +21,7 @@ use Rattle.con_book.specs.declared.view.Stage.{Stage}
 use Rattle.con_book.specs.declared.view.Stage.TheVariants.{Idle, Waiting, Due}
 use Rattle.con_book.proofs.Views.{total_set, total_append, at_end, stays, apart_set, apart_end, due_set, due_stays}
 use Rattle.con_book.proofs.Steps.{alive, Known, Rule, not_due}
-use Rattle.con_book.proofs.Turns.{own-append}
+use Rattle.con_book.specs.Laws.{own-append}
 use Rattle.con_book.proofs.Pigeons.{pigeons}
 
 pub empty : {A : Type 0} (xs : List A) → length xs ≡ 0 → xs ≡ []
@@ -279,3 +279,7 @@ module _ {M S E : Type 0} (state : M → S) (moves : Moves S E) (start : S) wher
   learned m n v w c is tells =
       let k = subst (λ (z : Sat M S E). (n ≡ z) × ((log : List (Logged E)) × StartsWith log z.0.seen × StartsWith log z.0.had × ((k : Joined E) → In k z.0.kept → StartsWith log k.seen)) × (own z.0.actor z.0.seen ≡ z.0.mine)) is tells in
       subst (λ (z : Sat M S E). IsLonger v w z.0) (sym k.0) (longer_of v w k.1.0 k.1.1 k.1.2 (k.1.3 (joined w) (inl refl)))
+
+  -- what a step that changes nothing tells of the own entries
+  pub minded_mine : (m n : Sat M S E) → (n ≡ m) × ((log : List (Logged E)) × StartsWith log m.0.seen × StartsWith log m.0.had × ((k : Joined E) → In k m.0.kept → StartsWith log k.seen)) × (own m.0.actor m.0.seen ≡ m.0.mine) → own n.0.actor n.0.seen ≡ n.0.mine
+  minded_mine m n tells = subst (λ (z : Sat M S E). own z.0.actor z.0.seen ≡ z.0.mine) (sym tells.0) tells.2

@@ -2,6 +2,7 @@
 use Rattle.std.proofs.Common.{◌≡◌, ◌≢◌, ℕ, eqb, cond, Bool, true, false, ◌&&◌, List, [], ◌∷◌, ◌++◌, sym, refl, ap, ◌∙◌, subst, append-nil, eq-eqb, ne_eqb}
 use Rattle.std.proofs.lemmas.List.{append_cancel_left}
 use Rattle.con_book.specs.History.{after, own, entry, is_legal}
+use Rattle.con_book.specs.Laws.{own-append, after-append}
 use Rattle.con_book.specs.Lock.{Moves, knowing}
 use Rattle.con_book.specs.Plays.{Sat}
 use Rattle.con_book.specs.Held.{Entered, MayPut}
@@ -24,11 +25,6 @@ both_true true b p q = q
 both_true false b p q = p
 
 module _ {E : Type 0} where
-  pub own-append : (a : ℕ) (xs ys : List (Logged E)) → own a (xs ++ ys) ≡ own a xs ++ own a ys
-  own-append a [] ys = refl
-  own-append a (x ∷ xs) ys = elim (eqb x.actor a) as (λ b. cond b (x.event ∷ own a (xs ++ ys)) (own a (xs ++ ys)) ≡ cond b (x.event ∷ own a xs) (own a xs) ++ own a ys)
-      [ true ↦ ap (λ l. x.event ∷ l) (own-append a xs ys) | false ↦ own-append a xs ys ]
-
   pub own_here : (a : ℕ) (e : E) → own a (entry a e ∷ []) ≡ e ∷ []
   own_here a e = ap (λ b. cond b (e ∷ []) []) (eq-eqb a a refl)
 
@@ -39,11 +35,6 @@ module _ {E : Type 0} where
   pub no_more : (a : ℕ) (mine : List E) (log seen rest : List (Logged E)) → log ≡ seen ++ rest → own a log ≡ mine → own a seen ≡ mine → own a rest ≡ []
   no_more a mine log seen rest is all some =
       append_cancel_left (own a seen) (own a rest) [] (sym (own-append a seen rest) ∙ (ap (own a) (sym is) ∙ (all ∙ (sym some ∙ sym (append-nil (own a seen))))))
-
-module _ {S E : Type 0} (next : S → ℕ → E → S) where
-  pub after-append : (s : S) (xs ys : List (Logged E)) → after next s (xs ++ ys) ≡ after next (after next s xs) ys
-  after-append s [] ys = refl
-  after-append s (x ∷ xs) ys = after-append (next s x.actor x.event) xs ys
 
 module _ {S E : Type 0} (next : S → ℕ → E → S) (is_ready : S → ℕ → E → Bool) where
   -- one more event that is ready keeps a history legal
@@ -129,8 +120,8 @@ module _ {M S E : Type 0} (state : M → S) (moves : Moves S E) (v : View S E) (
       tells ∙ (ap (λ (z : S). moves.is_ready z b e) entered.1.0.1 ∙ (λ i. moves.is_ready (after next (sym s i) (sym l i)) (sym a i) e))
 
   pub enters : {R A : Type 0} (answer : R → A) (answer_to : S → ℕ → E → A) (tells : R → S → ℕ → E → Type 0) (w : View S E) (ks : List (Logged E)) (b : ℕ) (e : E) (p : S) (reply : R) → b ≡ v.actor
-      → ks ≡ log ++ entry b e ∷ [] → p ≡ state x.machine → answer reply ≡ answer_to p b e → tells reply p b e → Left w ks → Enters next answer answer_to tells v e reply w
-  enters answer answer_to tells w ks b e p reply same is before answered told left =
+      → ks ≡ log ++ entry b e ∷ [] → p ≡ state x.machine → moves.is_ready p b e ≡ true → answer reply ≡ answer_to p b e → tells reply p b e → Left w ks → Enters next moves.is_ready answer answer_to tells v e reply w
+  enters answer answer_to tells w ks b e p reply same is before ready answered told left =
       let rest : List (Logged E) = entered.1.1.0 in
       let whole : ks ≡ (v.seen ++ rest) ++ entry v.actor e ∷ [] = is ∙ (λ i. entered.1.1.1 i ++ entry (same i) e ∷ []) in
       let mine : w.mine ≡ own v.actor ks = ap (λ (z : View S E). z.mine) left ∙ ap (λ a. own a ks) actor_is in
@@ -141,6 +132,7 @@ module _ {M S E : Type 0} (state : M → S) (moves : Moves S E) (v : View S E) (
         seen = ap (λ (z : View S E). z.seen) left ∙ whole;
         mine = mine ∙ (ap (own v.actor) is ∙ (own-append v.actor log (entry b e ∷ []) ∙ (λ i. entered.1.2 i ++ own v.actor (entry (same i) e ∷ [])) ∙ ap (λ l. v.mine ++ l) (own_here v.actor e)));
         all_mine = ap (λ (z : View S E). own v.actor z.seen) left ∙ sym mine;
+        was_ready = (λ i. moves.is_ready (sym here i) (sym same i) e) ∙ ready;
         reply_is = answered ∙ (λ i. answer_to (here i) (same i) e);
         told = subst (λ (z : S × ℕ). tells reply z.0 z.1 e) (λ i. (here i, same i)) told;
       }

@@ -40,4 +40,4 @@ HasEntered {M} {S} {E} state moves x m = (v : View S E) × Entered state moves v
 abbrev pub Acts : {M S E R A X : Type 0} → (M → S) → Moves S E → (R → A) → (S → ℕ → E → A) → (R → S → ℕ → E → Type 0) → Kept M E → E → Result R X → Me (Option (Kept M E)) (View S E) → Me (Option (Kept M E)) (View S E) → Type 0
 Acts {M} {S} {E} state moves answer answer_to tells x event result m n =
     (v : View S E) → Entered state moves v x m
-    → IfOk result (λ reply. Enters moves.next answer answer_to tells v event reply n.0) × IfErr result (λ _. SeesOthers v n.0)
+    → IfOk result (λ reply. Enters moves.next moves.is_ready answer answer_to tells v event reply n.0) × IfErr result (λ _. SeesOthers v n.0)

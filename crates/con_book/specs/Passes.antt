@@ -8,14 +8,18 @@ use Rattle.con_book.specs.declared.pass.Pass.{Pass}
 use Rattle.con_book.specs.declared.history.Logged.{Logged}
 use Rattle.con_book.specs.declared.view.View.{View}
 
+-- what tells books apart
+abbrev pub BookId : Type 0
+BookId = TableId
+
 module _ {M S E R A Room : Type 0} where
   -- which book it is
-  abbrev pub book_id : Book M S E R A Room → TableId
+  abbrev pub book_id : Book M S E R A Room → BookId
   book_id book = book.table.shared.table_id
 
 module _ {M S E R A Room : Type 0} {g : Ghosts M S E R A Room} where
   -- which book it belongs to
-  abbrev pub pass_id : Pass M S E R A Room g → TableId
+  abbrev pub pass_id : Pass M S E R A Room g → BookId
   pass_id pass = pass.seat.table_id
 
   -- what it knows

@@ -17,13 +17,15 @@ IsSame v w = (w.start ≡ v.start) × (w.actor ≡ v.actor) × (w.opens ≡ v.op
 abbrev pub SeesOthers : {S E : Type 0} → View S E → View S E → Type 0
 SeesOthers {S} {E} v w = (between : List (Logged E)) × (own v.actor between ≡ []) × (w.seen ≡ v.seen ++ between) × (w.mine ≡ v.mine)
 
--- it has seen more entries of others, and then its own event. The reply is the machine's after all the entries before that event
-pub record Enters {S E R A : Type 0} (next : S → ℕ → E → S) (answer : R → A) (answer_to : S → ℕ → E → A) (tells : R → S → ℕ → E → Type 0) (v : View S E) (event : E) (reply : R) (w : View S E) : Type 0 where
+-- it has seen more entries of others, and then its own event, which was ready there. The reply is the machine's after all the entries
+-- before that event
+pub record Enters {S E R A : Type 0} (next : S → ℕ → E → S) (is_ready : S → ℕ → E → Bool) (answer : R → A) (answer_to : S → ℕ → E → A) (tells : R → S → ℕ → E → Type 0) (v : View S E) (event : E) (reply : R) (w : View S E) : Type 0 where
   pub between : List (Logged E)
   pub others : own v.actor between ≡ []
   pub seen : w.seen ≡ (v.seen ++ between) ++ entry v.actor event ∷ []
   pub mine : w.mine ≡ v.mine ++ event ∷ []
   pub all_mine : own v.actor w.seen ≡ w.mine
+  pub was_ready : is_ready (after next v.start (v.seen ++ between)) v.actor event ≡ true
   pub reply_is : answer reply ≡ answer_to (after next v.start (v.seen ++ between)) v.actor event
   pub told : tells reply (after next v.start (v.seen ++ between)) v.actor event
 

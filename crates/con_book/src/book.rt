@@ -32,7 +32,7 @@ const YIELDS: u32 = 128;
 
 /// A machine that many threads use, one event at a time, and the one history of what they did.
 ///
-/// It is a ticket lock: who asks first is served first. Threads share it by reference, each with a [`Pass`] of its own.
+/// It is a ticket lock by design; who is served first is no promise. Threads share it by reference, each with a [`Pass`] of its own.
 /// Every call takes a pass of this book (`pass_id` of the pass is `book_id` of the book).
 #[derive(Drop)]
 pub struct Book<M: Machine> {
@@ -52,7 +52,7 @@ impl<M: Machine> Book<M> {
     ghost use Rattle.con_book.specs.History.{after};
     ghost use Rattle.con_book.specs.Lock.{tickets, moving, gave, newcomer, both};
     ghost use Rattle.con_book.specs.Held.{Entered, HasEntered, IsDue, MayPut, HasLeft, HasLeftWith, Acts};
-    ghost use Rattle.con_book.specs.Turn.{Enters, SeesOthers, IsBlocked, Opens, has_pass, IsLonger, Ends};
+    ghost use Rattle.con_book.specs.Turn.{Enters, SeesOthers, IsBlocked, Opens, has_pass, IsLonger, OwnIsMine, Ends};
     ghost use Rattle.con_book.specs.Passes.{book_id, pass_id, view_of, actor_of, IsSamePass};
 
     /// A book that keeps this machine, with no entry yet.
@@ -190,7 +190,7 @@ impl<M: Machine> Book<M> {
         requires book { pass_id pass.old ≡ book_id self.now }
         requires ready { (s : M.State) → M.is_ready s (actor_of pass.old) event ≡ true }
         ensures pass { IsSamePass pass.old pass.new }
-        ensures entered { IfOk result (λ reply. Enters M.next M.answer M.answer_to M.tells (view_of pass.old) event reply (view_of pass.new)) }
+        ensures entered { IfOk result (λ reply. Enters M.next M.is_ready M.answer M.answer_to M.tells (view_of pass.old) event reply (view_of pass.new)) }
         ensures refused { IfErr result (λ _. SeesOthers (view_of pass.old) (view_of pass.new)) }
     {
         let kept = self.enter(rt, &mut pass.seat);
@@ -209,7 +209,7 @@ impl<M: Machine> Book<M> {
     ) -> Result<Option<M::Reply>, OutOfMemory>
         requires book { pass_id pass.old ≡ book_id self.now }
         ensures pass { IsSamePass pass.old pass.new }
-        ensures entered { IfOk result (λ answer. IfSome answer (λ reply. Enters M.next M.answer M.answer_to M.tells (view_of pass.old) event reply (view_of pass.new))) }
+        ensures entered { IfOk result (λ answer. IfSome answer (λ reply. Enters M.next M.is_ready M.answer M.answer_to M.tells (view_of pass.old) event reply (view_of pass.new))) }
         ensures blocked { IfOk result (λ answer. IfNone answer (SeesOthers (view_of pass.old) (view_of pass.new) × IsBlocked M.next M.is_ready (view_of pass.new) event)) }
         ensures refused { IfErr result (λ _. SeesOthers (view_of pass.old) (view_of pass.new)) }
     {
@@ -259,6 +259,7 @@ impl<M: Machine> Book<M> {
         ensures book { (pass_id of.new ≡ pass_id of.old) × (pass_id result ≡ pass_id of.old) }
         ensures of { view_of of.new ≡ gave actor (view_of of.old) }
         ensures new { view_of result ≡ newcomer actor (view_of of.old) }
+        ensures mine { OwnIsMine (view_of result) }
     {
         let mut seat = self.cut::<Brand>(&mut of.seat, actor);
         self.table.shared.load::<Mind>(&mut seat, 0);
@@ -275,6 +276,7 @@ impl<M: Machine> Book<M> {
         ensures book { pass_id into.new ≡ pass_id into.old }
         ensures both { view_of into.new ≡ both (view_of into.old) (view_of other) }
         ensures seen { IsLonger (view_of into.old) (view_of other) (view_of into.new) }
+        ensures mine { OwnIsMine (view_of into.new) }
     {
         let Pass { actor: _, seat } = other;
         let shared = &self.table.shared;

@@ -4,6 +4,7 @@
 //! - [`Book`] and [`Pass`]: threads share a book by reference, and each takes turns with a pass of its own. One turn is
 //!   one event. [`Opened`] and [`Closed`]: what a book begins with, and what it leaves.
 //! - [`Logged`]: an entry of the history.
+//! - [`EntryRoom`]: room for what the entries of the log become, got while it grows.
 //! - [`Bell`]: lets threads sleep until there may be something to do.
 //! - [`counter`]: a small machine.
 //!
@@ -27,8 +28,7 @@ mod kept;
 pub mod machine;
 pub mod pass;
 mod plays;
-#[cfg(test)]
-mod tests;
+pub mod room;
 pub mod view;
 
 pub use bell::Bell;
@@ -37,3 +37,4 @@ pub use ends::{Closed, Opened};
 pub use history::Logged;
 pub use machine::Machine;
 pub use pass::Pass;
+pub use room::{Counted, EntryRoom, OfLogged};

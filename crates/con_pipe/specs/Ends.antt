@@ -1,6 +1,6 @@
 -- What a clause reads of the two ends of a pipe.
 use Rattle.std.specs.Prelude.{ℕ, Bool, List}
-use Rattle.rtrb.specs.Ring.{sent, received, IsPair, SameProducer, SameConsumer}
+use Rattle.rtrb.specs.Ring.{sent, received, producer_capacity, consumer_capacity, IsPair, SameProducer, SameConsumer}
 use Rattle.con_pipe.specs.Pieces.{pieces}
 use Rattle.con_pipe.specs.declared.put.PipeIn.{PipeIn}
 use Rattle.con_pipe.specs.declared.take.PipeOut.{PipeOut}
@@ -21,11 +21,18 @@ pieces_taken take = pieces (received take.consumer)
 abbrev pub has_ended : PipeOut → Bool
 has_ended take = take.ended
 
+-- how many pieces, the end mark among them, the pipe holds before any is taken; it stays so
+abbrev pub put_room : PipeIn → ℕ
+put_room put = producer_capacity put.producer
+
+abbrev pub take_room : PipeOut → ℕ
+take_room take = consumer_capacity take.consumer
+
 -- the two ends of one pipe
 abbrev pub IsPipe : PipeIn → PipeOut → Type 0
 IsPipe put take = IsPair put.producer take.consumer
 
--- an end of the same pipe, which may have put or taken more
+-- an end of the same pipe, with the same room, which may have put or taken more
 abbrev pub IsSameIn : PipeIn → PipeIn → Type 0
 IsSameIn old new = SameProducer old.producer new.producer
 

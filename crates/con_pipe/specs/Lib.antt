@@ -1,2 +1,3 @@
+-- What a reader must believe: the words that public clauses cite.
 pub mod Ends
 pub mod Pieces

@@ -1,7 +1,7 @@
 // A pipe's two ends together.
 ghost use Rattle.std.specs.Prelude.{◌≡◌, ◌<◌, ◌≤◌, true, false, [], IfOk};
 ghost use Rattle.con_pipe.specs.Pieces.{StartsWith};
-ghost use Rattle.con_pipe.specs.Ends.{pieces_put, is_finished, pieces_taken, has_ended, IsPipe, IsSameIn, IsSameOut};
+ghost use Rattle.con_pipe.specs.Ends.{pieces_put, is_finished, pieces_taken, has_ended, put_room, take_room, IsPipe, IsSameIn, IsSameOut};
 
 use crate::put::PipeIn;
 use crate::signal::Signal;
@@ -18,10 +18,11 @@ pub struct Ends {
     pub take: PipeOut,
 }
 
-/// A pipe with room for this many pieces, 1 to 1,024.
+/// A pipe with room for this many pieces, 1 to 1,024. The end mark takes the place of a piece.
 pub fn pipe(alloc: Global, pieces: usize) -> Result<Ends, OutOfMemory>
     requires { (0 < pieces) × (pieces ≤ 1024) }
     ensures pipe { IfOk result (λ ends. IsPipe ends.put ends.take) }
+    ensures room { IfOk result (λ ends. (put_room ends.put ≡ pieces) × (take_room ends.take ≡ pieces)) }
     ensures put { IfOk result (λ ends. (pieces_put ends.put ≡ []) × (is_finished ends.put ≡ false)) }
     ensures take { IfOk result (λ ends. (pieces_taken ends.take ≡ []) × (has_ended ends.take ≡ false)) }
 {

@@ -1,5 +1,5 @@
-ghost use Rattle.std.specs.Prelude.{◌≡◌, true, false, IfOk};
-ghost use Rattle.con_pipe.specs.Ends.{is_finished, IsSameIn, IsSameOut};
+ghost use Rattle.std.specs.Prelude.{◌≡◌, ◌<◌, ◌≤◌, true, false, IfOk};
+ghost use Rattle.con_pipe.specs.Ends.{is_finished, put_room, IsSameIn, IsSameOut};
 
 use crate::{Ends, PipeIn, PipeOut, meet, pipe};
 use con_units::Bytes;
@@ -11,7 +11,7 @@ use std::thread::{Threads, join, map_indices};
 // Puts three pieces and the end mark.
 fn put_three<R: Wait>(rt: &R, alloc: Global, mut put: PipeIn) -> Result<PipeIn, AllocError>
     requires { is_finished put ≡ false }
-    ensures { IfOk result (λ end. IsSameIn put end) }
+    ensures { IfOk result (λ end. IsSameIn put end × (put_room end ≡ put_room put)) }
 {
     put.push(rt, Bytes(Vec::from_array(alloc, [1])?));
     put.push(rt, Bytes(Vec::from_array(alloc, [2, 2])?));
@@ -61,6 +61,23 @@ fn passed<R: Threads + Wait + Sync>(rt: &R, alloc: Global) -> Option<[usize; 4]>
     let (mut take, lengths) = taken;
     meet(&mut put, &mut take);
     Some(lengths)
+}
+
+// The lengths of what came out of a pipe that has room for all, none taken before all was put.
+fn put_and_then_taken<R: Wait>(rt: &R, alloc: Global, pieces: usize) -> Option<[usize; 4]>
+    requires { (0 < pieces) × (pieces ≤ 1024) }
+{
+    let Ends { put, take } = pipe(alloc, pieces).ok()?;
+    let mut put = put_three(rt, alloc, put).ok()?;
+    let (mut take, lengths) = take_four(rt, take);
+    meet(&mut put, &mut take);
+    Some(lengths)
+}
+
+#[test]
+fn pieces_wait_in_a_pipe_with_room_for_them(rt: HostRuntime) -> Result<(), Fail> {
+    assert!(rt; put_and_then_taken(&rt, rt.alloc(), 4) == Some([1, 2, 3, 0]));
+    Ok(())
 }
 
 #[test]

@@ -16,7 +16,7 @@ pub returns-in-Ok-clause-entered : goal.returns-in-Ok-clause-entered
 returns-in-Ok-clause-entered g c = λ v e.
     let m = (moving g.M.Machine.next g.M.Machine.is_ready g.M.Machine.blank) in (
       enters g.M.Machine.state m v c.args.kept c.args.seat.now.me e g.M.Machine.answer g.M.Machine.answer_to g.M.Machine.tells _ _ _ _ _ _ (c.requires.actor ∙ actor_is g.M.Machine.state m v c.args.kept c.args.seat.now.me e)
-          (c.push_reserved.ensures.items ∙ ap (λ l. l ++ entry c.args.actor c.args.event ∷ []) c.reserve.ensures.items) c.prepare.ensures.same c.apply-reply.ensures.answer c.apply-reply.ensures.tells (ap (λ m. m.0) c.leave-in-Ok.ensures.place),
+          (c.push_reserved.ensures.items ∙ ap (λ l. l ++ entry c.args.actor c.args.event ∷ []) c.reserve.ensures.items) c.prepare.ensures.same (ap (λ s. g.M.Machine.is_ready s c.args.actor c.args.event) c.prepare.ensures.same ∙ c.requires.ready) c.apply-reply.ensures.answer c.apply-reply.ensures.tells (ap (λ m. m.0) c.leave-in-Ok.ensures.place),
       tt,
     )
 

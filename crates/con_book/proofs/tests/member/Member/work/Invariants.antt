@@ -1,5 +1,0 @@
-use Rattle.con_book.specs.Passes.{IsSamePass}
-use Rattle.con_book.proofs.tests.member.Member.work.Given as goal
-
-abbrev pub invariant-loop : goal.invariant-loop
-invariant-loop g l = IsSamePass l.fn.self.pass l.self.pass
