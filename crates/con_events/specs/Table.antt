@@ -1,0 +1,200 @@
+-- The calls: their names, and their arguments in order.
+use Rattle.std.specs.Prelude.{◌≡◌, map, ℕ, zero, suc, List, [], ◌∷◌, Option, None, Some, codes, option_map, Bool, if◌then◌else◌}
+use Rattle.std.specs.Str.{bytes_eq}
+use Rattle.con_events.specs.declared.call.Call.{Call}
+use Rattle.con_events.specs.declared.call.Call.TheVariants as call
+use Rattle.con_events.specs.Arg.{kind_of, Kind, number, signed, unit, flag, text, rect, clip, words, list, records, Arg, Number, Signed, OneUnit, Flag, Text, Area, Clip, WordsOf, WordList, Records, the_number, the_signed, the_flag, the_list, the_rect, the_clip, the_words, the_records}
+
+abbrev pub name_of : Call → List ℕ
+name_of (call.BufferCreate a) = codes "buffer-create"
+name_of (call.OpenOut a) = codes "open-out"
+name_of (call.OpenIn a) = codes "open-in"
+name_of (call.Close a) = codes "close"
+name_of (call.Duplicate a b) = codes "duplicate"
+name_of (call.Activate a) = codes "activate"
+name_of (call.Mode a) = codes "mode"
+name_of (call.SetMode a b) = codes "set-mode"
+name_of (call.Info a) = codes "info"
+name_of (call.SetSize a b c) = codes "set-size"
+name_of (call.SetCursor a b c) = codes "set-cursor"
+name_of (call.CursorInfo a) = codes "cursor-info"
+name_of (call.SetCursorInfo a b c) = codes "set-cursor-info"
+name_of (call.SetOrigin a b c) = codes "set-origin"
+name_of (call.SetAttr a b) = codes "set-attr"
+name_of call.Title = codes "title"
+name_of (call.SetTitle a) = codes "set-title"
+name_of (call.Write a b) = codes "write"
+name_of (call.RectRead a b) = codes "rect-read"
+name_of (call.RectWrite a b c d) = codes "rect-write"
+name_of (call.RunReadUnits a b c d) = codes "run-read-units"
+name_of (call.RunReadAttrs a b c d) = codes "run-read-attrs"
+name_of (call.RunWriteUnits a b c d) = codes "run-write-units"
+name_of (call.RunWriteAttrs a b c d) = codes "run-write-attrs"
+name_of (call.FillUnits a b c d e) = codes "fill-units"
+name_of (call.FillAttrs a b c d e) = codes "fill-attrs"
+name_of (call.Scroll a b c d e f g) = codes "scroll"
+name_of (call.Peek a b) = codes "peek"
+name_of (call.WriteInput a b) = codes "write-input"
+name_of (call.Count a) = codes "count"
+name_of (call.Flush a) = codes "flush"
+name_of call.HistoryInfo = codes "history-info"
+name_of (call.SetHistory a b c) = codes "set-history"
+name_of call.HistoryList = codes "history-list"
+name_of call.HistoryClear = codes "history-clear"
+name_of (call.AliasAdd a b c) = codes "alias-add"
+name_of (call.AliasRemove a b) = codes "alias-remove"
+name_of (call.AliasGet a b) = codes "alias-get"
+name_of (call.AliasList a) = codes "alias-list"
+name_of call.Processes = codes "processes"
+name_of (call.Signal a b) = codes "signal"
+name_of (call.Ignore a) = codes "ignore"
+name_of (call.HandlerAdd a) = codes "handler-add"
+name_of (call.HandlerRemove a) = codes "handler-remove"
+
+abbrev pub args_of : Call → List Arg
+args_of (call.BufferCreate a) = Number a ∷ []
+args_of (call.OpenOut a) = Number a ∷ []
+args_of (call.OpenIn a) = Number a ∷ []
+args_of (call.Close a) = Number a ∷ []
+args_of (call.Duplicate a b) = Number a ∷ Number b ∷ []
+args_of (call.Activate a) = Number a ∷ []
+args_of (call.Mode a) = Number a ∷ []
+args_of (call.SetMode a b) = Number a ∷ Number b ∷ []
+args_of (call.Info a) = Number a ∷ []
+args_of (call.SetSize a b c) = Number a ∷ Number b ∷ Number c ∷ []
+args_of (call.SetCursor a b c) = Number a ∷ Signed b ∷ Signed c ∷ []
+args_of (call.CursorInfo a) = Number a ∷ []
+args_of (call.SetCursorInfo a b c) = Number a ∷ Number b ∷ Flag c ∷ []
+args_of (call.SetOrigin a b c) = Number a ∷ Signed b ∷ Signed c ∷ []
+args_of (call.SetAttr a b) = Number a ∷ OneUnit b ∷ []
+args_of call.Title = []
+args_of (call.SetTitle a) = Text a ∷ []
+args_of (call.Write a b) = Number a ∷ Text b ∷ []
+args_of (call.RectRead a b) = Number a ∷ Area b ∷ []
+args_of (call.RectWrite a b c d) = Number a ∷ Area b ∷ Text c ∷ WordsOf d ∷ []
+args_of (call.RunReadUnits a b c d) = Number a ∷ Signed b ∷ Signed c ∷ Number d ∷ []
+args_of (call.RunReadAttrs a b c d) = Number a ∷ Signed b ∷ Signed c ∷ Number d ∷ []
+args_of (call.RunWriteUnits a b c d) = Number a ∷ Signed b ∷ Signed c ∷ Text d ∷ []
+args_of (call.RunWriteAttrs a b c d) = Number a ∷ Signed b ∷ Signed c ∷ WordList d ∷ []
+args_of (call.FillUnits a b c d e) = Number a ∷ Signed b ∷ Signed c ∷ Number d ∷ OneUnit e ∷ []
+args_of (call.FillAttrs a b c d e) = Number a ∷ Signed b ∷ Signed c ∷ Number d ∷ OneUnit e ∷ []
+args_of (call.Scroll a b c d e f g) = Number a ∷ Area b ∷ Clip c ∷ Signed d ∷ Signed e ∷ OneUnit f ∷ OneUnit g ∷ []
+args_of (call.Peek a b) = Number a ∷ Number b ∷ []
+args_of (call.WriteInput a b) = Number a ∷ Records b ∷ []
+args_of (call.Count a) = Number a ∷ []
+args_of (call.Flush a) = Number a ∷ []
+args_of call.HistoryInfo = []
+args_of (call.SetHistory a b c) = Number a ∷ Number b ∷ Number c ∷ []
+args_of call.HistoryList = []
+args_of call.HistoryClear = []
+args_of (call.AliasAdd a b c) = Text a ∷ Text b ∷ Text c ∷ []
+args_of (call.AliasRemove a b) = Text a ∷ Text b ∷ []
+args_of (call.AliasGet a b) = Text a ∷ Text b ∷ []
+args_of (call.AliasList a) = Text a ∷ []
+args_of call.Processes = []
+args_of (call.Signal a b) = Number a ∷ Number b ∷ []
+args_of (call.Ignore a) = Flag a ∷ []
+args_of (call.HandlerAdd a) = Number a ∷ []
+args_of (call.HandlerRemove a) = Number a ∷ []
+
+-- the argument at a place
+abbrev pub nth : ℕ → List Arg → Arg
+nth n [] = Number 0
+nth zero (a ∷ xs) = a
+nth (suc n) (a ∷ xs) = nth n xs
+
+pub record Row : Type 0 where
+  pub name : List ℕ
+  pub kinds : List Kind
+  pub make : List Arg → Call
+
+abbrev pub row : List ℕ → List Kind → (List Arg → Call) → Row
+row n ks f = record { name = n; kinds = ks; make = f }
+
+-- the row of a name in a list, or else another
+abbrev pub find : List ℕ → List Row → Option Row → Option Row
+find n [] other = other
+find n (r ∷ rs) other = if bytes_eq n r.name then Some r else find n rs other
+
+abbrev pub processes_rows : List Row
+processes_rows = row (codes "processes") ([]) (λ xs. call.Processes)
+    ∷ row (codes "signal") (number ∷ number ∷ []) (λ xs. call.Signal (the_number (nth 0 xs)) (the_number (nth 1 xs)))
+    ∷ row (codes "ignore") (flag ∷ []) (λ xs. call.Ignore (the_flag (nth 0 xs)))
+    ∷ row (codes "handler-add") (number ∷ []) (λ xs. call.HandlerAdd (the_number (nth 0 xs)))
+    ∷ row (codes "handler-remove") (number ∷ []) (λ xs. call.HandlerRemove (the_number (nth 0 xs)))
+    ∷ []
+
+unfoldable pub row_of_processes : List ℕ → Option Row
+row_of_processes n = find n processes_rows None
+
+abbrev pub lines_rows : List Row
+lines_rows = row (codes "peek") (number ∷ number ∷ []) (λ xs. call.Peek (the_number (nth 0 xs)) (the_number (nth 1 xs)))
+    ∷ row (codes "write-input") (number ∷ records ∷ []) (λ xs. call.WriteInput (the_number (nth 0 xs)) (the_records (nth 1 xs)))
+    ∷ row (codes "count") (number ∷ []) (λ xs. call.Count (the_number (nth 0 xs)))
+    ∷ row (codes "flush") (number ∷ []) (λ xs. call.Flush (the_number (nth 0 xs)))
+    ∷ row (codes "history-info") ([]) (λ xs. call.HistoryInfo)
+    ∷ row (codes "set-history") (number ∷ number ∷ number ∷ []) (λ xs. call.SetHistory (the_number (nth 0 xs)) (the_number (nth 1 xs)) (the_number (nth 2 xs)))
+    ∷ row (codes "history-list") ([]) (λ xs. call.HistoryList)
+    ∷ row (codes "history-clear") ([]) (λ xs. call.HistoryClear)
+    ∷ row (codes "alias-add") (text ∷ text ∷ text ∷ []) (λ xs. call.AliasAdd (the_list (nth 0 xs)) (the_list (nth 1 xs)) (the_list (nth 2 xs)))
+    ∷ row (codes "alias-remove") (text ∷ text ∷ []) (λ xs. call.AliasRemove (the_list (nth 0 xs)) (the_list (nth 1 xs)))
+    ∷ row (codes "alias-get") (text ∷ text ∷ []) (λ xs. call.AliasGet (the_list (nth 0 xs)) (the_list (nth 1 xs)))
+    ∷ row (codes "alias-list") (text ∷ []) (λ xs. call.AliasList (the_list (nth 0 xs)))
+    ∷ []
+
+unfoldable pub row_of_lines : List ℕ → Option Row
+row_of_lines n = find n lines_rows (row_of_processes n)
+
+abbrev pub cells_rows : List Row
+cells_rows = row (codes "write") (number ∷ text ∷ []) (λ xs. call.Write (the_number (nth 0 xs)) (the_list (nth 1 xs)))
+    ∷ row (codes "rect-read") (number ∷ rect ∷ []) (λ xs. call.RectRead (the_number (nth 0 xs)) (the_rect (nth 1 xs)))
+    ∷ row (codes "rect-write") (number ∷ rect ∷ text ∷ words ∷ []) (λ xs. call.RectWrite (the_number (nth 0 xs)) (the_rect (nth 1 xs)) (the_list (nth 2 xs)) (the_words (nth 3 xs)))
+    ∷ row (codes "run-read-units") (number ∷ signed ∷ signed ∷ number ∷ []) (λ xs. call.RunReadUnits (the_number (nth 0 xs)) (the_signed (nth 1 xs)) (the_signed (nth 2 xs)) (the_number (nth 3 xs)))
+    ∷ row (codes "run-read-attrs") (number ∷ signed ∷ signed ∷ number ∷ []) (λ xs. call.RunReadAttrs (the_number (nth 0 xs)) (the_signed (nth 1 xs)) (the_signed (nth 2 xs)) (the_number (nth 3 xs)))
+    ∷ row (codes "run-write-units") (number ∷ signed ∷ signed ∷ text ∷ []) (λ xs. call.RunWriteUnits (the_number (nth 0 xs)) (the_signed (nth 1 xs)) (the_signed (nth 2 xs)) (the_list (nth 3 xs)))
+    ∷ row (codes "run-write-attrs") (number ∷ signed ∷ signed ∷ list ∷ []) (λ xs. call.RunWriteAttrs (the_number (nth 0 xs)) (the_signed (nth 1 xs)) (the_signed (nth 2 xs)) (the_list (nth 3 xs)))
+    ∷ row (codes "fill-units") (number ∷ signed ∷ signed ∷ number ∷ unit ∷ []) (λ xs. call.FillUnits (the_number (nth 0 xs)) (the_signed (nth 1 xs)) (the_signed (nth 2 xs)) (the_number (nth 3 xs)) (the_number (nth 4 xs)))
+    ∷ row (codes "fill-attrs") (number ∷ signed ∷ signed ∷ number ∷ unit ∷ []) (λ xs. call.FillAttrs (the_number (nth 0 xs)) (the_signed (nth 1 xs)) (the_signed (nth 2 xs)) (the_number (nth 3 xs)) (the_number (nth 4 xs)))
+    ∷ row (codes "scroll") (number ∷ rect ∷ clip ∷ signed ∷ signed ∷ unit ∷ unit ∷ []) (λ xs. call.Scroll (the_number (nth 0 xs)) (the_rect (nth 1 xs)) (the_clip (nth 2 xs)) (the_signed (nth 3 xs)) (the_signed (nth 4 xs)) (the_number (nth 5 xs)) (the_number (nth 6 xs)))
+    ∷ []
+
+unfoldable pub row_of_cells : List ℕ → Option Row
+row_of_cells n = find n cells_rows (row_of_lines n)
+
+abbrev pub screens_rows : List Row
+screens_rows = row (codes "info") (number ∷ []) (λ xs. call.Info (the_number (nth 0 xs)))
+    ∷ row (codes "set-size") (number ∷ number ∷ number ∷ []) (λ xs. call.SetSize (the_number (nth 0 xs)) (the_number (nth 1 xs)) (the_number (nth 2 xs)))
+    ∷ row (codes "set-cursor") (number ∷ signed ∷ signed ∷ []) (λ xs. call.SetCursor (the_number (nth 0 xs)) (the_signed (nth 1 xs)) (the_signed (nth 2 xs)))
+    ∷ row (codes "cursor-info") (number ∷ []) (λ xs. call.CursorInfo (the_number (nth 0 xs)))
+    ∷ row (codes "set-cursor-info") (number ∷ number ∷ flag ∷ []) (λ xs. call.SetCursorInfo (the_number (nth 0 xs)) (the_number (nth 1 xs)) (the_flag (nth 2 xs)))
+    ∷ row (codes "set-origin") (number ∷ signed ∷ signed ∷ []) (λ xs. call.SetOrigin (the_number (nth 0 xs)) (the_signed (nth 1 xs)) (the_signed (nth 2 xs)))
+    ∷ row (codes "set-attr") (number ∷ unit ∷ []) (λ xs. call.SetAttr (the_number (nth 0 xs)) (the_number (nth 1 xs)))
+    ∷ row (codes "title") ([]) (λ xs. call.Title)
+    ∷ row (codes "set-title") (text ∷ []) (λ xs. call.SetTitle (the_list (nth 0 xs)))
+    ∷ []
+
+unfoldable pub row_of_screens : List ℕ → Option Row
+row_of_screens n = find n screens_rows (row_of_cells n)
+
+abbrev pub handles_rows : List Row
+handles_rows = row (codes "buffer-create") (number ∷ []) (λ xs. call.BufferCreate (the_number (nth 0 xs)))
+    ∷ row (codes "open-out") (number ∷ []) (λ xs. call.OpenOut (the_number (nth 0 xs)))
+    ∷ row (codes "open-in") (number ∷ []) (λ xs. call.OpenIn (the_number (nth 0 xs)))
+    ∷ row (codes "close") (number ∷ []) (λ xs. call.Close (the_number (nth 0 xs)))
+    ∷ row (codes "duplicate") (number ∷ number ∷ []) (λ xs. call.Duplicate (the_number (nth 0 xs)) (the_number (nth 1 xs)))
+    ∷ row (codes "activate") (number ∷ []) (λ xs. call.Activate (the_number (nth 0 xs)))
+    ∷ row (codes "mode") (number ∷ []) (λ xs. call.Mode (the_number (nth 0 xs)))
+    ∷ row (codes "set-mode") (number ∷ number ∷ []) (λ xs. call.SetMode (the_number (nth 0 xs)) (the_number (nth 1 xs)))
+    ∷ []
+
+unfoldable pub row_of_handles : List ℕ → Option Row
+row_of_handles n = find n handles_rows (row_of_screens n)
+
+-- the row of a name
+abbrev pub row_of : List ℕ → Option Row
+row_of n = row_of_handles n
+
+-- what a row tells of a call
+abbrev pub Tells : Call → Option Row → Type 0
+Tells c None = ⊥
+Tells c (Some r) = (r.kinds ≡ map kind_of (args_of c)) × (r.make (args_of c) ≡ c)

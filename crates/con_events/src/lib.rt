@@ -1,0 +1,44 @@
+//! What the console is asked and what it answers, as data alone.
+//!
+//! An [`Event`] is what an [`Actor`] does in one step: a client's [`Call`], the beginning of a wait ([`Wanted`]) and its
+//! end, bytes and sizes from the terminal's side, a picture for the painter. A [`Reply`] is what that step answers. An
+//! [`Entry`] is an event with its actor, as a history lists it.
+//!
+//! A [`Session`] is what clients will do: a window's size and a [`Script`] for each client, within stated limits.
+//! [`End`] says why a session ended.
+//!
+//! [`Numbers`], [`Lines`], [`Steps`] and [`Scripts`] are vectors that contracts see as lists.
+//!
+//! Calls have a table (`specs/Table`): each call's name, and the kinds of its arguments in order. [`read_call`] reads a call from
+//! whatever gives [`Arguments`], by a name; [`name`] and [`tell`] show one to whatever [`Shows`] arguments. So a document and a
+//! report have one table, and what is told is what is read.
+//!
+//! Nothing is promised here of what an event does.
+#![tactic(auto)]
+
+pub mod actor;
+pub mod arguments;
+pub mod call;
+pub mod end;
+pub mod entry;
+pub mod event;
+pub mod reading;
+pub mod reply;
+pub mod script;
+pub mod session;
+pub mod telling;
+
+pub use actor::Actor;
+pub use arguments::{Arguments, Misread};
+pub use call::{Call, Words};
+pub use end::End;
+pub use entry::Entry;
+pub use event::{Event, Wanted};
+pub use reading::{read_call, whole_call};
+pub use reply::{Lines, Numbers, Reply};
+pub use script::{Script, Scripts, Step, Steps};
+pub use session::Session;
+pub use telling::{Shows, name, tell};
+
+#[cfg(test)]
+mod tests;
