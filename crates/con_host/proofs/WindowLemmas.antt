@@ -1,72 +1,58 @@
--- A window has all its cells, and its cursor stands inside where it shows.
-use Rattle.std.proofs.Common.{◌≡◌, ℕ, ℤ, pos, zero, suc, ◌+◌, ◌-◌, ◌*◌, ◌<◌, ◌≤◌, ◌≤ℤ◌, ◌<ℤ◌, true, ◌&&◌, nat_le, nat_lt, Option, Some, None, length, drop, refl, sym, ◌∙◌, subst, arith, length-append, length-drop}
-use Rattle.std.specs.Prelude.{IsSome, IfSome}
-use Rattle.std.proofs.lemmas.List.{length-take-le}
-use Rattle.std.proofs.lemmas.Bool.{and_parts}
-use Rattle.std.proofs.lemmas.Bool.Decides.{nat_tests}
-use Rattle.std.proofs.lemmas.Int.{ints}
-use Rattle.std.proofs.Math.Nat.{mul-le-mul_right}
+-- The window of the active buffer, and bytes that show it.
+use Rattle.std.proofs.Common.{◌≡◌, ◌∙◌, ◌∷◌, ap, arith, ◌<◌, ℕ, ◌*◌, ◌≤◌, Option, Some, None, List, [], length, drop, Ok, Err, refl, sym, subst}
+use Rattle.std.specs.Prelude.{IsSome, IfSome, IfOk, Result}
+use Rattle.std.specs.Option.{IsSomeAnd}
 use Rattle.con_units.specs.declared.view.View.{View}
-use Rattle.con_units.specs.declared.place.Coord.{Coord}
-use Rattle.con_grid.specs.Picture.{Picture, IsPicture}
-use Rattle.con_screen.specs.Page.{Page, IsPage}
 use Rattle.con_screen.specs.ModeSet.{mode_set}
 use Rattle.con_screen.specs.Screen.{Screen}
-use Rattle.con_screens.specs.Buffer.{IsBuffer, new_screen}
+use Rattle.con_screens.specs.Buffer.{new_screen}
 use Rattle.con_screens.specs.Buffers.{Buffers, buffer_at, first_buffers}
 use Rattle.con_screens.specs.Lending.{screen_left}
 use Rattle.con_screens.specs.declared.buffer.Buffer.{Buffer}
-use Rattle.con_screens.specs.View.{row_in, rows_in, is_from, cursor_shown, cursor_in, view_of}
-use Rattle.con_paint.specs.Painter.{IsWhole}
-use Rattle.con_host.specs.Typing.{opening}
-
-row_inside : (g : Picture) (y : ℕ) → IsPicture g → y < g.height → y * g.width + g.width ≤ length g.cells
-row_inside g y ok h = let le : y + 1 ≤ g.height = omega arith in omega (arith, mul-le-mul_right g.width le, ok.cells)
-
-row_length : (g : Picture) (left w y : ℕ) → IsPicture g → left + w ≤ g.width → y < g.height → length (row_in g left w y) ≡ w
-row_length g left w y ok wide tall = length-take-le w (drop (y * g.width + left) g.cells) (rw (length-drop (y * g.width + left) g.cells) (omega (arith, row_inside g y ok tall)))
-
-rows_length : (g : Picture) (left top w n : ℕ) → IsPicture g → left + w ≤ g.width → top + n ≤ g.height → length (rows_in g left top w n) ≡ n * w
-rows_length g left top w zero ok wide tall = omega arith
-rows_length g left top w (suc n) ok wide tall =
-    length-append (rows_in g left top w n) (row_in g left w (top + n)) ∙ omega (arith, rows_length g left top w n ok wide (omega arith), row_length g left w (top + n) ok wide (omega arith))
-
-from_parts : (first n at : ℕ) → is_from first n at ≡ true → (first ≤ at) × (at < first + n)
-from_parts first n at h = let parts = and_parts (nat_le first at) (nat_lt at (first + n)) h in
-    let a : nat_le first at ≡ true = parts.0 in let b : nat_lt at (first + n) ≡ true = parts.1 in (grind (arith, nat_tests), grind (arith, nat_tests))
-
-within : (first n at : ℕ) → first ≤ at → at < first + n → (pos 0 ≤ℤ pos (at - first)) × (pos (at - first) <ℤ pos n)
-within first n at low high = let inside : at - first < n = omega arith in (omega (arith, ints), omega (arith, ints))
-
-shown_at : (p : Page) → cursor_shown p ≡ true → cursor_in p ≡ record { x = pos (p.x - p.left); y = pos (p.y - p.top) }
-shown_at p h = rw h refl
-
-column_inside : (p : Page) → cursor_shown p ≡ true → (pos 0 ≤ℤ (cursor_in p).x) × ((cursor_in p).x <ℤ pos p.w)
-column_inside p h =
-    let parts = and_parts (p.visible && is_from p.left p.w p.x) (is_from p.top p.h p.y) h in
-    let column = from_parts p.left p.w p.x (and_parts p.visible (is_from p.left p.w p.x) parts.0).1 in
-    subst (λ (c : Coord). (pos 0 ≤ℤ c.x) × (c.x <ℤ pos p.w)) (sym (shown_at p h)) (within p.left p.w p.x column.0 column.1)
-
-row_shown : (p : Page) → cursor_shown p ≡ true → (pos 0 ≤ℤ (cursor_in p).y) × ((cursor_in p).y <ℤ pos p.h)
-row_shown p h =
-    let parts = and_parts (p.visible && is_from p.left p.w p.x) (is_from p.top p.h p.y) h in
-    let row = from_parts p.top p.h p.y parts.1 in
-    subst (λ (c : Coord). (pos 0 ≤ℤ c.y) × (c.y <ℤ pos p.h)) (sym (shown_at p h)) (within p.top p.h p.y row.0 row.1)
-
-whole_view : (p : Page) → IsPage p → IsWhole (view_of p)
-whole_view p ok = record {
-  cells = rows_length p.grid p.left p.top p.w p.h ok.grid ok.right ok.bottom;
-  column = column_inside p;
-  row = row_shown p;
-}
-
--- the view of a buffer that is live
-pub whole_of : (w h births : ℕ) (o : Option Buffer) (v : View) → IfSome o (IsBuffer w h births) → IsSome o → IfSome o (λ b. v ≡ view_of b.shown.board) → IsWhole v
-whole_of w h births None v ok live is = absurd (cc)
-whole_of w h births (Some b) v ok live is = subst IsWhole (sym is) (whole_view b.shown.board ok.shown.page)
+use Rattle.con_screens.specs.View.{view_of}
+use Rattle.con_term.specs.Terminal.{Terminal, IsTerminal, Shows}
+use Rattle.con_term.specs.Play.{play, printed}
+use Rattle.con_paint.specs.Painter.{Kept, Allows, Paints, unpainted}
+use Rattle.con_host.specs.Typing.{Typing, opening, ended, units_typed, ShowsBuffers, PrintsAtMost}
 
 -- the mode was set on the main screen of the first buffers
 pub opened_is : (s : Buffers) (x y : Screen) → s ≡ first_buffers 80 25 → IfSome (buffer_at s 0) (λ b. x ≡ b.shown) → y ≡ mode_set x 7 → screen_left s 0 y ≡ opening
 opened_is s x y e is set =
     let x_is : x ≡ new_screen 80 25 = subst (λ (t : Buffers). IfSome (buffer_at t 0) (λ b. x ≡ b.shown)) e is in
     rw (e, set, x_is) refl
+
+pub ok_mapped : {A E : Type 0} (r : Result A E) (P Q : A → Type 0) → ((a : A) → P a → Q a) → IfOk r P → IfOk r Q
+ok_mapped (Ok a) P Q f h = f a h
+ok_mapped (Err e) P Q f h = h
+
+-- a terminal of 80 by 25 is one of the view's size
+sized : (v : View) (t : Terminal) → (v.size.w ≡ 80) × (v.size.h ≡ 25) → IsTerminal 80 25 t → IsTerminal v.size.w v.size.h t
+sized v t sides terminal = subst (λ k. IsTerminal v.size.w k t) (sym sides.1) (subst (λ k. IsTerminal k 25 t) (sym sides.0) terminal)
+
+-- bytes that show a view of the active buffer
+pub shows_buffers : (s : Buffers) (v : View) (bytes : List ℕ) → IsSome (buffer_at s s.active) → IfSome (buffer_at s s.active) (λ b. v ≡ view_of b.shown.page) → (v.size.w ≡ 80) × (v.size.h ≡ 25)
+    → ((t : Terminal) → IsTerminal v.size.w v.size.h t → Shows (play t bytes) v) → ShowsBuffers bytes s
+shows_buffers s v bytes live is sides shows = by_slot (buffer_at s s.active) live is
+  where
+    by_slot : (o : Option Buffer) → IsSome o → IfSome o (λ b. v ≡ view_of b.shown.page) → IsSomeAnd o (λ b. (t : Terminal) → IsTerminal 80 25 t → Shows (play t bytes) (view_of b.shown.page))
+    by_slot None live is = absurd (cc)
+    by_slot (Some b) live is = λ t terminal. subst (λ (x : View). Shows (play t bytes) x) is (shows t (sized v t sides terminal))
+
+pub prints_few : (v : View) (bytes : List ℕ) → (v.size.w ≡ 80) × (v.size.h ≡ 25) → ((t : Terminal) → IsTerminal v.size.w v.size.h t → printed t bytes ≤ v.size.w * v.size.h) → PrintsAtMost 2000 bytes
+prints_few v bytes sides few = λ t terminal.
+    subst (λ k. printed t bytes ≤ 80 * k) sides.1 (subst (λ k. printed t bytes ≤ k * v.size.h) sides.0 (few t (sized v t sides terminal)))
+
+-- the first frame of a painter shows its view
+pub first_frame : (p q : Kept) (v : View) (t : Terminal) (old new : List ℕ) → p ≡ unpainted v.size.w v.size.h → old ≡ [] → IsTerminal v.size.w v.size.h t → ((t : Terminal) → Allows p t → Paints p q v (drop (length old) new) t) → Shows (play t new) v
+first_frame p q v t old new is none terminal paints =
+    let allows : Allows p t = subst (λ (k : Kept). Allows k t) (sym is) (record { terminal = terminal; agrees = λ e. absurd (cc) }) in
+    subst (λ (xs : List ℕ). Shows (play t (drop (length xs) new)) v) none (paints t allows).shows
+
+-- a text that ends in the midst of a character, and one that does not
+pub ended_cut : (t : Typing) (b now : Buffers) (held : List ℕ) (n : ℕ) → record { buffers = b; held = held } ≡ t → n ≡ length held → 0 < n → now ≡ units_typed b (0xFFFD ∷ []) → now ≡ ended t
+ended_cut t b now [] n is count some typed = absurd (omega arith)
+ended_cut t b now (x ∷ held) n is count some typed = typed ∙ ap ended is
+
+pub ended_whole : (t : Typing) (b : Buffers) (held : List ℕ) (n : ℕ) → record { buffers = b; held = held } ≡ t → n ≡ length held → n ≤ 0 → b ≡ ended t
+ended_whole t b [] n is count none = ap ended is
+ended_whole t b (x ∷ held) n is count none = absurd (omega arith)

@@ -1,12 +1,13 @@
-pub mod Words
-pub mod Link
+-- What a reader must believe: the words, the link, the last line, and how typing, playing and the whole call end.
 pub mod Encoded
 pub mod Ending
-pub mod Playing
-pub mod PlayedInTurn
-pub mod Typing
-pub mod TypistView
-pub mod WrittenInTurn
-pub mod TypedInTurn
 pub mod Hosting
+pub mod Link
+pub mod Playing
+pub mod Typing
+pub mod Words
+-- The code's own words and laws: pieces of a text in turn, and the fields of what types.
 pub mod Ascii
+pub mod PlayedInTurn
+pub mod TypedInTurn
+pub mod TypistView

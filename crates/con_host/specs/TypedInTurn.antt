@@ -1,37 +1,21 @@
 -- Two pieces typed in turn are the whole typed.
-use Rattle.std.proofs.Common.{◌≡◌, ℕ, List, [], ◌∷◌, ◌++◌, Option, Some, None, refl, sym, ap, ◌∙◌}
-use Rattle.std.specs.Prelude.{flat_map, slice_set, slice_index_or}
-use Rattle.std.specs.Option.{option_map}
+use Rattle.std.proofs.Common.{◌≡◌, ℕ, List, [], ◌++◌, sym, ap, ◌∙◌}
+use Rattle.std.specs.Prelude.{flat_map}
 use Rattle.std.proofs.lemmas.Grind.{flat_map-append}
 use Rattle.con_units.specs.Split.{split_after}
 use Rattle.con_units.specs.Utf8.{utf8}
 use Rattle.con_units.specs.SplitLaws.{split_after-append}
 use Rattle.con_term.specs.Play.{units_of}
 use Rattle.con_screen.specs.Told.{nothing_told}
-use Rattle.con_screens.specs.Buffer.{buffer_written}
 use Rattle.con_screens.specs.Buffers.{Buffers}
-use Rattle.con_screens.specs.declared.buffer.Buffer.{Buffer}
+use Rattle.con_screens.specs.WrittenInTurn.{written_nothing, written_in_turn}
 use Rattle.con_host.specs.Typing.{Typing, heard, units_typed}
-use Rattle.con_host.specs.WrittenInTurn.{buffer_in_turn, buffer_nothing}
-
-slots_nothing : (slots : List (Option Buffer)) → slots ≡ slice_set slots 0 (option_map (buffer_written nothing_told []) (slice_index_or slots 0 None))
-slots_nothing [] = refl
-slots_nothing (None ∷ slots) = refl
-slots_nothing (Some b ∷ slots) = ap (λ (c : Buffer). Some c ∷ slots) (sym (buffer_nothing b))
 
 pub typed_none : (s : Buffers) → s ≡ units_typed s []
-typed_none s = ap (λ (xs : List (Option Buffer)). record s { slots = xs }) (slots_nothing s.slots)
-
-slots_in_turn : (xs ys : List ℕ) (slots : List (Option Buffer))
-    → slice_set (slice_set slots 0 (option_map (buffer_written nothing_told xs) (slice_index_or slots 0 None))) 0
-    (option_map (buffer_written nothing_told ys) (slice_index_or (slice_set slots 0 (option_map (buffer_written nothing_told xs) (slice_index_or slots 0 None))) 0 None))
-    ≡ slice_set slots 0 (option_map (buffer_written nothing_told (xs ++ ys)) (slice_index_or slots 0 None))
-slots_in_turn xs ys [] = refl
-slots_in_turn xs ys (None ∷ slots) = refl
-slots_in_turn xs ys (Some b ∷ slots) = ap (λ (c : Buffer). Some c ∷ slots) (buffer_in_turn b xs ys)
+typed_none s = sym (written_nothing s 0 nothing_told)
 
 pub units_in_turn : (s : Buffers) (xs ys : List ℕ) → units_typed (units_typed s xs) ys ≡ units_typed s (xs ++ ys)
-units_in_turn s xs ys = ap (λ (slots : List (Option Buffer)). record s { slots = slots }) (slots_in_turn xs ys s.slots)
+units_in_turn s xs ys = written_in_turn s 0 nothing_told nothing_told nothing_told xs ys
 
 pub typed_nothing : (t : Typing) → t ≡ heard t []
 unfolding heard split_after

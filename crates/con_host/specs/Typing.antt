@@ -1,17 +1,18 @@
 -- A text that is typed, and how typing ends.
-use Rattle.std.specs.Prelude.{◌≡◌, ℕ, ◌<◌, ◌≤◌, ◌⊎◌, ◌||◌, Bool, List, [], ◌∷◌, ◌++◌, length, Option, IsSomeAnd, nat_eq, flat_map}
+use Rattle.std.specs.Prelude.{◌≡◌, ℕ, ◌≤◌, ◌⊎◌, ◌||◌, Bool, List, [], ◌∷◌, ◌++◌, length, Option, IsSomeAnd, IsTrue, nat_eq, flat_map}
 use Rattle.con_outside.specs.Outside.{then_written}
 use Rattle.con_units.specs.Split.{split, split_after}
 use Rattle.con_units.specs.Utf8.{utf8}
 use Rattle.con_term.specs.Terminal.{Terminal, IsTerminal, Shows}
-use Rattle.con_term.specs.Play.{units_of, play}
+use Rattle.con_term.specs.Play.{units_of, play, printed}
 use Rattle.con_screen.specs.ModeSet.{mode_set}
 use Rattle.con_screen.specs.Told.{nothing_told}
 use Rattle.con_screens.specs.Buffer.{new_screen, buffer_written}
 use Rattle.con_screens.specs.Buffers.{Buffers, buffer_at, first_buffers, with_buffer}
 use Rattle.con_screens.specs.Lending.{screen_left}
 use Rattle.con_screens.specs.View.{view_of}
-use Rattle.con_host.specs.Ending.{end_line, WroteFront}
+use Rattle.con_host.specs.Ending.{end_line, WroteFront, WrotePart}
+use Rattle.con_host.specs.Link.{IsTooLong}
 use Rattle.con_host.specs.Playing.{IsWhole, Told}
 
 -- one more U+FFFD for a character that is cut at the text's end
@@ -36,7 +37,11 @@ text_typed text = units_typed opening (text_units text)
 
 -- on any terminal of that size, the bytes, played, show the window of the active buffer, which is there
 abbrev pub ShowsBuffers : List ℕ → Buffers → Type 0
-ShowsBuffers bytes s = IsSomeAnd (buffer_at s s.active) (λ b. (t : Terminal) → IsTerminal 80 25 t → Shows (play t bytes) (view_of b.shown.board))
+ShowsBuffers bytes s = IsSomeAnd (buffer_at s s.active) (λ b. (t : Terminal) → IsTerminal 80 25 t → Shows (play t bytes) (view_of b.shown.page))
+
+-- on any terminal of that size, the bytes print or erase at most so many cells
+abbrev pub PrintsAtMost : ℕ → List ℕ → Type 0
+PrintsAtMost n bytes = (t : Terminal) → IsTerminal 80 25 t → printed t bytes ≤ n
 
 -- in the midst of a text: the buffers, and the bytes that are no character yet
 pub record Typing : Type 0 where
@@ -59,15 +64,27 @@ ended t = ended_with t.buffers t.held
 abbrev pub is_type_status : ℕ → Bool
 is_type_status n = nat_eq n 0 || nat_eq n 4 || nat_eq n 5 || nat_eq n 9 || nat_eq n 10
 
--- a front of a frame that shows the text was written
-abbrev pub WroteFrame : List ℕ → Option (List ℕ) → Option (List ℕ) → Type 0
-WroteFrame text before now = (frame : List ℕ) × ShowsBuffers frame (text_typed text) × WroteFront frame before now
+-- a frame that shows a text, and prints or erases no more cells than the screen has
+abbrev pub IsFrame : List ℕ → List ℕ → Type 0
+IsFrame text frame = ShowsBuffers frame (text_typed text) × PrintsAtMost 2000 frame
 
--- The text that was taken from the link, what is left of it, and what the terminal and the report have, for each status.
+-- a front of such a frame was written
+abbrev pub WroteFrame : List ℕ → Option (List ℕ) → Option (List ℕ) → Type 0
+WroteFrame text before now = (frame : List ℕ) × IsFrame text frame × WroteFront frame before now
+
+-- How far typing came without memory: nothing was written; or a front of the frame, the link being read whole, and then perhaps a
+-- part of the last line; or a part of another last line.
+abbrev pub TypedPart : List ℕ → Option (List ℕ) → Option (List ℕ) → Option (List ℕ) → Option (List ℕ) → Option (List ℕ) → Type 0
+TypedPart text left before now before_report report =
+    ((now ≡ before) × (report ≡ before_report) × (length text ≤ 16781312))
+    ⊎ ((IsWhole text left × WroteFrame text before now × ((report ≡ before_report) ⊎ WrotePart (end_line 5) before_report report))
+    ⊎ ((now ≡ before) × (((length text ≤ 16777216) × WrotePart (end_line 4) before_report report) ⊎ (IsTooLong text × WrotePart (end_line 10) before_report report))))
+
+-- The text that was taken from the link, what is left of it, and what the terminal and the report have, for each status that comes.
 pub record Typed (status : ℕ) (text : List ℕ) (left before now before_report report : Option (List ℕ)) (failed : Type 0) : Type 0 where
-  pub done : status ≡ 0 → IsWhole text left × (report ≡ before_report) × ((frame : List ℕ) × ShowsBuffers frame (text_typed text) × (now ≡ then_written before frame))
+  pub comes : IsTrue (is_type_status status)
+  pub done : status ≡ 0 → IsWhole text left × (report ≡ before_report) × ((frame : List ℕ) × IsFrame text frame × (now ≡ then_written before frame))
   pub term_failed : status ≡ 5 → IsWhole text left × WroteFrame text before now × Told (end_line 5) before_report report failed
   pub link_failed : status ≡ 4 → (length text ≤ 16777216) × (now ≡ before) × Told (end_line 4) before_report report failed
-  pub too_long : status ≡ 10 → (16777216 < length text) × (now ≡ before) × Told (end_line 10) before_report report failed
-  pub memory : status ≡ 9 → ((now ≡ before) ⊎ WroteFrame text before now)
-      × ((line : List ℕ) × WroteFront line before_report report × ((line ≡ end_line 4) ⊎ ((line ≡ end_line 5) ⊎ (line ≡ end_line 10))))
+  pub too_long : status ≡ 10 → IsTooLong text × (now ≡ before) × Told (end_line 10) before_report report failed
+  pub memory : status ≡ 9 → TypedPart text left before now before_report report

@@ -1,8 +1,8 @@
 //! The last line of a report.
 
-ghost use Rattle.std.specs.Prelude.{◌≡◌, ℕ, ◌+◌, ◌<◌, ◌≤◌, ◌⊎◌, List, take};
+ghost use Rattle.std.specs.Prelude.{◌≡◌, ℕ, ◌+◌, ◌<◌, ◌≤◌, ◌≢◌, ◌⊎◌, List, take};
 ghost use Rattle.con_outside.specs.Outside.{Rose, then_written};
-ghost use Rattle.con_host.specs.Ending.{end_line, WroteFront};
+ghost use Rattle.con_host.specs.Ending.{end_line, WroteFront, WrotePart};
 
 use crate::writing::write_whole;
 use con_outside::{Fault, Sink};
@@ -34,11 +34,12 @@ fn line_of(status: u8) -> &'static [u8]
     }
 }
 
-/// Writes the last line of a report, and answers the status, or [`MEMORY`] where there was none for the line.
+/// Writes the last line of a report, and answers the status, or [`MEMORY`] where there was none for the whole line.
 pub fn finish<R: Sink>(report: &mut R, status: u8) -> u8
     ensures status { (result ≡ status) ⊎ (result ≡ MEMORY) }
     ensures front { WroteFront (end_line status) (R.written report.old) (R.written report.new) }
     ensures whole { result ≡ status → ¬ (Rose (R.faults report.old) (R.faults report.new)) → R.written report.new ≡ then_written (R.written report.old) (end_line status) }
+    ensures part { result ≢ status → WrotePart (end_line status) (R.written report.old) (R.written report.new) }
     ensures never_falls { R.faults report.old ≤ R.faults report.new }
 {
     match write_whole(report, line_of(status)) {

@@ -3,7 +3,7 @@
 ghost use Rattle.std.specs.Prelude.{◌≡◌, ◌≢◌, ℕ, ◌+◌, ◌<◌, ◌≤◌, ◌⊎◌, ◌↔◌, List, [], length, map, Option, Some, None, IfSome, IsNone, IsTrue, string_bytes};
 ghost use Rattle.con_outside.specs.Outside.{Rose, then_left};
 ghost use Rattle.con_host.specs.Words.{form_of};
-ghost use Rattle.con_host.specs.Hosting.{Hosted, is_status};
+ghost use Rattle.con_host.specs.Hosting.{Hosted};
 
 use crate::ending::{LINK, REPORT, TERMINAL, USAGE, finish};
 use crate::playing::host_play;
@@ -21,7 +21,6 @@ pub fn console_host<I: Source, O: Sink, R: Sink>(
     term: &mut O,
     report: &mut R,
 ) -> u8
-    ensures status { IsTrue (is_status result) }
     ensures outcome { (text : List ℕ) × (I.left link.old ≡ then_left text (I.left link.new))
         × Hosted result (form_of (map string_bytes words.now)) text (I.left link.new) (O.written term.old) (O.written term.new) (R.written report.old) (R.written report.new) (Rose (R.faults report.old) (R.faults report.new)) }
     ensures usage { result ≡ USAGE → form_of (map string_bytes words.now) ≡ None }

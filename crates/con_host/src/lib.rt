@@ -18,8 +18,6 @@ pub mod framing;
 pub mod host;
 pub mod playing;
 pub mod reading;
-#[cfg(test)]
-mod tests;
 pub mod text;
 pub mod typing;
 pub mod words;

@@ -2,7 +2,7 @@
 
 ghost use Rattle.std.specs.Prelude.{◌≡◌, ℕ, ◌+◌, ◌<◌, ◌≤◌, ◌⊎◌, List, [], ◌++◌, length, take, Option, Some, None, IfSome, IsTrue};
 ghost use Rattle.con_outside.specs.Outside.{Rose, then_left, then_written};
-ghost use Rattle.con_host.specs.Playing.{Played, is_play_status};
+ghost use Rattle.con_host.specs.Playing.{Played};
 
 use crate::ending::{DONE, LINK, MEMORY, REPORT, TOO_LONG, finish};
 use crate::reading::{Listener, Reading, read_link};
@@ -33,7 +33,7 @@ impl Listener for Terminal {
 
 // The dump of a terminal, as bytes.
 fn dumped(alloc: Global, terminal: &Terminal) -> Result<Vec<u8>, OutOfMemory>
-    ensures { IfOk result (λ bytes. bytes.items ≡ dump_bytes terminal.now.screen) }
+    ensures { IfOk result (λ bytes. bytes.items ≡ dump_bytes terminal.now.page) }
 {
     let units = terminal.dump()?;
     encoded(alloc, units.as_slice())
@@ -46,7 +46,6 @@ ghost use Rattle.con_host.specs.Playing.{dump_bytes};
 pub fn host_play<I: Source, R: Sink>(alloc: Global, size: Size, link: &mut I, report: &mut R) -> u8
     requires some { (0 < size.w) × (0 < size.h) }
     requires few { (size.w ≤ 512) × (size.h ≤ 256) }
-    ensures status { IsTrue (is_play_status result) }
     ensures outcome { (text : List ℕ) × (I.left link.old ≡ then_left text (I.left link.new))
         × Played result size text (I.left link.new) (R.written report.old) (R.written report.new) (Rose (R.faults report.old) (R.faults report.new)) }
     ensures link_failed { result ≡ LINK → Rose (I.faults link.old) (I.faults link.new) }

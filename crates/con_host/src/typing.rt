@@ -5,7 +5,7 @@ ghost use Rattle.con_outside.specs.Outside.{Rose, then_left, then_written};
 ghost use Rattle.con_screens.specs.Buffers.{Buffers, AreBuffers, with_buffer};
 ghost use Rattle.con_screens.specs.Buffer.{buffer_written};
 ghost use Rattle.con_screen.specs.Told.{nothing_told};
-ghost use Rattle.con_host.specs.Typing.{Typing, opening, ended, ShowsBuffers, Typed, is_type_status};
+ghost use Rattle.con_host.specs.Typing.{Typing, opening, ended, ShowsBuffers, PrintsAtMost, Typed};
 
 use crate::decoding::decode;
 use crate::ending::{DONE, LINK, MEMORY, TERMINAL, TOO_LONG, finish};
@@ -76,7 +76,8 @@ fn written(screens: &mut Screens, answers: &mut Answers, units: &[u16]) -> Resul
 fn framed(alloc: Global, screens: &Screens) -> Result<Vec<u8>, OutOfMemory>
     requires buffers { AreBuffers screens.now }
     requires sides { (screens.now.w ≡ 80) × (screens.now.h ≡ 25) }
-    ensures { IfOk result (λ bytes. ShowsBuffers bytes.items screens.now) }
+    ensures shows { IfOk result (λ bytes. ShowsBuffers bytes.items screens.now) }
+    ensures few { IfOk result (λ bytes. PrintsAtMost 2000 bytes.items) }
 {
     let Ok(rows) = Vec::with_capacity(alloc, 2000) else {
         return Err(OutOfMemory);
@@ -105,7 +106,8 @@ impl Typist {
 
     /// Ends the text, with one U+FFFD for a character that is cut, and gives the frame that shows it.
     pub fn end(&mut self, alloc: Global) -> Result<Vec<u8>, OutOfMemory>
-        ensures { IfOk result (λ bytes. ShowsBuffers bytes.items (ended self.old)) }
+        ensures shows { IfOk result (λ bytes. ShowsBuffers bytes.items (ended self.old)) }
+        ensures few { IfOk result (λ bytes. PrintsAtMost 2000 bytes.items) }
     {
         if self.bytes.held() > 0 {
             written(&mut self.screens, &mut self.answers, &[0xFFFD])?;
@@ -138,7 +140,6 @@ pub fn host_type<I: Source, O: Sink, R: Sink>(
     term: &mut O,
     report: &mut R,
 ) -> u8
-    ensures status { IsTrue (is_type_status result) }
     ensures outcome { (text : List ℕ) × (I.left link.old ≡ then_left text (I.left link.new))
         × Typed result text (I.left link.new) (O.written term.old) (O.written term.new) (R.written report.old) (R.written report.new) (Rose (R.faults report.old) (R.faults report.new)) }
     ensures link_failed { result ≡ LINK → Rose (I.faults link.old) (I.faults link.new) }

@@ -6,13 +6,20 @@ use con_outside::{StdSink, StdSource};
 use std::process::ExitCode;
 use std::{env, io};
 
-// The words after the program's name.
+// The words after the program's name. A word that is not UTF-8 stands in no form, and neither do no words at all: so where there is
+// one, there are none.
 fn words<R: env::Env + AllocGlobal>(rt: &R) -> io::Result<Vec<String>> {
     let mut words = Vec::new(rt.alloc());
-    for word in env::args(rt)?.skip(1) {
-        words.push(word)?;
+    match env::args(rt) {
+        Ok(args) => {
+            for word in args.skip(1) {
+                words.push(word)?;
+            }
+            Ok(words)
+        }
+        Err(error) if error.kind() == io::ErrorKind::InvalidData => Ok(words),
+        Err(error) => Err(error),
     }
-    Ok(words)
 }
 
 fn main(rt: HostRuntime) -> ExitCode {

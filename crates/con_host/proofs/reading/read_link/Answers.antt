@@ -29,4 +29,6 @@ pub returns-in-Err-hear-clause-taken : goal.returns-in-Err-hear-clause-taken
 returns-in-Err-hear-clause-taken g c =
     let before = c.loop-total.invariant.taken in
     let piece = take c.in-Ok.n c.read.new.buf in
-    (before.0 ++ piece, then_left-more before.0 piece _ _ _ before.1 c.in-Ok.ensures.taken, tt, λ not. absurd (not refl))
+    let long = length-more before.0 c.read.new.buf c.in-Ok.n c.loop-total.total before.3 c.in-Ok.ensures.bound in
+    let some = c.loop-total-test.true in
+    (before.0 ++ piece, then_left-more before.0 piece _ _ _ before.1 c.in-Ok.ensures.taken, omega (arith, long, some, c.in-Ok.ensures.bound), λ not. absurd (not refl))

@@ -1,0 +1,71 @@
+// Runs in memory.
+use con_host::console_host;
+use con_outside::{MemorySink, MemorySource};
+use con_units::Bytes;
+use std::alloc::Global;
+use std::test::Fail;
+
+/// What a run answered, wrote to the terminal and reported.
+#[derive(Drop)]
+pub struct Ran {
+    pub status: u8,
+    pub written: Bytes,
+    pub report: Bytes,
+}
+
+/// The call that fails, counted from 0, of the link, the terminal and the report; `u64::MAX` is none.
+#[derive(Clone, Copy)]
+pub struct Failing {
+    pub link: u64,
+    pub term: u64,
+    pub report: u64,
+}
+
+pub const SURE: Failing = Failing {
+    link: u64::MAX,
+    term: u64::MAX,
+    report: u64::MAX,
+};
+
+/// The most bytes that a sink takes at once.
+pub const MOST: usize = 64;
+
+fn sink(alloc: Global, fail: u64) -> Result<MemorySink, Fail> {
+    Ok(MemorySink {
+        written: Bytes(Vec::new(alloc)),
+        most: MOST,
+        fail: Vec::from_elem(alloc, fail, 1)?,
+        calls: 0,
+        faults: 0,
+    })
+}
+
+/// Runs the words over a link of these bytes.
+pub fn run(alloc: Global, words: &[&str], bytes: Vec<u8>, failing: Failing) -> Result<Ran, Fail> {
+    let mut list = Vec::new(alloc);
+    for word in words {
+        list.push(format!(in alloc; "{word}")?)?;
+    }
+    let mut link = MemorySource {
+        bytes: Bytes(bytes),
+        at: 0,
+        fail: Vec::from_elem(alloc, failing.link, 1)?,
+        calls: 0,
+        faults: 0,
+    };
+    let mut term = sink(alloc, failing.term)?;
+    let mut report = sink(alloc, failing.report)?;
+    let status = console_host(alloc, list.as_slice(), &mut link, &mut term, &mut report);
+    Ok(Ran {
+        status,
+        written: term.written,
+        report: report.written,
+    })
+}
+
+/// The dump of the frame that a text is shown by.
+pub fn shown(alloc: Global, text: Vec<u8>) -> Result<Bytes, Fail> {
+    let typed = run(alloc, &["type"], text, SURE)?;
+    let played = run(alloc, &["play", "80x25"], typed.written.0, SURE)?;
+    Ok(played.report)
+}
