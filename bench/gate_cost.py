@@ -1,0 +1,82 @@
+#!/usr/bin/env python3
+"""Runs a command, as `rt ci --anew`, and prints the processor seconds of each crate's checks: its proof, its tests, its edits.
+
+    bench/gate_cost.py rt ci --anew
+
+It looks twice a second at the processes below the command, by /proc, so up to half a second of each process is not counted. The last
+line has all that the command and its children took, by the system's own count."""
+import collections
+import os
+import resource
+import subprocess
+import sys
+import time
+
+TICKS = os.sysconf("SC_CLK_TCK")
+
+
+def processes():
+    """Each process's parent and the seconds that it took itself."""
+    found = {}
+    for name in os.listdir("/proc"):
+        if name.isdigit():
+            try:
+                with open(f"/proc/{name}/stat") as it:
+                    fields = it.read().rpartition(")")[2].split()
+            except OSError:
+                continue
+            found[int(name)] = int(fields[1]), (int(fields[11]) + int(fields[12])) / TICKS, fields[19]
+    return found
+
+
+def below(found, top):
+    """The processes below one."""
+    children = collections.defaultdict(list)
+    for pid, (parent, _, _) in found.items():
+        children[parent].append(pid)
+    todo, met = [top], []
+    while todo:
+        met.append(todo.pop())
+        todo += children[met[-1]]
+    return met
+
+
+def part_of(pid):
+    """The crate and the kind of check that a process works on."""
+    try:
+        with open(f"/proc/{pid}/cmdline", "rb") as it:
+            words = it.read().decode(errors="replace").split("\0")
+        folder = os.readlink(f"/proc/{pid}/cwd")
+    except OSError:
+        return None
+    if "--crate-name" not in words:
+        return None
+    crate = words[words.index("--crate-name") + 1]
+    if any("/rt-edit" in it for it in [folder, *words]):
+        return crate, "edits"
+    return crate, "tests" if "--test" in words else "proof"
+
+
+def main():
+    run, parts, took = subprocess.Popen(sys.argv[1:]), {}, {}
+    while run.poll() is None:
+        found = processes()
+        for pid in below(found, run.pid):
+            if pid in found:
+                one = pid, found[pid][2]
+                parts[one] = parts.get(one) or part_of(pid)
+                took[one] = found[pid][1]
+        time.sleep(0.5)
+    table = collections.defaultdict(collections.Counter)
+    for one, part in parts.items():
+        if part:
+            table[part[0]][part[1]] += took[one]
+    print(f"{'crate':14} {'proof':>7} {'tests':>7} {'edits':>7} {'all':>7}")
+    for crate, kinds in sorted(table.items(), key=lambda it: -sum(it[1].values())):
+        print(f"{crate:14} " + " ".join(f"{it:7.0f}" for it in [kinds["proof"], kinds["tests"], kinds["edits"], sum(kinds.values())]))
+    used = resource.getrusage(resource.RUSAGE_CHILDREN)
+    print(f"in all {used.ru_utime + used.ru_stime:.0f} processor seconds")
+    return run.returncode
+
+
+sys.exit(main())
