@@ -24,7 +24,7 @@ abbrev pub args_from : List Kind → List Item → Option (List Arg × List Item
 args_from [] ds = Some ([], ds)
 args_from (k ∷ ks) ds = option_and_then (λ a. option_map (λ p. (a ∷ p.0, p.1)) (args_from ks (others ds))) (first ds k)
 
-abbrev pub row_from : Option Row → List Item → Option (Call × List Item)
+abbrev pub row_from : {A : Type 0} → Option (Row A) → List Item → Option (A × List Item)
 row_from None ds = None
 row_from (Some r) ds = option_map (λ p. (r.make p.0, p.1)) (args_from r.kinds ds)
 
@@ -40,7 +40,7 @@ abbrev pub nothing_left : List Item → Bool
 nothing_left [] = true
 nothing_left (d ∷ ds) = false
 
--- a call with nothing after it
-abbrev pub whole : Option (Call × List Item) → Option Call
+-- what has nothing after it
+abbrev pub whole : {A : Type 0} → Option (A × List Item) → Option A
 whole None = None
 whole (Some p) = if nothing_left p.1 then Some p.0 else None

@@ -103,20 +103,21 @@ nth n [] = Number 0
 nth zero (a ∷ xs) = a
 nth (suc n) (a ∷ xs) = nth n xs
 
-pub record Row : Type 0 where
+-- a name, the kinds of the arguments in order, and what they make
+pub record Row (A : Type 0) : Type 0 where
   pub name : List ℕ
   pub kinds : List Kind
-  pub make : List Arg → Call
+  pub make : List Arg → A
 
-abbrev pub row : List ℕ → List Kind → (List Arg → Call) → Row
+abbrev pub row : {A : Type 0} → List ℕ → List Kind → (List Arg → A) → Row A
 row n ks f = record { name = n; kinds = ks; make = f }
 
 -- the row of a name in a list, or else another
-abbrev pub find : List ℕ → List Row → Option Row → Option Row
+abbrev pub find : {A : Type 0} → List ℕ → List (Row A) → Option (Row A) → Option (Row A)
 find n [] other = other
 find n (r ∷ rs) other = if bytes_eq n r.name then Some r else find n rs other
 
-abbrev pub processes_rows : List Row
+abbrev pub processes_rows : List (Row Call)
 processes_rows = row (codes "processes") ([]) (λ xs. call.Processes)
     ∷ row (codes "signal") (number ∷ number ∷ []) (λ xs. call.Signal (the_number (nth 0 xs)) (the_number (nth 1 xs)))
     ∷ row (codes "ignore") (flag ∷ []) (λ xs. call.Ignore (the_flag (nth 0 xs)))
@@ -124,10 +125,10 @@ processes_rows = row (codes "processes") ([]) (λ xs. call.Processes)
     ∷ row (codes "handler-remove") (number ∷ []) (λ xs. call.HandlerRemove (the_number (nth 0 xs)))
     ∷ []
 
-unfoldable pub row_of_processes : List ℕ → Option Row
+unfoldable pub row_of_processes : List ℕ → Option (Row Call)
 row_of_processes n = find n processes_rows None
 
-abbrev pub lines_rows : List Row
+abbrev pub lines_rows : List (Row Call)
 lines_rows = row (codes "peek") (number ∷ number ∷ []) (λ xs. call.Peek (the_number (nth 0 xs)) (the_number (nth 1 xs)))
     ∷ row (codes "write-input") (number ∷ records ∷ []) (λ xs. call.WriteInput (the_number (nth 0 xs)) (the_records (nth 1 xs)))
     ∷ row (codes "count") (number ∷ []) (λ xs. call.Count (the_number (nth 0 xs)))
@@ -142,10 +143,10 @@ lines_rows = row (codes "peek") (number ∷ number ∷ []) (λ xs. call.Peek (th
     ∷ row (codes "alias-list") (text ∷ []) (λ xs. call.AliasList (the_list (nth 0 xs)))
     ∷ []
 
-unfoldable pub row_of_lines : List ℕ → Option Row
+unfoldable pub row_of_lines : List ℕ → Option (Row Call)
 row_of_lines n = find n lines_rows (row_of_processes n)
 
-abbrev pub cells_rows : List Row
+abbrev pub cells_rows : List (Row Call)
 cells_rows = row (codes "write") (number ∷ text ∷ []) (λ xs. call.Write (the_number (nth 0 xs)) (the_list (nth 1 xs)))
     ∷ row (codes "rect-read") (number ∷ rect ∷ []) (λ xs. call.RectRead (the_number (nth 0 xs)) (the_rect (nth 1 xs)))
     ∷ row (codes "rect-write") (number ∷ rect ∷ text ∷ words ∷ []) (λ xs. call.RectWrite (the_number (nth 0 xs)) (the_rect (nth 1 xs)) (the_list (nth 2 xs)) (the_words (nth 3 xs)))
@@ -158,10 +159,10 @@ cells_rows = row (codes "write") (number ∷ text ∷ []) (λ xs. call.Write (th
     ∷ row (codes "scroll") (number ∷ rect ∷ clip ∷ signed ∷ signed ∷ unit ∷ unit ∷ []) (λ xs. call.Scroll (the_number (nth 0 xs)) (the_rect (nth 1 xs)) (the_clip (nth 2 xs)) (the_signed (nth 3 xs)) (the_signed (nth 4 xs)) (the_number (nth 5 xs)) (the_number (nth 6 xs)))
     ∷ []
 
-unfoldable pub row_of_cells : List ℕ → Option Row
+unfoldable pub row_of_cells : List ℕ → Option (Row Call)
 row_of_cells n = find n cells_rows (row_of_lines n)
 
-abbrev pub screens_rows : List Row
+abbrev pub screens_rows : List (Row Call)
 screens_rows = row (codes "info") (number ∷ []) (λ xs. call.Info (the_number (nth 0 xs)))
     ∷ row (codes "set-size") (number ∷ number ∷ number ∷ []) (λ xs. call.SetSize (the_number (nth 0 xs)) (the_number (nth 1 xs)) (the_number (nth 2 xs)))
     ∷ row (codes "set-cursor") (number ∷ signed ∷ signed ∷ []) (λ xs. call.SetCursor (the_number (nth 0 xs)) (the_signed (nth 1 xs)) (the_signed (nth 2 xs)))
@@ -173,10 +174,10 @@ screens_rows = row (codes "info") (number ∷ []) (λ xs. call.Info (the_number 
     ∷ row (codes "set-title") (text ∷ []) (λ xs. call.SetTitle (the_list (nth 0 xs)))
     ∷ []
 
-unfoldable pub row_of_screens : List ℕ → Option Row
+unfoldable pub row_of_screens : List ℕ → Option (Row Call)
 row_of_screens n = find n screens_rows (row_of_cells n)
 
-abbrev pub handles_rows : List Row
+abbrev pub handles_rows : List (Row Call)
 handles_rows = row (codes "buffer-create") (number ∷ []) (λ xs. call.BufferCreate (the_number (nth 0 xs)))
     ∷ row (codes "open-out") (number ∷ []) (λ xs. call.OpenOut (the_number (nth 0 xs)))
     ∷ row (codes "open-in") (number ∷ []) (λ xs. call.OpenIn (the_number (nth 0 xs)))
@@ -187,14 +188,14 @@ handles_rows = row (codes "buffer-create") (number ∷ []) (λ xs. call.BufferCr
     ∷ row (codes "set-mode") (number ∷ number ∷ []) (λ xs. call.SetMode (the_number (nth 0 xs)) (the_number (nth 1 xs)))
     ∷ []
 
-unfoldable pub row_of_handles : List ℕ → Option Row
+unfoldable pub row_of_handles : List ℕ → Option (Row Call)
 row_of_handles n = find n handles_rows (row_of_screens n)
 
 -- the row of a name
-abbrev pub row_of : List ℕ → Option Row
+abbrev pub row_of : List ℕ → Option (Row Call)
 row_of n = row_of_handles n
 
 -- what a row tells of a call
-abbrev pub Tells : Call → Option Row → Type 0
+abbrev pub Tells : Call → Option (Row Call) → Type 0
 Tells c None = ⊥
 Tells c (Some r) = (r.kinds ≡ map kind_of (args_of c)) × (r.make (args_of c) ≡ c)

@@ -3,7 +3,10 @@ use Rattle.std.proofs.Common.{◌≡◌, refl, ap, sym, ◌∙◌, List, [], ◌
 use Rattle.std.specs.Prelude.{option_map}
 use Rattle.con_events.specs.declared.call.Call.{Call}
 use Rattle.con_events.specs.declared.call.Call.TheVariants as call
+use Rattle.con_records.specs.declared.record.Record.{Record}
+use Rattle.con_records.specs.declared.record.Record.TheVariants as record_of
 use Rattle.con_events.specs.Arg.{Arg, kind_of}
+use Rattle.con_events.specs.RecordTable.{name_of_record, args_of_record, row_of_record}
 use Rattle.con_events.specs.Table.{name_of, args_of, Row, row_of, Tells, row_of_handles, row_of_screens, row_of_cells, row_of_lines, row_of_processes}
 use Rattle.con_events.specs.Reading.{Item, args_from, row_from, call_from}
 
@@ -64,9 +67,30 @@ pub args_back : (show : Arg → Item) (xs : List Arg) → AllRead show xs → ar
 args_back show [] p = refl
 args_back show (a ∷ xs) p = rw (p.0, args_back show xs p.1) refl
 
-row_back : (show : Arg → Item) (c : Call) (o : Option Row) → Tells c o → AllRead show (args_of c) → row_from o (map show (args_of c)) ≡ Some (c, [])
-row_back show c None t p = absurd t
-row_back show c (Some r) t p = rw (t.0, args_back show (args_of c) p, t.1) refl
+-- a row that has these arguments' kinds makes this of them
+abbrev pub Makes : {A : Type 0} → A → List Arg → Option (Row A) → Type 0
+Makes a xs None = ⊥
+Makes a xs (Some r) = (r.kinds ≡ map kind_of xs) × (r.make xs ≡ a)
+
+row_back : {A : Type 0} (show : Arg → Item) (a : A) (xs : List Arg) (o : Option (Row A)) → Makes a xs o → AllRead show xs → row_from o (map show xs) ≡ Some (a, [])
+row_back show a xs None t p = absurd t
+row_back show a xs (Some r) t p = rw (t.0, args_back show xs p, t.1) refl
+
+tells_makes : (c : Call) (o : Option (Row Call)) → Tells c o → Makes c (args_of c) o
+tells_makes c None t = t
+tells_makes c (Some r) t = t
 
 pub call_back : (show : Arg → Item) (c : Call) → AllRead show (args_of c) → call_from (name_of c) (map show (args_of c)) ≡ Some (c, [])
-call_back show c p = row_back show c (row_of (name_of c)) (row_tells c) p
+call_back show c p = row_back show c (args_of c) (row_of (name_of c)) (tells_makes c (row_of (name_of c)) (row_tells c)) p
+
+-- so is a record
+record_makes : (r : Record) → Makes r (args_of_record r) (row_of_record (name_of_record r))
+unfolding row_of_record
+record_makes (record_of.Key k) = (refl, refl)
+record_makes (record_of.Mouse m) = (refl, refl)
+record_makes (record_of.Size s) = (refl, refl)
+record_makes (record_of.Menu n) = (refl, refl)
+record_makes (record_of.Focus b) = (refl, refl)
+
+pub record_back : (show : Arg → Item) (r : Record) → AllRead show (args_of_record r) → row_from (row_of_record (name_of_record r)) (map show (args_of_record r)) ≡ Some (r, [])
+record_back show r p = row_back show r (args_of_record r) (row_of_record (name_of_record r)) (record_makes r) p

@@ -11,7 +11,8 @@
 //!
 //! Calls have a table (`specs/Table`): each call's name, and the kinds of its arguments in order. [`read_call`] reads a call from
 //! whatever gives [`Arguments`], by a name; [`name`] and [`tell`] show one to whatever [`Shows`] arguments. So a document and a
-//! report have one table, and what is told is what is read.
+//! report have one table, and what is told is what is read. Input records have a table too (`specs/RecordTable`), read by [`read_record`] and shown by
+//! [`tell_record`].
 //!
 //! Nothing is promised here of what an event does.
 #![tactic(auto)]
@@ -23,6 +24,7 @@ pub mod end;
 pub mod entry;
 pub mod event;
 pub mod reading;
+pub mod recording;
 pub mod reply;
 pub mod script;
 pub mod session;
@@ -35,6 +37,7 @@ pub use end::End;
 pub use entry::Entry;
 pub use event::{Event, Wanted};
 pub use reading::{read_call, whole_call};
+pub use recording::{read_record, record_name, tell_record, whole_record};
 pub use reply::{Lines, Numbers, Reply};
 pub use script::{Script, Scripts, Step, Steps};
 pub use session::Session;
