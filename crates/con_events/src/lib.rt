@@ -7,7 +7,8 @@
 //! A [`Session`] is what clients will do: a window's size and a [`Script`] for each client, within stated limits.
 //! [`End`] says why a session ended.
 //!
-//! [`Numbers`], [`Lines`], [`Steps`] and [`Scripts`] are vectors that contracts see as lists.
+//! [`Numbers`], [`Lines`], [`Steps`], [`Scripts`], [`Entries`], [`Replies`] and [`Ends`] are vectors that contracts see as
+//! lists.
 //!
 //! Calls have a table (`specs/Table`): each call's name, and the kinds of its arguments in order. [`read_call`] reads a call from
 //! whatever gives [`Arguments`], by a name; [`name`] and [`tell`] show one to whatever [`Shows`] arguments. So a document and a
@@ -23,6 +24,7 @@ pub mod call;
 pub mod end;
 pub mod entry;
 pub mod event;
+pub mod history;
 pub mod reading;
 pub mod recording;
 pub mod reply;
@@ -36,6 +38,7 @@ pub use call::{Call, Words};
 pub use end::End;
 pub use entry::Entry;
 pub use event::{Event, Wanted};
+pub use history::{Ends, Entries, Replies};
 pub use reading::{read_call, whole_call};
 pub use recording::{read_record, record_name, tell_record, whole_record};
 pub use reply::{Lines, Numbers, Reply};
