@@ -1,8 +1,9 @@
 -- Aliases by program, in order of insertion.
-use Rattle.std.specs.Prelude.{ℕ, ◌+◌, Bool, not, nat_eq, nat_lt, nat_le, ◌==◌, ◌||◌, ◌&&◌, List, [], ◌∷◌, ◌++◌, Option, Some, None, is_some, Result, Ok, Err, length, if◌then◌else◌}
+use Rattle.std.specs.Prelude.{ℕ, ◌+◌, Bool, not, nat_lt, nat_le, ◌==◌, ◌||◌, ◌&&◌, List, [], ◌∷◌, ◌++◌, Option, Some, None, is_some, Result, Ok, Err, length, if◌then◌else◌}
 use Rattle.std.specs.List.{list_any}
 use Rattle.std.specs.Cmp.Lexicographic.{pointwise}
 use Rattle.con_units.specs.Stored.{is_control}
+use Rattle.con_units.specs.Units.{same_units, changed_where}
 use Rattle.con_units.specs.declared.code.Code.{Code}
 use Rattle.con_units.specs.declared.code.Code.TheVariants as code
 
@@ -15,10 +16,6 @@ pub record Entry : Type 0 where
 pub record AliasList : Type 0 where
   pub program : List ℕ
   pub entries : List Entry
-
--- texts are compared exactly
-abbrev pub same_units : List ℕ → List ℕ → Bool
-same_units = pointwise nat_eq
 
 -- a letter of ASCII made small
 abbrev pub folded_unit : ℕ → ℕ
@@ -68,8 +65,7 @@ is_known programs program = list_any (λ l. same_units l.program program) progra
 
 -- a program's aliases, changed
 abbrev pub changed_in : (List Entry → List Entry) → List AliasList → List ℕ → List AliasList
-changed_in f [] program = []
-changed_in f (l ∷ ls) program = if same_units l.program program then (record l { entries = f l.entries }) ∷ ls else l ∷ changed_in f ls program
+changed_in f programs program = changed_where (λ l. same_units l.program program) (λ l. record l { entries = f l.entries }) programs
 
 abbrev pub is_text : ℕ → ℕ → List ℕ → Bool
 is_text least most text = nat_le least (length text) && nat_le (length text) most

@@ -6,7 +6,7 @@ ghost use Rattle.con_units.specs.Stored.{is_control};
 ghost use Rattle.std.specs.Option.{option_map};
 ghost use Rattle.con_alias.specs.Aliases.{Entry, entries_in, is_text, has_control, is_bad, is_no_source, added, add_answer, alias_at, removed, remove_answer};
 ghost use Rattle.con_alias.specs.Room.{room_for, has_room};
-ghost use Rattle.con_alias.specs.Expansion.{expansion};
+ghost use Rattle.con_alias.specs.Expansion.{expansion, lines_of};
 
 use crate::alias::{Alias, Target};
 use crate::expand::{append, behind_word, fits, spell, word};
@@ -53,7 +53,8 @@ fn is_length(text: &Units, most: usize) -> bool
     1 <= text.len() && text.len() <= most
 }
 
-fn is_any_control(text: &[u16]) -> bool
+/// Whether a text has a control: a unit of 0x00 to 0x1F or 0x7F to 0x9F.
+pub fn has_control(text: &[u16]) -> bool
     ensures { result ≡ has_control text.now }
 {
     text.iter()
@@ -76,8 +77,8 @@ fn refused(program: &Units, source: &Units, target: &Units) -> bool
         || !is_length(source, SOURCE_UNITS)
         || !is_length(target, TARGET_UNITS)
         || is_any_space(source.as_slice())
-        || is_any_control(source.as_slice())
-        || is_any_control(target.as_slice())
+        || has_control(source.as_slice())
+        || has_control(target.as_slice())
 }
 
 // Whether a source is one that no alias can have.
@@ -92,6 +93,23 @@ fn answer(ok: bool, code: Code) -> Result<(), Code>
     ensures { result ≡ (if ok then Ok tt else Err code) }
 {
     if ok { Ok(()) } else { Err(code) }
+}
+
+// Writes the lines that a target stands for, if they have at most 4,096 units without their ends, and says whether they do.
+fn spell_lines(target: &Target, rest: &[u16], out: &mut Vec<u16>) -> bool
+    requires empty { out.old.items ≡ [] }
+    requires spare { 5122 ≤ vec_capacity out.old }
+    ensures lines { out.new.items ≡ unwrap_or (lines_of target.now rest.now) [] }
+    ensures answer { result ≡ is_some (lines_of target.now rest.now) }
+    ensures room { vec_capacity out.old ≤ vec_capacity out.new }
+{
+    let target = target.units().as_slice();
+    if !fits(target, rest) {
+        return false;
+    }
+    spell(target, rest, out);
+    append(out, &[13, 10]);
+    true
 }
 
 impl Aliases {
@@ -287,17 +305,8 @@ impl Aliases {
         ensures answer { result ≡ is_some (expansion self.now.programs program.now line.now) }
         ensures room { vec_capacity out.old ≤ vec_capacity out.new }
     {
-        let rest = behind_word(line);
         match self.find(program, word(line)) {
-            Some(target) => {
-                let target = target.units().as_slice();
-                if fits(target, rest) {
-                    spell(target, rest, out);
-                    append(out, &[13, 10]);
-                    return true;
-                }
-                false
-            }
+            Some(target) => spell_lines(target, behind_word(line), out),
             None => false,
         }
     }

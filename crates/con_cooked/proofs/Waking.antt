@@ -5,7 +5,8 @@ use Rattle.std.proofs.lemmas.Bool.Decides.{nat_tests}
 use Rattle.std.proofs.Math.Nat.{zero-div}
 use Rattle.std.proofs.lemmas.List.Sums.{fold-append}
 use Rattle.con_records.specs.declared.record.Record.{Record}
-use Rattle.con_line.specs.Line.{LineText, first_difference}
+use Rattle.con_units.specs.Units.{first_difference}
+use Rattle.con_line.specs.Line.{LineText}
 use Rattle.con_history.specs.Histories.{LineHistories, added_to}
 use Rattle.con_cooked.specs.Keys.{key_of}
 use Rattle.con_cooked.specs.Mask.{has_bit, is_masked, is_down, unit_of, waking_unit}

@@ -1,7 +1,8 @@
 -- A line read: its line after all presses, what each press answers, and how it ends.
 use Rattle.std.specs.Prelude.{ℕ, ◌+◌, ◌-◌, Bool, true, false, ◌==◌, List, [], ◌∷◌, ◌++◌, Option, Some, None, length, take, drop, fold, min, slice_index_or, unwrap_or, if◌then◌else◌}
+use Rattle.con_units.specs.Units.{first_difference}
 use Rattle.con_records.specs.declared.record.Record.{Record}
-use Rattle.con_line.specs.Line.{LineText, pressed as line_pressed, first_difference}
+use Rattle.con_line.specs.Line.{LineText, pressed as line_pressed}
 use Rattle.con_line.specs.declared.press.Press.{Press}
 use Rattle.con_line.specs.declared.press.Press.TheVariants as press
 use Rattle.con_history.specs.Histories.{LineHistories, found, lines_of, added_to}

@@ -1,7 +1,8 @@
 //! The read.
-ghost use Rattle.std.specs.Prelude.{◌≡◌, ℕ, ◌+◌, ◌-◌, ◌≤◌, ◌==◌, List, [], ◌∷◌, ◌++◌, Bool, not, length, take, drop, bit_and, vec_len, vec_capacity, IfOk, if◌then◌else◌};
+ghost use Rattle.std.specs.Prelude.{◌≡◌, ℕ, ◌+◌, ◌-◌, ◌≤◌, ◌==◌, List, [], ◌∷◌, ◌++◌, Bool, false, not, length, take, drop, bit_and, vec_len, vec_capacity, IfOk, if◌then◌else◌};
 ghost use Rattle.con_line.specs.Line.{LineText};
 ghost use Rattle.con_history.specs.Histories.{lines_of};
+ghost use Rattle.con_alias.specs.Aliases.{has_control};
 ghost use Rattle.con_cooked.specs.Cooked.{Reading, Moment, line_of, is_return, after_press, progress_of, answer_of, histories_after, split_by, lines_for};
 
 use crate::keys::{LineKey, is_return, read_key};
@@ -106,8 +107,8 @@ fn expand(out: &mut Vec<u16>, aliases: &Aliases, program: &Units, text: &[u16])
 }
 
 impl Cooked {
-    /// A line read of a program, by the read's input mode: the line begins with this text, of at most 1,024 units, and its caret
-    /// at the end. `mask` has a bit for each control, 1 to 31, that wakes the read. All memory up to the read's end is taken here.
+    /// A line read of a program, by the read's input mode: the line begins with this text, of at most 1,024 units and without
+    /// a control (`has_control` of con_alias tells), and its caret at the end. `mask` has a bit for each control, 1 to 31, that wakes the read. All memory up to the read's end is taken here.
     pub fn begin(
         alloc: Global,
         program: Units,
@@ -115,7 +116,8 @@ impl Cooked {
         initial: &[u16],
         mask: u32,
     ) -> Result<Cooked, OutOfMemory>
-        requires { length initial.now ≤ 1024 }
+        requires few { length initial.now ≤ 1024 }
+        requires plain { has_control initial.now ≡ false }
         ensures { IfOk result (λ r. r ≡ record { program = program; insert = not (bit_and mode 0x20 == 0); initial = initial.now; mask = mask; presses = [] }) }
     {
         let insert = mode & INSERT_MODE != 0;

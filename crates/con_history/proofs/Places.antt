@@ -3,7 +3,8 @@ use Rattle.std.proofs.Common.{◌≡◌, ℕ, suc, ◌+◌, ◌-◌, ◌<◌, �
 use Rattle.std.specs.List.{position_or_len, starts_with}
 use Rattle.std.proofs.lemmas.Bool.{ltb-false}
 use Rattle.std.proofs.lemmas.List.Sums.{prefix_len-le-length}
-use Rattle.con_history.specs.Histories.{ProgramLines, same_units, place_of, lines_in, changed_in, last_that_begins}
+use Rattle.con_units.specs.Units.{same_units}
+use Rattle.con_history.specs.Histories.{ProgramLines, place_of, lines_in, changed_in, last_that_begins}
 
 found_by : (b : Bool) (n k : ℕ) → Some k ≡ cond b (Some n) None → k ≡ n
 found_by true n k is = cc

@@ -1,7 +1,7 @@
 -- Line histories: for each program the lines that were typed, oldest first, and the programs in order of use.
 use Rattle.std.specs.Prelude.{ℕ, zero, suc, ◌+◌, ◌-◌, ◌≤◌, Bool, not, nat_eq, nat_lt, ◌==◌, ◌||◌, List, [], ◌∷◌, ◌++◌, Option, Some, None, length, take, drop, remove, filter, map, min, replicate, slice_index_or, if◌then◌else◌}
 use Rattle.std.specs.List.{starts_with, position_or_len, list_any}
-use Rattle.std.specs.Cmp.Lexicographic.{pointwise}
+use Rattle.con_units.specs.Units.{same_units, changed_where}
 use Rattle.con_history.specs.declared.info.HistoryInfo.{HistoryInfo}
 
 -- a program's lines, oldest first, and how many there are at most
@@ -18,10 +18,6 @@ pub record LineHistories : Type 0 where
 -- every line has at most 1,024 units
 abbrev pub IsShort : List ℕ → Type 0
 IsShort line = length line ≤ 1024
-
--- texts are compared exactly
-abbrev pub same_units : List ℕ → List ℕ → Bool
-same_units = pointwise nat_eq
 
 -- the last n of a list
 abbrev pub newest : {X : Type 0} → ℕ → List X → List X
@@ -72,8 +68,7 @@ lines_of s program = lines_in s.used program
 
 -- a program's history, changed
 abbrev pub changed_in : (ProgramLines → ProgramLines) → List ProgramLines → List ℕ → List ProgramLines
-changed_in f [] program = []
-changed_in f (h ∷ hs) program = if same_units h.program program then f h ∷ hs else h ∷ changed_in f hs program
+changed_in f used program = changed_where (λ h. same_units h.program program) f used
 
 -- a line more
 abbrev pub added_to : LineHistories → List ℕ → List ℕ → LineHistories

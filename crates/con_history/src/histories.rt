@@ -1,7 +1,8 @@
 //! Line histories by program.
 ghost use Rattle.std.specs.Prelude.{◌≡◌, ℕ, ◌≤◌, ◌<◌, ◌-◌, ◌+◌, ◌==◌, ◌↔◌, List, [], ◌∷◌, ◌++◌, All, MatchOption, not, position, length, take, drop, map, replicate, slice_index_or, IfOk, IfErr, IsErr, IsTrue, OnErr, Ok, Err, if◌then◌else◌, vec_len, vec_capacity};
 ghost use Rattle.std.specs.Bool.{OnFalse};
-ghost use Rattle.con_history.specs.Histories.{LineHistories, ProgramLines, IsShort, newest, shortened, found, place_of, lines_in, lines_of, changed_in, added, added_to, cleared, idle_place, is_busy, same_units, can_use, used_by, room_for_use, is_refused, configured, room_for_configure};
+ghost use Rattle.con_units.specs.Units.{same_units};
+ghost use Rattle.con_history.specs.Histories.{LineHistories, ProgramLines, IsShort, newest, shortened, found, place_of, lines_in, lines_of, changed_in, added, added_to, cleared, idle_place, is_busy, can_use, used_by, room_for_use, is_refused, configured, room_for_configure};
 
 use crate::history::History;
 use crate::info::HistoryInfo;
@@ -78,6 +79,29 @@ fn history_of<'a>(used: &'a [History], program: &Units) -> Option<&'a History>
         Some(&used[known])
     } else {
         None
+    }
+}
+
+// A line more in a program's history.
+fn add_in(used: &mut [History], program: &Units, line: Units, no_duplicates: bool)
+    requires { length line ≤ 1024 }
+    ensures { used.new ≡ changed_in (λ h. record h { lines = added no_duplicates h.limit h.lines line }) used.old program.now }
+{
+    let known = place(used, program);
+    if known < used.len() {
+        let history = &mut used[known];
+        history.add(line, no_duplicates);
+    }
+}
+
+// No line in a program's history.
+fn clear_in(used: &mut [History], program: &Units)
+    ensures { used.new ≡ changed_in (λ h. record h { lines = [] }) used.old program.now }
+{
+    let known = place(used, program);
+    if known < used.len() {
+        let history = &mut used[known];
+        history.clear();
     }
 }
 
@@ -198,10 +222,7 @@ impl Histories {
         ensures { self.new ≡ added_to self.old program.now line }
     {
         let no_duplicates = self.info.flag == 1;
-        let known = place(&self.used, program);
-        if known < self.used.len() {
-            self.used[known].add(line, no_duplicates);
-        }
+        add_in(self.used.as_mut_slice(), program, line, no_duplicates);
     }
 
     /// The first line of a program's history that begins with these units, going from before `from` down to the
@@ -255,10 +276,7 @@ impl Histories {
     pub fn clear(&mut self, program: &Units)
         ensures { self.new ≡ cleared self.old program.now }
     {
-        let known = place(&self.used, program);
-        if known < self.used.len() {
-            self.used[known].clear();
-        }
+        clear_in(self.used.as_mut_slice(), program);
     }
 }
 

@@ -1,7 +1,8 @@
 //! The lines of one program.
 ghost use Rattle.std.specs.Prelude.{◌≡◌, ℕ, ◌≤◌, ◌<◌, ◌-◌, List, [], ◌∷◌, ◌++◌, Option, Some, None, length, take, drop, slice_index_or, IfOk, if◌then◌else◌, nat_eq};
 ghost use Rattle.std.specs.List.{starts_with};
-ghost use Rattle.con_history.specs.Histories.{ProgramLines, newest, without, same_units, added, shortened, last_that_begins, found, is_busy};
+ghost use Rattle.con_units.specs.Units.{same_units};
+ghost use Rattle.con_history.specs.Histories.{ProgramLines, newest, without, added, shortened, last_that_begins, found, is_busy};
 
 use circular_buffer::HeapCircularBuffer;
 use con_units::{OutOfMemory, Units};

@@ -1,6 +1,7 @@
 -- The text of an edited line, and what each key does to it.
-use Rattle.std.specs.Prelude.{ℕ, zero, suc, ◌+◌, ◌-◌, ◌≤◌, Bool, not, nat_eq, nat_lt, ◌==◌, ◌&&◌, List, [], ◌++◌, length, take, drop, insert, remove, slice_set, slice_index, min, if◌then◌else◌}
-use Rattle.std.specs.List.{prefix_len, common_prefix_len}
+use Rattle.std.specs.Prelude.{ℕ, zero, suc, ◌+◌, ◌-◌, ◌≤◌, Bool, not, nat_lt, ◌==◌, ◌&&◌, List, [], ◌++◌, length, take, drop, insert, remove, slice_set, slice_index, min, if◌then◌else◌}
+use Rattle.std.specs.List.{prefix_len}
+use Rattle.con_units.specs.Units.{first_difference}
 use Rattle.con_line.specs.declared.press.Press.{Press}
 use Rattle.con_line.specs.declared.press.Press.TheVariants as key
 use Rattle.con_line.specs.declared.edit.Edit.{Edit}
@@ -71,10 +72,6 @@ pressed l key.Recall recalled = recalled_as l recalled
 pressed l key.RestOfLast recalled = completed_by l recalled
 pressed l key.Match recalled = matched_as l recalled
 pressed l key.Nothing recalled = l
-
--- the first place at which two texts differ
-abbrev pub first_difference : List ℕ → List ℕ → ℕ
-first_difference = common_prefix_len nat_eq
 
 -- what changed between two texts
 abbrev pub edit_between : List ℕ → List ℕ → Edit

@@ -1,6 +1,6 @@
 //! Who is served, in which order, and with which answer.
 use crate::made::{key_down, typed, units};
-use con_alias::Aliases;
+use con_alias::{Aliases, has_control};
 use con_cooked::{Cooked, Echo};
 use con_history::Histories;
 use con_readers::{Answer, OpenRead, Readers, Step, WantsRecords, WantsUnits};
@@ -73,8 +73,8 @@ fn has_failed(console: &Console, process: u8, wanted: Code) -> bool {
 }
 
 fn line(alloc: Global, initial: &[u16], mask: u32) -> Result<OpenRead, Fail> {
-    if initial.len() > 1024 {
-        return Err("too long".into());
+    if initial.len() > 1024 || has_control(initial) {
+        return Err("no initial text".into());
     }
     Ok(OpenRead::Line(Cooked::begin(alloc, units(alloc, b"sh")?, 0x0027, initial, mask)?))
 }

@@ -2,7 +2,7 @@
 use crate::aliases::add_now;
 use crate::histories::of_two;
 use crate::made::{key_down, typed, units};
-use con_alias::Aliases;
+use con_alias::{Aliases, has_control};
 use con_cooked::{Cooked, Echo, Progress};
 use con_history::Histories;
 use con_records::Record;
@@ -27,8 +27,8 @@ fn echo(offset: u16, end: u16, blanks: u16, caret: u16) -> Echo {
 // A read of the program `sh` with echo and insert mode.
 fn begin(alloc: Global, initial: &[u8], mask: u32) -> Result<Cooked, Fail> {
     let initial = units(alloc, initial)?;
-    if initial.len() > 1024 {
-        return Err("too long".into());
+    if initial.len() > 1024 || has_control(initial.as_slice()) {
+        return Err("no initial text".into());
     }
     Ok(Cooked::begin(
         alloc,
