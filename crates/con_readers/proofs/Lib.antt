@@ -10,3 +10,4 @@ pub mod Rest
 pub mod Answering
 pub mod Distinctness
 pub mod Echoes
+pub mod Telling

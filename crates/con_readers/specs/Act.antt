@@ -1,5 +1,5 @@
 -- What happened to a read in one step, with all that a screen needs to follow.
-use Rattle.std.specs.Prelude.{ℕ, Option, Some, None}
+use Rattle.std.specs.Prelude.{◌≡◌, ◌≤◌, ℕ, List, length, Option, Some, None}
 use Rattle.con_cooked.specs.declared.cooked.Cooked.{Cooked}
 use Rattle.con_cooked.specs.declared.progress.Echo.{Echo}
 use Rattle.con_readers.specs.declared.open.OpenRead.{OpenRead}
@@ -26,3 +26,21 @@ told (Some (typed p line line' echo)) = steps.Echo p echo
 told (Some (passed p)) = steps.Dropped p
 told (Some (ended p read len)) = steps.Finished p len
 told (Some (woke p line)) = steps.Woken p
+
+-- what happened in a step that a caller is told of
+abbrev pub IsOf : Step → Option Act → Type 0
+IsOf steps.Idle act = act ≡ None
+IsOf (steps.Started p) act = act ≡ Some (began p)
+IsOf (steps.Echo p echo) act = (old : Cooked) × (new : Cooked) × (act ≡ Some (typed p old new echo))
+IsOf (steps.Dropped p) act = act ≡ Some (passed p)
+IsOf (steps.Finished p len) act = (read : OpenRead) × (act ≡ Some (ended p read len))
+IsOf (steps.Woken p) act = (line : Cooked) × (act ≡ Some (woke p line))
+
+-- the places that an echo shows are those of a text, up to its end
+abbrev pub IsIn : Step → List ℕ → Type 0
+IsIn (steps.Echo p echo) text = (echo.offset ≤ echo.end) × (echo.end ≡ length text)
+IsIn steps.Idle text = Unit {0}
+IsIn (steps.Started p) text = Unit {0}
+IsIn (steps.Dropped p) text = Unit {0}
+IsIn (steps.Finished p len) text = Unit {0}
+IsIn (steps.Woken p) text = Unit {0}

@@ -183,7 +183,8 @@ impl OpenRead {
 
     /// The text so far of a line that is not done, and none for another read.
     pub fn text(&self) -> &[u16]
-        ensures { result.now ≡ text_in self.now }
+        ensures text { result.now ≡ text_in self.now }
+        ensures few { length result.now ≤ 1024 }
     {
         match self {
             OpenRead::Line(line) => line.text(),

@@ -1,7 +1,7 @@
 // The list of reads.
 ghost use Rattle.std.specs.Prelude.{◌≡◌, slice_index_or, ℕ, ◌+◌, ◌-◌, ◌<◌, ◌≤◌, List, [], ◌∷◌, ◌++◌, length, OnOk, OnErr, true, false, not, max, is_some, slice_get, Some, option_copied};
 ghost use Rattle.con_readers.specs.Lines.{line_text};
-ghost use Rattle.con_readers.specs.Act.{told, Act, typed};
+ghost use Rattle.con_readers.specs.Act.{told, Act, typed, IsOf, IsIn};
 ghost use Rattle.con_readers.specs.Steps.{is_idle};
 ghost use Rattle.con_readers.specs.Serving.{is_done};
 ghost use Rattle.con_readers.specs.Reads.{Pumped, Queued, begun, settled, settled_after, work, pumped, done_upto, is_at_rest, head_text, is_of, is_open, has_done, has_undone, place_of, is_open_line, without, answer_in, answered_in, all_closed, line_aborted};
@@ -12,6 +12,7 @@ use crate::answer::Answer;
 use crate::open::{Open, OpenRead};
 use crate::step::Step;
 use con_alias::Aliases;
+use con_cooked::laws::a_common_front_is_not_drawn;
 use con_history::Histories;
 use con_records::Records;
 use con_units::{Code, OutOfMemory};
@@ -119,7 +120,8 @@ fn close_reads(reads: &mut [Open])
 }
 
 fn first_text(reads: &[Open]) -> &[u16]
-    ensures { result.now ≡ head_text reads.now }
+    ensures text { result.now ≡ head_text reads.now }
+    ensures few { length result.now ≤ 1024 }
 {
     let i = first_open(reads);
     if i < reads.len() {
@@ -169,6 +171,21 @@ impl Readers {
         self.spare -= 1;
     }
 
+    // One step, and what it tells.
+    fn step(&mut self, records: &mut Records, histories: &mut Histories, aliases: &Aliases) -> Step
+        ensures reads { self.new ≡ record self.old { reads = (pumped aliases.now.programs self.old.reads records.old.items histories.old).reads } }
+        ensures records { records.new ≡ record records.old { items = (pumped aliases.now.programs self.old.reads records.old.items histories.old).records } }
+        ensures histories { histories.new ≡ (pumped aliases.now.programs self.old.reads records.old.items histories.old).histories }
+        ensures step { result ≡ told (pumped aliases.now.programs self.old.reads records.old.items histories.old).act }
+        ensures idle { is_idle result ≡ not (is_some (pumped aliases.now.programs self.old.reads records.old.items histories.old).act) }
+        ensures rest { is_idle result ≡ is_at_rest self.old.reads records.old.items }
+        ensures tells { IsOf result (pumped aliases.now.programs self.old.reads records.old.items histories.old).act }
+        ensures inside { IsIn result (head_text (pumped aliases.now.programs self.old.reads records.old.items histories.old).reads) }
+    {
+        a_common_front_is_not_drawn();
+        pump_reads(self.reads.as_mut_slice(), records, histories, aliases)
+    }
+
     /// One step of the first read that is not done. `Idle`: there is none, or it has started and no record is left.
     pub fn pump(
         &mut self,
@@ -187,16 +204,21 @@ impl Readers {
         ensures settles { settled aliases.now.programs self.old.reads records.old.items histories.old ≡ settled_after aliases.now.programs (pumped aliases.now.programs self.old.reads records.old.items histories.old) }
         ensures less { is_some (pumped aliases.now.programs self.old.reads records.old.items histories.old).act ≡ true → work (pumped aliases.now.programs self.old.reads records.old.items histories.old).reads (pumped aliases.now.programs self.old.reads records.old.items histories.old).records < work self.old.reads records.old.items }
 
+        // what a caller is told of the step, and what is to be shown of the first read's text
+        ensures tells { IsOf result (pumped aliases.now.programs self.old.reads records.old.items histories.old).act }
+        ensures inside { IsIn result (head_text (pumped aliases.now.programs self.old.reads records.old.items histories.old).reads) }
+
         // what is to be shown is what differs between the line before and after, and is of the first read's text
         ensures echo { (p : ℕ) (old new : _) (echo : _) → (pumped aliases.now.programs self.old.reads records.old.items histories.old).act ≡ Some (typed p old new echo) → echo ≡ echo_between (line_of old).line (line_of new).line }
         ensures text { (p : ℕ) (old new : _) (echo : _) → (pumped aliases.now.programs self.old.reads records.old.items histories.old).act ≡ Some (typed p old new echo) → head_text (pumped aliases.now.programs self.old.reads records.old.items histories.old).reads ≡ line_text new }
     {
-        pump_reads(self.reads.as_mut_slice(), records, histories, aliases)
+        self.step(records, histories, aliases)
     }
 
     /// The text so far of the first read that is not done, where it is of a line, and else none.
     pub fn head_text(&self) -> &[u16]
-        ensures { result.now ≡ head_text self.now.reads }
+        ensures text { result.now ≡ head_text self.now.reads }
+        ensures few { length result.now ≤ 1024 }
     {
         first_text(self.reads.as_slice())
     }

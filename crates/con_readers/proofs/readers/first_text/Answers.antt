@@ -3,9 +3,9 @@ use Rattle.std.proofs.Common.{◌∙◌, sym}
 use Rattle.con_readers.proofs.First.{head-first, head-none}
 use Rattle.con_readers.proofs.readers.first_text.Goals as goal
 
-pub returns-then-i-reads : goal.returns-then-i-reads
-returns-then-i-reads c =
-    c.text.ensures ∙ sym (head-first c.first_open-i.result c.args.reads.now c.index-reads-i.result c.first_open-i.ensures.before c.if-i-reads.true c.index-reads-i.is (c.first_open-i.ensures.here c.index-reads-i.result c.if-i-reads.true c.index-reads-i.is))
+pub returns-then-i-reads-clause-text : goal.returns-then-i-reads-clause-text
+returns-then-i-reads-clause-text c =
+    c.text.ensures.text ∙ sym (head-first c.first_open-i.result c.args.reads.now c.index-reads-i.result c.first_open-i.ensures.before c.if-i-reads.true c.index-reads-i.is (c.first_open-i.ensures.here c.index-reads-i.result c.if-i-reads.true c.index-reads-i.is))
 
-pub returns-else-i-reads : goal.returns-else-i-reads
-returns-else-i-reads c = sym (head-none c.first_open-i.result c.args.reads.now c.first_open-i.ensures.before c.if-i-reads.false)
+pub returns-else-i-reads-clause-text : goal.returns-else-i-reads-clause-text
+returns-else-i-reads-clause-text c = sym (head-none c.first_open-i.result c.args.reads.now c.first_open-i.ensures.before c.if-i-reads.false)
