@@ -185,17 +185,3 @@ pub number_found : (hs : List Handle) (p n : ℕ) → n ≡ least_free hs p → 
 number_found hs p n e le =
     let small : nat_le n 64 ≡ true = grind (arith, nat_tests) in
     rw (← e, small) refl
-
--- past 64 no number is free, and only then
-pub full_for : (ps : List (Option Held)) (p n : ℕ) → n ≡ least_free (listed 0 ps) p → IsTrue (nat_lt 64 n) ↔ (count_of (listed 0 ps) p ≡ 64)
-full_for ps p n is = (λ t. (limit_at_64 ps p).0 (past t), λ c. by_test (nat_lt 64 n) refl ((limit_at_64 ps p).1 c))
-  where
-    past : IsTrue (nat_lt 64 n) → new_number (listed 0 ps) p ≡ Err code.Limit
-    past t = let lt : 64 < n = grind (arith, nat_tests) in sym (number_past (listed 0 ps) p n is lt)
-
-    by_test : (b : Bool) → nat_lt 64 n ≡ b → new_number (listed 0 ps) p ≡ Err code.Limit → IsTrue b
-    by_test true t e = refl
-    by_test false t e =
-        let le : n ≤ 64 = grind (arith, nat_tests) in
-        let found = number_found (listed 0 ps) p n is le in
-        cc

@@ -1,8 +1,11 @@
 -- The handles of the places are a table.
-use Rattle.std.proofs.Common.{◌≡◌, ◌≤◌, ◌-◌, ◌+◌, ◌*◌, ◌/◌, ◌%◌, ℕ, zero, suc, List, [], ◌∷◌, arith, length, take, Option, Some, None}
+use Rattle.std.proofs.Common.{◌≡◌, ◌≤◌, ◌-◌, ◌+◌, ◌*◌, ◌/◌, ◌%◌, ℕ, zero, suc, List, [], ◌∷◌, arith, length, take, Option, Some, None, ap, sym, ◌∙◌}
+use Rattle.std.specs.Prelude.{IfSome}
 use Rattle.con_handles.specs.declared.handle.Held.{Held}
 use Rattle.con_handles.specs.declared.handle.Handle.{Handle}
+use Rattle.con_handles.specs.Handles.{find_handle, least_of}
 use Rattle.con_handles.specs.Places.{listed}
+use Rattle.con_handles.specs.CountLaws.{least_found}
 use Rattle.con_handles.specs.Tables.{IsRising, IsTable}
 
 lower : (a b : ℕ) (hs : List Handle) → a ≤ b → IsRising b hs → IsRising a hs
@@ -30,3 +33,8 @@ take_le (suc n) (x ∷ xs) = let rest = take_le n xs in omega arith
 
 pub table_of_taken : (n : ℕ) (ps : List (Option Held)) → n ≤ 16384 → IsTable (listed 0 (take n ps))
 table_of_taken n ps le = table_of (take n ps) (let few = take_le n ps in omega arith)
+
+-- the process's least handle is found by its number
+pub least_at : (hs : List Handle) (p : ℕ) (r : Option Handle) → r ≡ least_of hs p → IfSome r (λ h. h.process ≡ p) → IfSome r (λ h. find_handle hs p h.number ≡ Some h)
+least_at hs p None is own = tt
+least_at hs p (Some h) is own = ap (λ q. find_handle hs q h.number) (sym own) ∙ least_found hs p h (sym is)

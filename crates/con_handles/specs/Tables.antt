@@ -1,6 +1,7 @@
 -- What holds of every table, and how many of its handles pass a test.
 use Rattle.std.specs.Prelude.{ℕ, ◌+◌, ◌<◌, ◌≤◌, Bool, List, [], ◌∷◌, if◌then◌else◌}
 use Rattle.con_handles.specs.declared.handle.Handle.{Handle}
+use Rattle.con_handles.specs.declared.handle.Object.{Object}
 use Rattle.con_handles.specs.Places.{place_of}
 
 -- a process is below 256, and numbers are 1 to 64
@@ -22,3 +23,7 @@ IsTable hs = IsRising 0 hs
 abbrev pub tally : (Handle → Bool) → List Handle → ℕ
 tally t [] = 0
 tally t (h ∷ hs) = (if t h then 1 else 0) + tally t hs
+
+-- a test of what handles stand for
+abbrev pub on : (Object → Bool) → Handle → Bool
+on t h = t h.object

@@ -1,7 +1,8 @@
 // The table.
-ghost use Rattle.std.specs.Prelude.{◌≡◌, ℕ, ◌+◌, ◌-◌, ◌<◌, ◌≤◌, List, [], IfSome, OnOk, OnErr, IfOk, IsTrue, true, false, option_map, vec_len, ◌↔◌, Err};
-ghost use Rattle.con_handles.specs.Handles.{Table, look, new_number, count_of, opened, closed, object_of, least_of, is_used, taken, with_room};
-ghost use Rattle.con_handles.specs.Tables.{IsTable};
+ghost use Rattle.std.specs.Prelude.{◌≡◌, ℕ, ◌+◌, ◌-◌, ◌<◌, ◌≤◌, List, [], IfSome, OnSome, Some, OnOk, OnErr, IfOk, IfErr, IsTrue, Bool, if◌then◌else◌, true, false, option_map, vec_len, ◌↔◌, Err};
+ghost use Rattle.con_handles.specs.Handles.{Table, find_handle, look, new_number, count_of, entered, opened, closed, object_of, least_of, is_used, taken, with_room};
+ghost use Rattle.con_handles.specs.Places.{handle_of};
+ghost use Rattle.con_handles.specs.Tables.{IsTable, tally, on};
 
 use crate::handle::{Handle, Held, Kind, Object};
 use crate::places;
@@ -59,13 +60,19 @@ impl Handles {
         ensures limit { IsTrue result ↔ (new_number self.now.open_ones process ≡ Err Code.Limit) }
         ensures count { IsTrue result ↔ (count_of self.now.open_ones process ≡ 64) }
     {
-        places::first_free(self.places.as_slice(), process) > places::MOST
+        match self.next(process) {
+            Ok(_) => false,
+            Err(_) => true,
+        }
     }
 
     /// The number that `open` would give: the process's least free one, from 1 on. `Limit`: the process has 64.
     pub fn next(&self, process: u8) -> Result<u32, Code>
         ensures number { result ≡ new_number self.now.open_ones process }
+        ensures limit { (result ≡ Err Code.Limit) ↔ (count_of self.now.open_ones process ≡ 64) }
+        ensures why { IfErr result (λ code. code ≡ Code.Limit) }
         ensures free { IfOk result (λ n. is_used self.now.open_ones process n ≡ false) }
+        ensures within { IfOk result (λ n. (1 ≤ n) × (n ≤ 64)) }
         ensures table { IsTable self.now.open_ones }
     {
         let number = places::first_free(self.places.as_slice(), process);
@@ -76,6 +83,79 @@ impl Handles {
         }
     }
 
+    // Fills the place of a number that is free.
+    fn fill(&mut self, process: u8, number: u32, held: Held)
+        requires room { 0 < self.old.spare }
+        requires low { 1 ≤ number }
+        requires high { number ≤ 64 }
+        requires free { is_used self.old.open_ones process number ≡ false }
+        ensures state { self.new ≡ record { open_ones = entered (handle_of process number held) self.old.open_ones; spare = self.old.spare - 1 } }
+        ensures table { IsTable self.new.open_ones }
+    {
+        places::put(self.places.as_mut_slice(), process, number, held);
+        self.spare = 0;
+    }
+
+    // The same, and what it does to the handles of an object.
+    fn put(&mut self, process: u8, number: u32, held: Held)
+        requires room { 0 < self.old.spare }
+        requires low { 1 ≤ number }
+        requires high { number ≤ 64 }
+        requires free { is_used self.old.open_ones process number ≡ false }
+        ensures state { self.new ≡ record { open_ones = entered (handle_of process number held) self.old.open_ones; spare = self.old.spare - 1 } }
+        ensures table { IsTable self.new.open_ones }
+        ensures counted { (t : Object → Bool) → tally (on t) self.new.open_ones ≡ (if t held.object then 1 else 0) + tally (on t) self.old.open_ones }
+    {
+        self.fill(process, number, held);
+    }
+
+    // The handle of a process and a number.
+    fn find(&self, process: u8, number: u32) -> Option<Handle>
+        ensures is { result ≡ find_handle self.now.open_ones process number }
+        ensures low { OnSome result (1 ≤ number) }
+        ensures high { OnSome result (number ≤ 64) }
+        ensures table { IsTable self.now.open_ones }
+    {
+        places::found(self.places.as_slice(), process, number)
+    }
+
+    // The process's handle with the least number.
+    fn least(&self, process: u8) -> Option<Handle>
+        ensures is { result ≡ least_of self.now.open_ones process }
+        ensures found { IfSome result (λ h. find_handle self.now.open_ones process h.number ≡ Some h) }
+        ensures process { IfSome result (λ h. h.process ≡ process) }
+        ensures low { IfSome result (λ h. 1 ≤ h.number) }
+        ensures high { IfSome result (λ h. h.number ≤ 64) }
+        ensures least { IfSome result (λ h. (m : ℕ) → is_used self.now.open_ones process m ≡ true → h.number ≤ m) }
+        ensures table { IsTable self.now.open_ones }
+    {
+        places::least(self.places.as_slice(), process)
+    }
+
+    // Empties the place of a number.
+    fn empty(&mut self, process: u8, number: u32)
+        requires low { 1 ≤ number }
+        requires high { number ≤ 64 }
+        ensures state { self.new ≡ closed self.old process number }
+        ensures table { IsTable self.new.open_ones }
+    {
+        places::remove(self.places.as_mut_slice(), process, number);
+    }
+
+    // The same where a handle has the number, and what it does to the handles of an object.
+    fn remove(&mut self, process: u8, number: u32, one: Handle)
+        requires low { 1 ≤ number }
+        requires high { number ≤ 64 }
+        requires found { find_handle self.old.open_ones process number ≡ Some one }
+        requires table { IsTable self.old.open_ones }
+        ensures state { self.new ≡ closed self.old process number }
+        ensures table { IsTable self.new.open_ones }
+        ensures counted { (t : Object → Bool) → (if t one.object then 1 else 0) + tally (on t) self.new.open_ones ≡ tally (on t) self.old.open_ones }
+    {
+        let _ = one;
+        self.empty(process, number);
+    }
+
     /// Opens the process's least free number, from 1 on. `Limit`: the process has 64.
     pub fn open(&mut self, process: u8, object: Object, rights: u8) -> Result<u32, Code>
         requires { 0 < self.old.spare }
@@ -84,14 +164,11 @@ impl Handles {
         ensures limit { (result ≡ Err Code.Limit) ↔ (count_of self.old.open_ones process ≡ 64) }
         ensures free { IfOk result (λ n. is_used self.old.open_ones process n ≡ false) }
         ensures table { IsTable self.new.open_ones }
+        ensures counted { IfOk result (λ _. (t : Object → Bool) → tally (on t) self.new.open_ones ≡ (if t object then 1 else 0) + tally (on t) self.old.open_ones) }
     {
-        let number = places::first_free(self.places.as_slice(), process);
-        if number > places::MOST {
-            return Err(Code::Limit);
-        }
+        let number = self.next(process)?;
         let held = Held { object, rights };
-        places::put(self.places.as_mut_slice(), process, number, held);
-        self.spare = 0;
+        self.put(process, number, held);
         Ok(number)
     }
 
@@ -101,7 +178,7 @@ impl Handles {
         ensures answer { result ≡ look self.now.open_ones process handle kind right }
         ensures table { IsTable self.now.open_ones }
     {
-        match places::found(self.places.as_slice(), process, handle) {
+        match self.find(process, handle) {
             Some(one) => places::may(one, kind, right),
             None => Err(Code::BadHandle),
         }
@@ -113,10 +190,11 @@ impl Handles {
         ensures ok { OnOk result (self.new ≡ closed self.old process handle) }
         ensures err { OnErr result (self.new ≡ self.old) }
         ensures table { IsTable self.new.open_ones }
+        ensures counted { IfOk result (λ o. (t : Object → Bool) → (if t o then 1 else 0) + tally (on t) self.new.open_ones ≡ tally (on t) self.old.open_ones) }
     {
-        match places::found(self.places.as_slice(), process, handle) {
+        match self.find(process, handle) {
             Some(one) => {
-                places::remove(self.places.as_mut_slice(), process, handle);
+                self.remove(process, handle, one);
                 Ok(one.object)
             }
             None => Err(Code::BadHandle),
@@ -128,10 +206,11 @@ impl Handles {
         ensures object { result ≡ option_map (λ h. h.object) (least_of self.old.open_ones process) }
         ensures state { self.new ≡ taken self.old process }
         ensures table { IsTable self.new.open_ones }
+        ensures counted { IfSome result (λ o. (t : Object → Bool) → (if t o then 1 else 0) + tally (on t) self.new.open_ones ≡ tally (on t) self.old.open_ones) }
         ensures least { IfSome (least_of self.old.open_ones process) (λ h. (m : ℕ) → is_used self.old.open_ones process m ≡ true → h.number ≤ m) }
     {
-        let one = places::least(self.places.as_slice(), process)?;
-        places::remove(self.places.as_mut_slice(), process, one.number);
+        let one = self.least(process)?;
+        self.remove(process, one.number, one);
         Some(one.object)
     }
 }

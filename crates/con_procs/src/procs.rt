@@ -1,7 +1,7 @@
 // All processes.
 ghost use Rattle.std.specs.Prelude.{◌≡◌, ℕ, ◌+◌, ◌-◌, ◌<◌, ◌≤◌, List, [], length, IfOk, Some, None, true, map, take, vec_len, vec_capacity, if◌then◌else◌};
 ghost use Rattle.std.specs.List.{list_any};
-ghost use Rattle.con_procs.specs.Procs.{started, is_live, is_attached, is_member, group_known, ids_of, ids_from, program_of, programs_of, signalled, told, exited, status_of, ignoring, is_fresh, is_chained, first_pending, took_pending, place_in, add_answer, handler_added, remove_answer, handler_removed};
+ghost use Rattle.con_procs.specs.Procs.{started, is_live, is_attached, is_member, group_known, ids_of, ids_from, program_of, programs_of, signalled, told, exited, status_of, ignoring, is_fresh, is_chained, first_pending, took_pending, place_in, add_answer, handler_added, remove_answer, handler_removed, placed};
 
 use crate::proc::{Proc, ProcStart};
 use crate::rack::Place;
@@ -228,6 +228,14 @@ impl Procs {
         matches!(self.place(process, place), Some(Place::Chained))
     }
 
+    fn set_place(&mut self, process: u8, place: u8, to: Place)
+        requires { is_attached self.old process ≡ true }
+        ensures { self.new ≡ placed self.old process place to }
+    {
+        let p = &mut self.procs[process as usize - 1];
+        p.rack.set(place, to);
+    }
+
     /// Puts a place of the rack into the chain. `BadArgument`: the rack has no such place, or it was added before.
     pub fn add_handler(&mut self, process: u8, place: u8) -> Result<(), Code>
         requires { is_attached self.old process ≡ true }
@@ -237,8 +245,7 @@ impl Procs {
         if !self.is_fresh(process, place) {
             return Err(Code::BadArgument);
         }
-        let p = &mut self.procs[process as usize - 1];
-        p.rack.set(place, Place::Chained);
+        self.set_place(process, place, Place::Chained);
         Ok(())
     }
 
@@ -251,8 +258,7 @@ impl Procs {
         if !self.is_chained(process, place) {
             return Err(Code::BadArgument);
         }
-        let p = &mut self.procs[process as usize - 1];
-        p.rack.set(place, Place::Removed);
+        self.set_place(process, place, Place::Removed);
         Ok(())
     }
 }
