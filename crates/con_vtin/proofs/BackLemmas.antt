@@ -8,21 +8,7 @@ use Rattle.con_vtin.specs.Table.{pressed, byte_key, with_alt, control_sequence_k
 use Rattle.con_vtin.specs.Keys.{keys, is_front, whole, broken}
 use Rattle.con_vtin.specs.Sequences.{key_units}
 use Rattle.con_vtin.specs.ReadBack.{IsReadBack, IsReadAs, ReadBack}
-use Rattle.con_vtin.proofs.Lists.{both}
-
--- ---- each number below another
-
-abbrev all_below : (ℕ → Bool) → ℕ → Bool
-all_below p zero = true
-all_below p (suc n) = p n && all_below p n
-
-one_below : (p : ℕ → Bool) (n k : ℕ) → p n ≡ true → (k < n → p k ≡ true) → k < suc n → (c : Bool) → (k == n) ≡ c → p k ≡ true
-one_below p n k here below less true e = let same : k ≡ n = grind (arith, nat_tests) in rw same here
-one_below p n k here below less false e = let before : k < n = grind (arith, nat_tests) in below before
-
-holds_below : (p : ℕ → Bool) (n : ℕ) → all_below p n ≡ true → (k : ℕ) → k < n → p k ≡ true
-holds_below p zero h k less = absurd (omega arith)
-holds_below p (suc n) h k less = let parts = both (p n) (all_below p n) h in one_below p n k parts.0 (holds_below p n parts.1 k) less (k == n) refl
+use Rattle.con_vtin.proofs.Lists.{both, all_below, holds_below}
 
 -- ---- a test for one key
 

@@ -114,7 +114,7 @@ few_ended v front u None h =
     let few = few_broken (v ∷ front) in
     omega (arith, one, all, few)
 
-longer : (front : List ℕ) (u : ℕ) → length (front ++ u ∷ []) ≡ length front + 1
+pub longer : (front : List ℕ) (u : ℕ) → length (front ++ u ∷ []) ≡ length front + 1
 longer front u = let all = length-append front (u ∷ []) in omega (arith, all)
 
 next_by : (t : Bool) (v : ℕ) (front : List ℕ) (u : ℕ) (o : Option (List Key)) → HasFew o (length front + 2)
@@ -141,7 +141,7 @@ quieted_by : (t : Bool) (b : ℕ) (bs : List ℕ) (k : Key) → length (cond t (
 quieted_by true b bs k = omega arith
 quieted_by false b bs k = let all = few_replacements bs in omega (arith, all)
 
-few_quieted : (bytes : List ℕ) → length (quieted bytes) ≤ length bytes
+pub few_quieted : (bytes : List ℕ) → length (quieted bytes) ≤ length bytes
 few_quieted [] = omega arith
 few_quieted (b ∷ bs) = quieted_by ((b == 0x1B) && is_empty bs) b bs escape
 

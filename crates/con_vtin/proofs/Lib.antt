@@ -5,4 +5,5 @@ pub mod FeedLemmas
 pub mod BackLemmas
 pub mod CharacterLemmas
 pub mod FewLemmas
+pub mod SentLemmas
 pub mod PieceLemmas

@@ -1,7 +1,8 @@
 -- Lists and tests.
-use Rattle.std.proofs.Common.{◌≡◌, ◌≢◌, ℕ, ◌+◌, ◌<◌, Bool, true, false, ◌&&◌, List, [], ◌∷◌, ◌++◌, length, take, replicate, refl, ap, ◌∙◌, arith, set, add-one, Some}
+use Rattle.std.proofs.Common.{◌≡◌, ◌≢◌, ℕ, zero, suc, ◌+◌, ◌<◌, Bool, true, false, ◌&&◌, ◌==◌, List, [], ◌∷◌, ◌++◌, length, take, replicate, refl, ap, ◌∙◌, arith, set, add-one, Some}
 use Rattle.std.proofs.Math.Seq.{take-suc-set, take-append_seam}
 use Rattle.std.specs.Prelude.{not}
+use Rattle.std.proofs.lemmas.Bool.Decides.{nat_tests}
 use Rattle.std.specs.List.{list_all}
 use Rattle.con_vtin.specs.Table.{replacement}
 use Rattle.con_vtin.specs.Holding.{kept_of}
@@ -58,3 +59,17 @@ pub kept_is : (held front rest : List ℕ) (byte : ℕ) → front ≡ held → l
 kept_is held front rest byte is fits =
     let room : length held < length (held ++ rest) = rw is at fits in
     rw (is, add-one (length held)) (ap (λ (xs : List ℕ). Some xs) (take-suc-set (held ++ rest) (length held) byte room ∙ ap (λ (xs : List ℕ). xs ++ byte ∷ []) (take-append_seam held rest)))
+
+-- ---- each number below another
+
+abbrev pub all_below : (ℕ → Bool) → ℕ → Bool
+all_below p zero = true
+all_below p (suc n) = p n && all_below p n
+
+one_below : (p : ℕ → Bool) (n k : ℕ) → p n ≡ true → (k < n → p k ≡ true) → k < suc n → (c : Bool) → (k == n) ≡ c → p k ≡ true
+one_below p n k here below less true e = let same : k ≡ n = grind (arith, nat_tests) in rw same here
+one_below p n k here below less false e = let before : k < n = grind (arith, nat_tests) in below before
+
+pub holds_below : (p : ℕ → Bool) (n : ℕ) → all_below p n ≡ true → (k : ℕ) → k < n → p k ≡ true
+holds_below p zero h k less = absurd (omega arith)
+holds_below p (suc n) h k less = let parts = both (p n) (all_below p n) h in one_below p n k parts.0 (holds_below p n parts.1 k) less (k == n) refl

@@ -4,6 +4,7 @@ pub mod Keys
 pub mod Pieces
 pub mod Sequences
 pub mod ReadBack
+pub mod Counts
 pub mod Characters
 -- The code's own words: what the state of a reader says of the bytes held.
 pub mod Holding

@@ -6,6 +6,7 @@ ghost use Rattle.con_vtin.specs.Keys.{grammar};
 ghost use Rattle.con_vtin.specs.Characters.{ReadsCharacters};
 ghost use Rattle.con_vtin.specs.Pieces.{IsReadInPieces};
 ghost use Rattle.con_vtin.specs.ReadBack.{ReadBack};
+ghost use Rattle.con_vtin.specs.Counts.{SendsWithin};
 
 /// Bytes are read by the three cases of their sequences, which determine the keys.
 pub fn is_read_by_cases()
@@ -31,4 +32,11 @@ pub fn is_read_back()
 /// Bytes without ESC are read as the characters that they are, ill-formed ones as U+FFFD.
 pub fn is_read_as_characters()
     ensures { ReadsCharacters }
+{}
+
+/// Bytes give no more keys than there are bytes, and these keys send no more units than there are bytes: both counts, and
+/// the bytes held then, are at most the bytes held before and the bytes fed. So the records of n bytes, a key-down and
+/// a key-up for each key, or one record for each unit, are at most two for each of the n bytes and of the 32 that may be held.
+pub fn is_sent_within_its_bytes()
+    ensures { SendsWithin }
 {}

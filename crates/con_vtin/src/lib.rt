@@ -28,6 +28,7 @@ mod unfinished;
 pub use keys::Keys;
 pub use laws::{
     is_read_as_characters, is_read_back, is_read_by_cases, is_read_however_cut, is_read_in_pieces,
+    is_sent_within_its_bytes,
 };
 pub use reader::KeyReader;
 pub use sequence::{Sequence, sequence_of};

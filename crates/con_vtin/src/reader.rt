@@ -1,9 +1,10 @@
 //! Keys, byte by byte.
-ghost use Rattle.std.specs.Prelude.{◌≡◌, ◌≢◌, ℕ, ◌+◌, ◌≤◌, true, List, [], ◌∷◌, ◌++◌, length, option_map, vec_len, vec_capacity};
+ghost use Rattle.std.specs.Prelude.{◌≡◌, ◌≢◌, ℕ, ◌+◌, ◌≤◌, Bool, true, List, [], ◌∷◌, ◌++◌, length, option_map, vec_len, vec_capacity};
 ghost use Rattle.con_units.specs.Split.{next};
 ghost use Rattle.con_vtin.specs.Keys.{grammar, quieted};
 ghost use Rattle.con_vtin.specs.Holding.{held_of, IsApart, is_text};
 ghost use Rattle.con_vtin.specs.Pieces.{Reading, ended_by};
+ghost use Rattle.con_vtin.specs.Sequences.{sent};
 
 use crate::character::{push_byte, push_replacements};
 use crate::ended::Ended;
@@ -139,8 +140,8 @@ impl KeyReader {
         }
     }
 
-    /// Takes a byte, and adds the keys that it completes to a vector with room for 64. It adds no more keys than there are bytes
-    /// held, and itself, less those that are held then.
+    /// Takes a byte, and adds the keys that it completes to a vector with room for 64. It adds no more keys, and
+    /// these send no more units, than there are bytes held, and itself, less those that are held then.
     pub fn feed(&mut self, byte: u8, out: &mut Vec<Key>)
         requires { vec_len out.old + 64 ≤ vec_capacity out.old }
         ensures keys { out.new.items ≡ out.old.items ++ (next grammar self.old.held byte).items }
@@ -148,19 +149,21 @@ impl KeyReader {
         ensures ended { self.new.ended ≡ ended_by self.old.held byte }
         ensures most { length self.new.held ≤ 32 }
         ensures few { vec_len out.new + length self.new.held ≤ vec_len out.old + length self.old.held + 1 }
+        ensures units { (cursor_keys : Bool) → length (sent out.new.items cursor_keys) + length self.new.held ≤ length (sent out.old.items cursor_keys) + length self.old.held + 1 }
         ensures room { vec_capacity out.new ≡ vec_capacity out.old }
     {
         self.note(byte);
         self.take(byte, out);
     }
 
-    /// Nothing comes for a while: adds the keys of what is held, at most one for each byte, to a vector with room for 64, and
-    /// holds nothing.
+    /// Nothing comes for a while: adds the keys of what is held, at most one for each byte, which sends at most one unit, to a
+    /// vector with room for 64, and holds nothing.
     pub fn quiet(&mut self, out: &mut Vec<Key>)
         requires { vec_len out.old + 64 ≤ vec_capacity out.old }
         ensures keys { out.new.items ≡ out.old.items ++ quieted self.old.held }
         ensures held { self.new ≡ record { held = []; ended = None } }
         ensures few { vec_len out.new ≤ vec_len out.old + length self.old.held }
+        ensures units { (cursor_keys : Bool) → length (sent out.new.items cursor_keys) ≤ length (sent out.old.items cursor_keys) + length self.old.held }
         ensures most { vec_len out.new ≤ vec_len out.old + 32 }
         ensures room { vec_capacity out.new ≡ vec_capacity out.old }
     {
