@@ -49,6 +49,17 @@ pub fn pipe(alloc: Global, pieces: usize) -> Result<Ends, OutOfMemory>
     })
 }
 
+// Looks at one end beside the other.
+fn compare(put: &mut PipeIn, take: &mut PipeOut)
+    requires { IsPipe put.old take.old }
+    ensures put { IsSameIn put.old put.new × (pieces_put put.new ≡ pieces_put put.old) × (is_finished put.new ≡ is_finished put.old) }
+    ensures take { IsSameOut take.old take.new × (pieces_taken take.new ≡ pieces_taken take.old) × (has_ended take.new ≡ has_ended take.old) }
+    ensures first { StartsWith (pieces_put put.new) (pieces_taken take.new) }
+    ensures all { has_ended take.new ≡ true → (pieces_taken take.new ≡ pieces_put put.new) × (is_finished put.new ≡ true) }
+{
+    take.consumer.slots_beside(&mut put.producer);
+}
+
 /// Compares the two ends of one pipe: the pieces taken are a beginning of the pieces put, in order, and they are all of
 /// them, and the pipe is finished, where the end mark was taken.
 pub fn meet(put: &mut PipeIn, take: &mut PipeOut)
@@ -58,5 +69,5 @@ pub fn meet(put: &mut PipeIn, take: &mut PipeOut)
     ensures first { StartsWith (pieces_put put.new) (pieces_taken take.new) }
     ensures all { has_ended take.new ≡ true → (pieces_taken take.new ≡ pieces_put put.new) × (is_finished put.new ≡ true) }
 {
-    take.consumer.slots_beside(&mut put.producer);
+    compare(put, take);
 }

@@ -59,8 +59,8 @@ impl PipeIn {
         put_last(rt, &self.signal, &mut self.producer, Some(piece));
     }
 
-    /// Waits for room, and puts the end mark. After it nothing more can be put.
-    pub fn finish<R: Wait>(&mut self, rt: &R)
+    // Waits for room, and puts the end mark.
+    fn end<R: Wait>(&mut self, rt: &R)
         requires { is_finished self.old ≡ false }
         ensures pipe { IsSameIn self.old self.new }
         ensures put { pieces_put self.new ≡ pieces_put self.old }
@@ -68,5 +68,15 @@ impl PipeIn {
     {
         put_last(rt, &self.signal, &mut self.producer, None);
         self.finished = true;
+    }
+
+    /// Waits for room, and puts the end mark. After it nothing more can be put.
+    pub fn finish<R: Wait>(&mut self, rt: &R)
+        requires { is_finished self.old ≡ false }
+        ensures pipe { IsSameIn self.old self.new }
+        ensures put { pieces_put self.new ≡ pieces_put self.old }
+        ensures finished { is_finished self.new ≡ true }
+    {
+        self.end(rt);
     }
 }

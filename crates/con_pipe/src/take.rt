@@ -45,6 +45,18 @@ fn take_first<R: Wait>(
 impl PipeOut {
     ghost use Rattle.con_pipe.specs.Ends.{pieces_taken, has_ended, IsSameOut};
 
+    // Waits for an item, and takes it.
+    fn take<R: Wait>(&mut self, rt: &R) -> Option<Bytes>
+        requires { has_ended self.old ≡ false }
+        ensures pipe { IsSameOut self.old self.new }
+        ensures piece { IfSome result (λ piece. (pieces_taken self.new ≡ pieces_taken self.old ++ piece ∷ []) × (has_ended self.new ≡ false)) }
+        ensures end { IfNone result ((pieces_taken self.new ≡ pieces_taken self.old) × (has_ended self.new ≡ true)) }
+    {
+        let item = take_first(rt, &self.signal, &mut self.consumer);
+        self.ended = item.is_none();
+        item
+    }
+
     /// Waits for a piece, and takes it. `None` comes exactly where the end mark was taken, in this call or before.
     pub fn next<R: Wait>(&mut self, rt: &R) -> Option<Bytes>
         ensures pipe { IsSameOut self.old self.new }
@@ -55,8 +67,6 @@ impl PipeOut {
         if self.ended {
             return None;
         }
-        let item = take_first(rt, &self.signal, &mut self.consumer);
-        self.ended = item.is_none();
-        item
+        self.take(rt)
     }
 }

@@ -2,7 +2,7 @@ use Rattle.std.proofs.Common.{sym, ap, ◌∙◌, append-nil, None}
 use Rattle.rtrb.specs.Ring.{sent}
 use Rattle.con_pipe.specs.Pieces.{pieces, is_ended, is_proper}
 use Rattle.con_pipe.proofs.Lists.{pieces-append, ended-end, proper-push}
-use Rattle.con_pipe.proofs.put.PipeIn.finish.Goals as goal
+use Rattle.con_pipe.proofs.put.PipeIn.end.Goals as goal
 
 pub invariant_of-self : goal.invariant_of-self
 invariant_of-self g c =

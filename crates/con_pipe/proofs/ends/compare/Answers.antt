@@ -2,7 +2,7 @@ use Rattle.std.proofs.Common.{◌≡◌, true, sym, ap, ◌∙◌, ◌++◌}
 use Rattle.rtrb.specs.Ring.{received, known_items}
 use Rattle.con_pipe.specs.Pieces.{pieces, is_ended, is_proper}
 use Rattle.con_pipe.proofs.Lists.{pieces-append, proper-all}
-use Rattle.con_pipe.proofs.ends.meet.Goals as goal
+use Rattle.con_pipe.proofs.ends.compare.Goals as goal
 
 pub returns-clause-first : goal.returns-clause-first
 returns-clause-first c =
