@@ -1,0 +1,5 @@
+pub mod ShortLemmas
+pub mod LeftLemmas
+pub mod KeyLemmas
+pub mod OrderLemmas
+pub mod DocumentLemmas

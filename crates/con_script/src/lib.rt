@@ -1,0 +1,26 @@
+//! Sessions from documents, and generated ones.
+//!
+//! A document is a text of JSON: a version, the window's size, and for each client its program, its group and its calls.
+//! [`read_session`] gives the [`Session`](con_events::Session) that it is, or the place of its first fault.
+//!
+//! `specs/Values` says what a value of JSON is as an argument of each kind, `specs/Steps` which steps a script may have beside the
+//! calls of con_events' table, `specs/Session` in what order a document is read, and `specs/Document` how a fault's place is spelled.
+//!
+//! Nothing is promised of how much memory a reading takes beyond what its document needs.
+#![tactic(auto)]
+
+pub mod client;
+pub mod cursor;
+pub mod fields;
+pub mod items;
+pub mod keys;
+pub mod lists;
+pub mod place;
+pub mod session;
+pub mod steps;
+pub mod text;
+pub mod values;
+pub mod version;
+
+pub use place::SessionFault;
+pub use session::read_session;

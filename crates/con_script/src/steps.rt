@@ -1,0 +1,103 @@
+//! The steps of a script.
+
+ghost use Rattle.std.specs.Prelude.{◌≡◌, Some, None, IfOk, IfErr};
+ghost use Rattle.con_events.specs.Reading.{IsForm, row_from, whole};
+ghost use Rattle.serde_json.specs.View.{view, items_view};
+ghost use Rattle.con_script.specs.Steps.{row_in_one, row_in_two, step_row, step_items, step_in};
+
+use crate::cursor::Cursor;
+use crate::items::ItemsLeft;
+use crate::version::Version;
+use con_events::{Arguments, Misread, Step, Wanted, read_call};
+use serde_json::Value;
+use std::alloc::Global;
+
+/// The step of a name in version 1, with its arguments taken.
+#[tactic(auto, unfolding(crate::specs::Steps::row_in_one))]
+fn first_step<A: Arguments>(name: &str, args: &mut A) -> Result<Step, Misread>
+    ensures ok { IfOk result (λ s. row_from (row_in_one name.now) (A.left args.old) ≡ Some (s, A.left args.new)) }
+    ensures form { IfErr result (λ e. IsForm e → row_from (row_in_one name.now) (A.left args.old) ≡ None) }
+{
+    match name {
+        "read" => Ok(Step::Begin(Wanted::Read {
+            handle: args.number()?,
+            n: args.number()?,
+        })),
+        "read-input" => Ok(Step::Begin(Wanted::ReadInput {
+            handle: args.number()?,
+            n: args.number()?,
+        })),
+        "exit" => Ok(Step::Exit(args.number()?)),
+        _ => Ok(Step::Call(read_call(name, args)?)),
+    }
+}
+
+/// The step of a name in version 2, with its arguments taken.
+#[tactic(auto, unfolding(crate::specs::Steps::row_in_two))]
+fn later_step<A: Arguments>(name: &str, args: &mut A) -> Result<Step, Misread>
+    ensures ok { IfOk result (λ s. row_from (row_in_two name.now) (A.left args.old) ≡ Some (s, A.left args.new)) }
+    ensures form { IfErr result (λ e. IsForm e → row_from (row_in_two name.now) (A.left args.old) ≡ None) }
+{
+    match name {
+        "read-with" => Ok(Step::Begin(Wanted::ReadWith {
+            handle: args.number()?,
+            n: args.number()?,
+            initial: args.text()?,
+            mask: args.number()?,
+        })),
+        _ => first_step(name, args),
+    }
+}
+
+fn read_step<A: Arguments>(version: Version, name: &str, args: &mut A) -> Result<Step, Misread>
+    ensures ok { IfOk result (λ s. row_from (step_row version name.now) (A.left args.old) ≡ Some (s, A.left args.new)) }
+    ensures form { IfErr result (λ e. IsForm e → row_from (step_row version name.now) (A.left args.old) ≡ None) }
+{
+    match version {
+        Version::One => first_step(name, args),
+        Version::Two => later_step(name, args),
+    }
+}
+
+/// The step of a name, with nothing after its arguments.
+fn whole_step<A: Arguments>(version: Version, name: &str, args: &mut A) -> Result<Step, Misread>
+    ensures ok { IfOk result (λ s. whole (row_from (step_row version name.now) (A.left args.old)) ≡ Some s) }
+    ensures form { IfErr result (λ e. IsForm e → whole (row_from (step_row version name.now) (A.left args.old)) ≡ None) }
+{
+    let step = read_step(version, name, args)?;
+    if args.is_done() {
+        Ok(step)
+    } else {
+        Err(Misread::Form)
+    }
+}
+
+fn step_of(alloc: Global, version: Version, items: &[Value]) -> Result<Step, Misread>
+    ensures ok { IfOk result (λ s. step_items version (items_view items.now) ≡ Some s) }
+    ensures form { IfErr result (λ e. IsForm e → step_items version (items_view items.now) ≡ None) }
+{
+    match items {
+        [name, left @ ..] => match name.as_str() {
+            Some(name) => {
+                let mut cursor = Cursor {
+                    alloc,
+                    items: ItemsLeft { left },
+                };
+                whole_step(version, name, &mut cursor)
+            }
+            None => Err(Misread::Form),
+        },
+        [] => Err(Misread::Form),
+    }
+}
+
+/// A step as a document has it: an array of its name and its arguments.
+pub(crate) fn step(alloc: Global, version: Version, value: &Value) -> Result<Step, Misread>
+    ensures ok { IfOk result (λ s. step_in version (view value.now) ≡ Some s) }
+    ensures form { IfErr result (λ e. IsForm e → step_in version (view value.now) ≡ None) }
+{
+    match value.as_array() {
+        Some(items) => step_of(alloc, version, items.as_slice()),
+        None => Err(Misread::Form),
+    }
+}

@@ -1,0 +1,35 @@
+//! The versions of documents.
+
+ghost use Rattle.std.specs.Prelude.{◌≡◌};
+ghost use Rattle.serde_json.specs.View.{view};
+ghost use Rattle.con_script.specs.Session.{version_in, most_clients};
+
+use serde_json::Value;
+
+/// How a document is to be read.
+#[derive(Clone, Copy, Debug, PartialEq, Eq)]
+pub enum Version {
+    /// At most 16 clients.
+    One,
+    /// At most 64 clients, which may begin a line with a text (`read-with`).
+    Two,
+}
+
+pub(crate) fn read_version(value: &Value) -> Option<Version>
+    ensures { result ≡ version_in (view value.now) }
+{
+    match value.as_u64() {
+        Some(1) => Some(Version::One),
+        Some(2) => Some(Version::Two),
+        _ => None,
+    }
+}
+
+pub(crate) fn most_clients_of(version: Version) -> usize
+    ensures { result ≡ most_clients version }
+{
+    match version {
+        Version::One => 16,
+        Version::Two => 64,
+    }
+}
