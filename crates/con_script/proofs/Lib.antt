@@ -3,3 +3,4 @@ pub mod LeftLemmas
 pub mod KeyLemmas
 pub mod OrderLemmas
 pub mod DocumentLemmas
+pub mod GeneratedLemmas

@@ -5,6 +5,8 @@ pub mod Values
 pub mod Steps
 pub mod Session
 pub mod Document
+-- Sessions from a number.
+pub mod Generated
 -- ---- The code's own words.
 pub mod Places
 pub mod Cursors

@@ -6,12 +6,16 @@
 //! `specs/Values` says what a value of JSON is as an argument of each kind, `specs/Steps` which steps a script may have beside the
 //! calls of con_events' table, `specs/Session` in what order a document is read, and `specs/Document` how a fault's place is spelled.
 //!
+//! [`generated`] gives a large session from a number (`specs/Generated`).
+//!
 //! Nothing is promised of how much memory a reading takes beyond what its document needs.
 #![tactic(auto)]
 
 pub mod client;
 pub mod cursor;
+pub mod draws;
 pub mod fields;
+pub mod generator;
 pub mod items;
 pub mod keys;
 pub mod lists;
@@ -22,5 +26,6 @@ pub mod text;
 pub mod values;
 pub mod version;
 
+pub use generator::generated;
 pub use place::SessionFault;
 pub use session::read_session;

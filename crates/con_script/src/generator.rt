@@ -1,0 +1,79 @@
+//! Generated sessions.
+
+ghost use Rattle.std.specs.Prelude.{◌≡◌, ◌++◌, IfOk, OnOk};
+ghost use Rattle.con_script.specs.Generated.{steps_drawn, script_drawn, session_drawn};
+
+use crate::draws::{Draws, step, units};
+use con_events::{Call, Script, Scripts, Session, Step, Steps};
+use con_units::{OutOfMemory, Size};
+use std::alloc::Global;
+
+/// Puts so many calls that are drawn last.
+fn push_steps(
+    alloc: Global,
+    draws: &mut Draws,
+    count: u64,
+    steps: &mut Vec<Step>,
+) -> Result<(), OutOfMemory>
+    ensures made { OnOk result (steps.new.items ≡ steps.old.items ++ (steps_drawn count draws.old.state).made) }
+    ensures left { OnOk result (draws.new.state ≡ (steps_drawn count draws.old.state).left) }
+{
+    let mut more = count;
+    while more > 0 {
+        let step = step(alloc, draws)?;
+        let Ok(()) = steps.push(step) else {
+            return Err(OutOfMemory);
+        };
+        more -= 1;
+    }
+    Ok(())
+}
+
+#[tactic(auto, unfolding(crate::specs::Generated::script_drawn))]
+fn script(
+    alloc: Global,
+    draws: &mut Draws,
+    program: &[u16],
+    group: u32,
+) -> Result<Script, OutOfMemory>
+    ensures made { IfOk result (λ s. s ≡ (script_drawn program.now group draws.old.state).made) }
+    ensures left { OnOk result (draws.new.state ≡ (script_drawn program.now group draws.old.state).left) }
+{
+    let program = units(alloc, program)?;
+    let mut steps = Vec::new(alloc);
+    let Ok(()) = steps.push(Step::Call(Call::SetMode(2, 7))) else {
+        return Err(OutOfMemory);
+    };
+    push_steps(alloc, draws, 499, &mut steps)?;
+    Ok(Script {
+        program,
+        group,
+        steps: Steps(steps),
+    })
+}
+
+/// The four scripts of a number.
+fn scripts(alloc: Global, seed: u32) -> Result<Scripts, OutOfMemory>
+    ensures { IfOk result (λ ss. ss ≡ (session_drawn seed).scripts) }
+{
+    let mut draws = Draws { state: seed as u64 };
+    let first = script(alloc, &mut draws, &[103, 101, 110, 49], 1)?;
+    let second = script(alloc, &mut draws, &[103, 101, 110, 50], 2)?;
+    let third = script(alloc, &mut draws, &[103, 101, 110, 51], 3)?;
+    let fourth = script(alloc, &mut draws, &[103, 101, 110, 52], 4)?;
+    match Vec::from_array(alloc, [first, second, third, fourth]) {
+        Ok(scripts) => Ok(Scripts(scripts)),
+        Err(_) => Err(OutOfMemory),
+    }
+}
+
+/// The session of a number: 80 by 25, with four clients of 500 calls each.
+pub fn generated(alloc: Global, seed: u32) -> Result<Session, OutOfMemory>
+    ensures { IfOk result (λ s. s ≡ session_drawn seed) }
+{
+    let scripts = scripts(alloc, seed)?;
+    match Session::new(Size { w: 80, h: 25 }, scripts) {
+        Some(session) => Ok(session),
+        None => unreachable!(),
+    }
+}
