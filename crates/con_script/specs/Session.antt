@@ -9,7 +9,8 @@ use Rattle.serde_json.specs.Data.{Data, null, boolean, number, string, array, ob
 use Rattle.serde_json.specs.Find.{get, as_number, as_u64, as_array, as_str, as_object}
 use Rattle.con_script.specs.declared.version.Version.{Version}
 use Rattle.con_script.specs.declared.version.Version.TheVariants.{One, Two}
-use Rattle.con_script.specs.Values.{below, text_in}
+use Rattle.con_values.specs.Values.{below}
+use Rattle.con_script.specs.Values.{text_in}
 use Rattle.con_script.specs.Steps.{step_in}
 
 -- ---- places, and reading in order

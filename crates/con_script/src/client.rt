@@ -10,10 +10,10 @@ use crate::keys::{array_at, check_keys, halt_at};
 use crate::lists::text;
 use crate::place::{Halt, Place};
 use crate::steps::step;
-use crate::values::number;
 use crate::version::Version;
 use con_events::{Misread, Script, Step, Steps};
 use con_units::Units;
+use con_values::number;
 use serde_json::Value;
 use std::alloc::Global;
 

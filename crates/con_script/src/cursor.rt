@@ -4,13 +4,11 @@ ghost use Rattle.std.specs.Prelude.{◌≡◌};
 ghost use Rattle.serde_json.specs.View.{items_view};
 ghost use Rattle.con_script.specs.Values.{arguments};
 
-use crate::fields::records;
-use crate::items::{ItemsLeft, take};
 use crate::lists::{list, text, words};
-use crate::values::{clip, number, rect, signed, unit};
 use con_events::{Arguments, Misread, Words};
 use con_records::Taken;
 use con_units::{Rect, Units};
+use con_values::{ItemsLeft, clip, number, records, rect, signed, take, unit};
 use std::alloc::Global;
 
 /// The arguments that are left of a call.

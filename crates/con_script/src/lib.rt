@@ -14,16 +14,13 @@
 pub mod client;
 pub mod cursor;
 pub mod draws;
-pub mod fields;
 pub mod generator;
-pub mod items;
 pub mod keys;
 pub mod lists;
 pub mod place;
 pub mod session;
 pub mod steps;
 pub mod text;
-pub mod values;
 pub mod version;
 
 pub use generator::generated;

@@ -6,9 +6,9 @@ ghost use Rattle.serde_json.specs.View.{view, items_view};
 ghost use Rattle.con_script.specs.Values.{text_in, units_items, list_in, words_in};
 
 use crate::text::units_of;
-use crate::values::unit;
 use con_events::{Misread, Words};
 use con_units::Units;
+use con_values::unit;
 use serde_json::Value;
 use std::alloc::Global;
 

@@ -6,9 +6,9 @@ ghost use Rattle.serde_json.specs.View.{view, items_view};
 ghost use Rattle.con_script.specs.Steps.{row_in_one, row_in_two, step_row, step_items, step_in};
 
 use crate::cursor::Cursor;
-use crate::items::ItemsLeft;
 use crate::version::Version;
 use con_events::{Arguments, Misread, Step, Wanted, read_call};
+use con_values::ItemsLeft;
 use serde_json::Value;
 use std::alloc::Global;
 

@@ -1,8 +1,0 @@
-use Rattle.std.proofs.Common.{◌≡◌, drop}
-use Rattle.serde_json.specs.View.{items_view}
-use Rattle.con_script.specs.Values.{records_items}
-use Rattle.con_script.specs.Cursors.{with_front}
-use Rattle.con_script.proofs.fields.records_of.Given as goal
-
-abbrev pub invariant-loop-item : goal.invariant-loop-item
-invariant-loop-item l = with_front l.records.items (records_items (items_view (drop l.item-index l.items))) ≡ records_items (items_view l.items)
