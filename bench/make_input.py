@@ -4,7 +4,8 @@
     make_input.py KIND BYTES [NUMBER]
 
 KIND is lines (80 columns and CR LF), runs (printable characters without a line end), sgr (a colour for every few
-characters) or motion (the cursor goes to a random place before every few characters). NUMBER seeds it."""
+characters), indexed (one of 256 colours, of the foreground or of the background, for every few characters) or motion (the cursor goes
+to a random place before every few characters). NUMBER seeds it."""
 import random
 import sys
 
@@ -28,12 +29,16 @@ def sgr(draw):
     return f"\x1b[{draw.choice([0, 1, 4, 7, 22, 24, 27])};{colour}m" + word(draw, 1, 8)
 
 
+def indexed(draw):
+    return f"\x1b[{draw.choice([38, 48])};5;{draw.randrange(256)}m" + word(draw, 1, 8)
+
+
 def motion(draw):
     return f"\x1b[{draw.randint(1, 25)};{draw.randint(1, 80)}H" + word(draw, 1, 8)
 
 
 def main():
-    kinds = {"lines": lines, "runs": runs, "sgr": sgr, "motion": motion}
+    kinds = {"lines": lines, "runs": runs, "sgr": sgr, "indexed": indexed, "motion": motion}
     if len(sys.argv) not in (3, 4) or sys.argv[1] not in kinds:
         sys.exit(__doc__)
     kind, size = kinds[sys.argv[1]], int(sys.argv[2])

@@ -15,7 +15,7 @@ import time
 
 HERE = os.path.dirname(os.path.abspath(__file__))
 PROGRAM = os.path.join(HERE, "..", "crates", "conpty", "out", "conpty")
-KINDS = ("lines", "runs", "sgr", "motion")
+KINDS = ("lines", "runs", "sgr", "indexed", "motion")
 
 
 def made(folder, kind, size):

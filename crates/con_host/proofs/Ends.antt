@@ -1,8 +1,8 @@
 -- How playing ends, by status.
 use Rattle.std.proofs.Common.{◌≡◌, ℕ, ◌≤◌, List, length, Option, refl, sym, subst, rules, arith, ◌⊎◌, inl, inr}
-use Rattle.con_outside.specs.Outside.{then_written}
+use Rattle.con_outside.specs.Outside.{then_written, WroteFront, WrotePart}
 use Rattle.con_units.specs.declared.place.Size.{Size}
-use Rattle.con_host.specs.Ending.{end_line, WroteFront, WrotePart}
+use Rattle.con_host.specs.Ending.{end_line}
 use Rattle.con_host.specs.Link.{IsTooLong}
 use Rattle.con_host.specs.Playing.{Played, PlayedPart, Told, IsWhole, dump_after}
 use Rattle.con_host.proofs.Lines.{part_of}

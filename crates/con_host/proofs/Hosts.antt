@@ -1,8 +1,8 @@
 -- How the top call ends where the words are no form.
 use Rattle.std.proofs.Common.{◌≡◌, ℕ, List, [], Option, None, refl, arith, ◌⊎◌}
-use Rattle.con_outside.specs.Outside.{then_written}
+use Rattle.con_outside.specs.Outside.{then_written, WroteFront, WrotePart}
 use Rattle.con_host.specs.declared.words.Form.{Form}
-use Rattle.con_host.specs.Ending.{end_line, WroteFront, WrotePart}
+use Rattle.con_host.specs.Ending.{end_line}
 use Rattle.con_host.specs.Hosting.{Hosted}
 use Rattle.con_host.proofs.Lines.{part_of}
 

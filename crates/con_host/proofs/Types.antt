@@ -1,11 +1,11 @@
 -- How typing ends, by status.
 use Rattle.std.proofs.Common.{◌≡◌, ℕ, ◌≤◌, List, [], ◌∷◌, ◌++◌, length, Option, refl, sym, subst, ap, ◌∙◌, rules, arith, ◌⊎◌, inl, inr}
 use Rattle.std.specs.Prelude.{Result, Ok, Err, OnOk, flat_map}
-use Rattle.con_outside.specs.Outside.{then_written}
+use Rattle.con_outside.specs.Outside.{then_written, WroteFront, WrotePart}
 use Rattle.con_units.specs.Split.{split}
 use Rattle.con_units.specs.Utf8.{utf8}
 use Rattle.con_term.specs.Play.{units_of}
-use Rattle.con_host.specs.Ending.{end_line, WroteFront, WrotePart}
+use Rattle.con_host.specs.Ending.{end_line}
 use Rattle.con_host.specs.Link.{IsTooLong}
 use Rattle.con_host.specs.Playing.{Told, IsWhole}
 use Rattle.con_host.specs.Typing.{Typed, TypedPart, Typing, WroteFrame, IsFrame, ShowsBuffers, PrintsAtMost, text_typed, units_typed, ended, ended_with, cut_units, heard, opening}

@@ -1,9 +1,10 @@
 -- What the top call does, by its words.
 use Rattle.std.specs.Prelude.{◌≡◌, ℕ, ◌⊎◌, List, [], Option, Some, None}
 use Rattle.con_units.specs.declared.place.Size.{Size}
+use Rattle.con_outside.specs.Outside.{WrotePart}
 use Rattle.con_host.specs.declared.words.Form.{Form}
 use Rattle.con_host.specs.declared.words.Form.TheVariants as form
-use Rattle.con_host.specs.Ending.{end_line, WrotePart}
+use Rattle.con_host.specs.Ending.{end_line}
 use Rattle.con_host.specs.Playing.{Played, Told}
 use Rattle.con_host.specs.Typing.{Typed}
 

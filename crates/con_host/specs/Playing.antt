@@ -1,12 +1,12 @@
 -- How playing ends.
 use Rattle.std.specs.Prelude.{◌≡◌, ℕ, ◌≤◌, ◌⊎◌, ◌||◌, Bool, List, [], length, Option, IfSome, IsTrue, nat_eq, flat_map}
 use Rattle.con_host.specs.Encoded.{unit_bytes}
-use Rattle.con_outside.specs.Outside.{then_written}
+use Rattle.con_outside.specs.Outside.{then_written, WroteFront, WrotePart}
 use Rattle.con_units.specs.declared.place.Size.{Size}
 use Rattle.con_term.specs.Page.{Page, blank_page}
 use Rattle.con_term.specs.Dump.{dump}
 use Rattle.con_term.specs.Play.{play}
-use Rattle.con_host.specs.Ending.{end_line, WroteFront, WrotePart}
+use Rattle.con_host.specs.Ending.{end_line}
 use Rattle.con_host.specs.Link.{IsTooLong}
 
 abbrev pub is_play_status : ℕ → Bool

@@ -1,6 +1,6 @@
 -- A text that is typed, and how typing ends.
 use Rattle.std.specs.Prelude.{◌≡◌, ℕ, ◌≤◌, ◌⊎◌, ◌||◌, Bool, List, [], ◌∷◌, ◌++◌, length, Option, IsSomeAnd, IsTrue, nat_eq, flat_map}
-use Rattle.con_outside.specs.Outside.{then_written}
+use Rattle.con_outside.specs.Outside.{then_written, WroteFront, WrotePart}
 use Rattle.con_units.specs.Split.{split, split_after}
 use Rattle.con_units.specs.Utf8.{utf8}
 use Rattle.con_term.specs.Terminal.{Terminal, IsTerminal, Shows}
@@ -11,7 +11,7 @@ use Rattle.con_screens.specs.Buffer.{new_screen, buffer_written}
 use Rattle.con_screens.specs.Buffers.{Buffers, buffer_at, first_buffers, with_buffer}
 use Rattle.con_screens.specs.Lending.{screen_left}
 use Rattle.con_screens.specs.View.{view_of}
-use Rattle.con_host.specs.Ending.{end_line, WroteFront, WrotePart}
+use Rattle.con_host.specs.Ending.{end_line}
 use Rattle.con_host.specs.Link.{IsTooLong}
 use Rattle.con_host.specs.Playing.{IsWhole, Told}
 

@@ -1,11 +1,10 @@
 //! The last line of a report.
 
 ghost use Rattle.std.specs.Prelude.{◌≡◌, ℕ, ◌+◌, ◌<◌, ◌≤◌, ◌≢◌, ◌⊎◌, List, take};
-ghost use Rattle.con_outside.specs.Outside.{Rose, then_written};
-ghost use Rattle.con_host.specs.Ending.{end_line, WroteFront, WrotePart};
+ghost use Rattle.con_outside.specs.Outside.{Rose, then_written, WroteFront, WrotePart};
+ghost use Rattle.con_host.specs.Ending.{end_line};
 
-use crate::writing::write_whole;
-use con_outside::{Fault, Sink};
+use con_outside::{Fault, Sink, write_whole};
 
 /// All was done.
 pub const DONE: u8 = 0;

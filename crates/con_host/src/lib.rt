@@ -21,7 +21,6 @@ pub mod reading;
 pub mod text;
 pub mod typing;
 pub mod words;
-pub mod writing;
 
 pub use ending::{DONE, LINK, MEMORY, REPORT, TERMINAL, TOO_LONG, USAGE};
 pub use host::console_host;

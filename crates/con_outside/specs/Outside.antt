@@ -16,3 +16,7 @@ then_written written bytes = option_map (λ front. front ++ bytes) written
 -- what was written is a front of the bytes
 abbrev pub WroteFront : List ℕ → Option (List ℕ) → Option (List ℕ) → Type 0
 WroteFront bytes before now = (n : ℕ) × (n ≤ length bytes) × (now ≡ then_written before (take n bytes))
+
+-- a front was written, and not all of the bytes
+abbrev pub WrotePart : List ℕ → Option (List ℕ) → Option (List ℕ) → Type 0
+WrotePart bytes before now = (n : ℕ) × (n < length bytes) × (now ≡ then_written before (take n bytes))

@@ -1,6 +1,6 @@
 use Rattle.std.proofs.Common.{[], arith, rules}
 use Rattle.con_outside.specs.Laws.{then_left-none}
-use Rattle.con_host.specs.Ending.{WrotePart}
+use Rattle.con_outside.specs.Outside.{WrotePart}
 use Rattle.con_host.specs.Playing.{dump_after}
 use Rattle.con_host.proofs.Ends.{no_memory, ended_link, ended_too_long, cut_dump}
 use Rattle.con_host.proofs.playing.host_play.Goals as goal
