@@ -1,13 +1,16 @@
 //! Callers of cells and grids.
-ghost use Rattle.std.specs.Prelude.{◌≡◌, ◌<◌, ◌≤◌, ◌+◌, false, Some};
+ghost use Rattle.std.specs.Prelude.{◌≡◌, ◌<◌, ◌≤◌, ◌+◌, [], true, false, Some};
 ghost use Rattle.con_units.specs.Attr.{plain};
 ghost use Rattle.con_units.specs.Glyph.{plain_cell};
 ghost use Rattle.con_units.specs.Shade.{shade_of, near, IsNearest};
 ghost use Rattle.con_grid.specs.Picture.{IsUntouched, IsInside};
 ghost use Rattle.con_grid.specs.Parts.{IsPartUntouched};
+ghost use Rattle.con_rects.specs.Rules.{rect_cells};
+ghost use Rattle.con_rects.specs.Runs.{run_cells};
 
 use con_grid::{Grid, is_untouched_in_parts};
-use con_units::{Attr, Cell, Coord};
+use con_rects::{read_rect, read_run, run_count, used_count};
+use con_units::{Attr, Cell, Coord, Rect};
 
 /// Whether a row may have changed since the number was last raised.
 pub fn is_marked(grid: &Grid, y: u16) -> bool
@@ -44,4 +47,32 @@ pub fn as_read(cell: Cell) -> Cell
     ensures attr { result.attr ≡ plain cell.attr.word }
 {
     Cell::new(cell.unit(), Attr::of(cell.attr().bits()))
+}
+
+/// Reads a rectangle where the list has room for the cells that a grid has of it, and tells whether it did.
+pub fn read_where_room(grid: &Grid, rect: Rect, out: &mut Vec<Cell>) -> bool
+    requires empty { out.old.items ≡ [] }
+    ensures read { result ≡ true → out.new.items ≡ rect_cells grid.now rect }
+{
+    if out.capacity() < used_count(grid, rect).min(16384) {
+        return false;
+    }
+    match read_rect(grid, rect, out) {
+        Ok(_) => true,
+        Err(_) => false,
+    }
+}
+
+/// Reads a run where the list has room for the cells that there are, and tells whether it did.
+pub fn read_run_where_room(grid: &Grid, from: Coord, n: u32, out: &mut Vec<Cell>) -> bool
+    requires empty { out.old.items ≡ [] }
+    ensures read { result ≡ true → out.new.items ≡ run_cells grid.now from n }
+{
+    if out.capacity() < run_count(grid, from, n).min(16384) {
+        return false;
+    }
+    match read_run(grid, from, n, out) {
+        Ok(_) => true,
+        Err(_) => false,
+    }
 }
