@@ -284,10 +284,8 @@ impl<M: Machine> Book<M> {
         shared.load::<Mind>(&mut into.seat, 0);
     }
 
-    /// The machine and its history, once every other pass was taken into the opening one, directly or by way of others.
-    ///
-    /// The history is legal, and each actor's entries in it are the own events of its pass.
-    pub fn close(self, last: Pass<M>) -> Closed<M>
+    // What the book kept, once every other pass was taken into this one.
+    fn finish(self, last: Pass<M>) -> Kept<M, M::Event>
         requires book { pass_id last ≡ book_id self }
         requires opening { (view_of last).opens ≡ true }
         requires whole { length (view_of last).kept ≡ length (view_of last).made }
@@ -298,7 +296,19 @@ impl<M: Machine> Book<M> {
         let mut closed = table.close_with(seat);
         let slot = closed.take(0);
         closed.free();
-        let Kept { machine, log } = slot.unwrap();
+        slot.unwrap()
+    }
+
+    /// The machine and its history, once every other pass was taken into the opening one, directly or by way of others.
+    ///
+    /// The history is legal, and each actor's entries in it are the own events of its pass.
+    pub fn close(self, last: Pass<M>) -> Closed<M>
+        requires book { pass_id last ≡ book_id self }
+        requires opening { (view_of last).opens ≡ true }
+        requires whole { length (view_of last).kept ≡ length (view_of last).made }
+        ensures { Ends M.state M.next M.is_ready (view_of last) result.log.items result.machine }
+    {
+        let Kept { machine, log } = self.finish(last);
         Closed { machine, log }
     }
 }

@@ -6,7 +6,7 @@
 //! - [`Logged`]: an entry of the history.
 //! - [`EntryRoom`]: room for what the entries of the log become, got while it grows.
 //! - [`Bell`]: lets threads sleep until there may be something to do.
-//! - [`counter`]: a small machine.
+//! - [`counter`]: a small machine. [`laws`]: what follows from the definitions.
 //!
 //! Contracts see a pass as what it knows, [`View`](view::View): the entries that it has seen, which begin the history, and its
 //! own events. `specs/Passes` reads a pass, `specs/Turn` says what a turn does to one, and `specs/History` what a list of
@@ -25,6 +25,7 @@ pub mod counter;
 pub mod ends;
 pub mod history;
 mod kept;
+pub mod laws;
 pub mod machine;
 pub mod pass;
 mod plays;
