@@ -1,0 +1,187 @@
+//! Answers in a line.
+
+ghost use Rattle.std.specs.Prelude.{◌≡◌, List, [], ◌∷◌, IfOk, map};
+ghost use Rattle.json.specs.Print.{escape};
+ghost use Rattle.serde_json.specs.Data.{string};
+ghost use Rattle.con_trace.specs.Shown.{list_of, natural as natural_data, whole as whole_data, units_text, rect_data, records_data, cell_words};
+ghost use Rattle.con_trace.specs.Line.{ok as ok_data, number_and_flag as number_and_flag_data, numbers_data, reply_data, answer_data};
+ghost use Rattle.con_trace.specs.Writing.{put, put_each};
+
+use crate::form::{Form, form_of_event};
+use crate::line::Line;
+use con_events::{Event, Reply};
+use con_records::Taken;
+use con_units::{OutOfMemory, Rect, Rows, Units};
+
+#[tactic(auto, using(crate::proofs::Puts::arrays), unfolding(json::specs::Print::escape_byte))]
+impl Line {
+    /// Numbers one after another.
+    fn each_number(&mut self, numbers: &[i64]) -> Result<(), OutOfMemory>
+        ensures { IfOk result (λ _. self.new ≡ put_each self.old (map whole_data numbers.now)) }
+    {
+        for n in numbers {
+            self.whole(*n)?;
+        }
+        Ok(())
+    }
+
+    /// Texts one after another.
+    fn each_line(&mut self, lines: &[Units]) -> Result<(), OutOfMemory>
+        ensures { IfOk result (λ _. self.new ≡ put_each self.old (map units_text lines.now)) }
+    {
+        for line in lines {
+            self.units(line.as_slice())?;
+        }
+        Ok(())
+    }
+
+    /// A number, whether something is so, and further numbers.
+    fn number_and_flag(&mut self, numbers: &[i64]) -> Result<(), OutOfMemory>
+        ensures { IfOk result (λ _. self.new ≡ put_each self.old (number_and_flag_data numbers.now)) }
+    {
+        match numbers {
+            [] => Ok(()),
+            [first] => self.whole(*first),
+            [first, flag, rest @ ..] => {
+                self.whole(*first)?;
+                self.truth(*flag != 0)?;
+                self.each_number(rest)
+            }
+        }
+    }
+
+    /// A number, behind the word `fail`, `ctrl` or `painted`.
+    fn word_and_number(&mut self, word: &'static str, n: u64) -> Result<(), OutOfMemory>
+        requires { escape word.now ≡ word.now }
+        ensures { IfOk result (λ _. self.new ≡ put self.old (list_of (string word.now ∷ natural_data n ∷ []))) }
+    {
+        self.open()?;
+        self.word(word)?;
+        self.natural(n)?;
+        self.shut()
+    }
+
+    fn done(&mut self) -> Result<(), OutOfMemory>
+        ensures { IfOk result (λ _. self.new ≡ put self.old (ok_data [])) }
+    {
+        self.open()?;
+        self.word("ok")?;
+        self.shut()
+    }
+
+    fn fields(&mut self, numbers: &[i64]) -> Result<(), OutOfMemory>
+        ensures { IfOk result (λ _. self.new ≡ put self.old (ok_data (map whole_data numbers.now))) }
+    {
+        self.open()?;
+        self.word("ok")?;
+        self.each_number(numbers)?;
+        self.shut()
+    }
+
+    fn size_and_flag(&mut self, numbers: &[i64]) -> Result<(), OutOfMemory>
+        ensures { IfOk result (λ _. self.new ≡ put self.old (ok_data (number_and_flag_data numbers.now))) }
+    {
+        self.open()?;
+        self.word("ok")?;
+        self.number_and_flag(numbers)?;
+        self.shut()
+    }
+
+    fn ids(&mut self, numbers: &[i64]) -> Result<(), OutOfMemory>
+        ensures { IfOk result (λ _. self.new ≡ put self.old (ok_data (list_of (map whole_data numbers.now) ∷ []))) }
+    {
+        self.open()?;
+        self.word("ok")?;
+        self.open()?;
+        self.each_number(numbers)?;
+        self.shut()?;
+        self.shut()
+    }
+
+    fn ok_units(&mut self, units: &Units) -> Result<(), OutOfMemory>
+        ensures { IfOk result (λ _. self.new ≡ put self.old (ok_data (units_text units.now ∷ []))) }
+    {
+        self.open()?;
+        self.word("ok")?;
+        self.units(units.as_slice())?;
+        self.shut()
+    }
+
+    fn ok_records(&mut self, records: &Taken) -> Result<(), OutOfMemory>
+        ensures { IfOk result (λ _. self.new ≡ put self.old (ok_data (records_data records.now ∷ []))) }
+    {
+        self.open()?;
+        self.word("ok")?;
+        self.all_records(records.0.as_slice())?;
+        self.shut()
+    }
+
+    fn ok_cells(&mut self, rect: Rect, cells: &Rows) -> Result<(), OutOfMemory>
+        ensures { IfOk result (λ _. self.new ≡ put self.old (ok_data (rect_data rect ∷ units_text (cell_words cells.now) ∷ []))) }
+    {
+        self.open()?;
+        self.word("ok")?;
+        self.sides(rect)?;
+        self.cells(cells.as_slice())?;
+        self.shut()
+    }
+
+    fn ok_lines(&mut self, lines: &[Units]) -> Result<(), OutOfMemory>
+        ensures { IfOk result (λ _. self.new ≡ put self.old (ok_data (list_of (map units_text lines.now) ∷ []))) }
+    {
+        self.open()?;
+        self.word("ok")?;
+        self.open()?;
+        self.each_line(lines)?;
+        self.shut()?;
+        self.shut()
+    }
+
+    fn ok_number(&mut self, n: u32) -> Result<(), OutOfMemory>
+        ensures { IfOk result (λ _. self.new ≡ put self.old (ok_data (natural_data n ∷ []))) }
+    {
+        self.open()?;
+        self.word("ok")?;
+        self.natural(n as u64)?;
+        self.shut()
+    }
+
+    /// Numbers, as the form has them.
+    fn numbers(&mut self, form: Form, numbers: &[i64]) -> Result<(), OutOfMemory>
+        ensures { IfOk result (λ _. self.new ≡ put self.old (numbers_data form numbers.now)) }
+    {
+        match form {
+            Form::Fields(_) => self.fields(numbers),
+            Form::NumberAndFlag => self.size_and_flag(numbers),
+            _ => self.ids(numbers),
+        }
+    }
+
+    /// What a reply shows for an event of a form.
+    fn reply(&mut self, form: Form, reply: &Reply) -> Result<(), OutOfMemory>
+        ensures { IfOk result (λ _. self.new ≡ put self.old (reply_data form reply.now)) }
+    {
+        match reply {
+            Reply::Done => self.done(),
+            Reply::Fail(code) => self.word_and_number("fail", code.number() as u64),
+            Reply::Number(n) => self.ok_number(*n),
+            Reply::Numbers(numbers) => self.numbers(form, numbers.0.as_slice()),
+            Reply::Units(units) => self.ok_units(units),
+            Reply::Records(records) => self.ok_records(records),
+            Reply::Cells(rect, cells) => self.ok_cells(*rect, cells),
+            Reply::Lines(lines) => self.ok_lines(lines.0.as_slice()),
+            Reply::Ctrl(n) => self.word_and_number("ctrl", *n as u64),
+            Reply::View(_, _, _) => self.null(),
+        }
+    }
+
+    /// What an event was answered: for a picture the stream's length after it.
+    pub fn answer(&mut self, event: &Event, reply: &Reply, end: u64) -> Result<(), OutOfMemory>
+        ensures { IfOk result (λ _. self.new ≡ put self.old (answer_data event.now reply.now end)) }
+    {
+        match event {
+            Event::Paint => self.word_and_number("painted", end),
+            _ => self.reply(form_of_event(event), reply),
+        }
+    }
+}
