@@ -81,6 +81,10 @@ pub record IsPen (p : Pen) : Type 0 where
 abbrev pub kind_of : Layer → ℕ → Reading
 kind_of layer n = if n == 5 then Number layer else if n == 2 then Skip 3 else Over
 
+-- behind one of so many that are skipped
+abbrev pub skip_of : ℕ → Reading
+skip_of k = if nat_le k 1 then Plain else Skip (k - 1)
+
 abbrev pub styled_plainly : Pen → ℕ → Styling
 styled_plainly p n =
     if n == 38 then record { pen = p; reading = Kind Fore }
@@ -91,7 +95,7 @@ abbrev pub styled_in : Pen → ℕ → Reading → Styling
 styled_in p n Plain = styled_plainly p n
 styled_in p n (Kind layer) = record { pen = p; reading = kind_of layer n }
 styled_in p n (Number layer) = record { pen = indexed p layer n; reading = Plain }
-styled_in p n (Skip k) = record { pen = p; reading = if nat_le k 1 then Plain else Skip (k - 1) }
+styled_in p n (Skip k) = record { pen = p; reading = skip_of k }
 styled_in p n Over = record { pen = p; reading = Over }
 
 -- one parameter, of which 38 or 48 before it may have made part of a colour

@@ -1,6 +1,7 @@
 //! The pen.
 ghost use Rattle.std.specs.Prelude.{◌≡◌, ◌<◌, ◌≤◌};
-ghost use Rattle.con_screen.specs.Pen.{word_of, attr_of, lit, starting_pen, in_colour, in_shade, coloured, pen_after, indexed, IsPen, styled, styled_plainly, styled_all, kind_of};
+ghost use Rattle.con_screen.specs.Pen.{word_of, attr_of, lit, starting_pen, in_colour, in_shade, coloured, pen_after, indexed, IsPen, styled, styled_plainly, styled_all, kind_of, skip_of};
+ghost use Rattle.con_screen.specs.declared.pen.Reading.TheVariants.{Plain};
 ghost use Rattle.con_screen.specs.Nibble.{nibble as nibble_of};
 
 use con_units::{Attr, Shade, near};
@@ -74,102 +75,94 @@ impl Pen {
         Attr::shaded(self.word(), self.fore, self.back)
     }
 
-    // A layer in one of the sixteen colours.
-    fn in_colour(self, layer: Layer, colour: u8) -> Pen
-        requires pen { IsPen self }
+    // A layer takes one of the sixteen colours.
+    fn take_colour(&mut self, layer: Layer, colour: u8)
+        requires pen { IsPen self.old }
         requires sixteen { colour < 16 }
-        ensures pen { result ≡ in_colour self layer colour }
-        ensures small { IsPen result }
+        ensures pen { self.new ≡ in_colour self.old layer colour }
+        ensures small { IsPen self.new }
     {
         match layer {
-            Layer::Fore => Pen {
-                foreground: colour,
-                fore: Shade::Plain,
-                ..self
-            },
-            Layer::Back => Pen {
-                background: colour,
-                back: Shade::Plain,
-                ..self
-            },
+            Layer::Fore => {
+                self.foreground = colour;
+                self.fore = Shade::Plain;
+            }
+            Layer::Back => {
+                self.background = colour;
+                self.back = Shade::Plain;
+            }
         }
     }
 
-    // A layer in the colour of an index.
-    fn in_shade(self, layer: Layer, index: u8) -> Pen
-        requires pen { IsPen self }
+    // A layer takes the colour of an index.
+    fn take_shade(&mut self, layer: Layer, index: u8)
+        requires pen { IsPen self.old }
         requires index { 16 ≤ index }
-        ensures pen { result ≡ in_shade self layer index }
-        ensures small { IsPen result }
+        ensures pen { self.new ≡ in_shade self.old layer index }
+        ensures small { IsPen self.new }
     {
         match layer {
-            Layer::Fore => Pen {
-                foreground: near(index),
-                fore: Shade::Index(index),
-                ..self
-            },
-            Layer::Back => Pen {
-                background: near(index),
-                back: Shade::Index(index),
-                ..self
-            },
+            Layer::Fore => {
+                self.foreground = near(index);
+                self.fore = Shade::Index(index);
+            }
+            Layer::Back => {
+                self.background = near(index);
+                self.back = Shade::Index(index);
+            }
         }
     }
 
-    /// The pen after one parameter.
+    /// One parameter acts.
     #[tactic(auto, unfolding(crate::specs::Pen::pen_after))]
-    pub fn after(self, parameter: u16) -> Pen
-        requires { IsPen self }
-        ensures pen { result ≡ pen_after self parameter }
-        ensures small { IsPen result }
+    pub fn act(&mut self, parameter: u16)
+        requires { IsPen self.old }
+        ensures pen { self.new ≡ pen_after self.old parameter }
+        ensures small { IsPen self.new }
     {
-        let mut pen = self;
         match parameter {
-            0 => pen = Pen::starting(),
-            1 => pen.bold = true,
-            22 => pen.bold = false,
-            4 => pen.underline = true,
-            24 => pen.underline = false,
-            7 => pen.negative = true,
-            27 => pen.negative = false,
-            _ => pen = self.coloured(parameter),
+            0 => *self = Pen::starting(),
+            1 => self.bold = true,
+            22 => self.bold = false,
+            4 => self.underline = true,
+            24 => self.underline = false,
+            7 => self.negative = true,
+            27 => self.negative = false,
+            _ => self.act_colour(parameter),
         }
-        pen
     }
 
-    // The pen after a parameter that may name a colour.
+    // A parameter that may name a colour acts.
     #[tactic(auto, unfolding(crate::specs::Pen::coloured))]
-    fn coloured(self, parameter: u16) -> Pen
-        requires { IsPen self }
-        ensures pen { result ≡ coloured self parameter }
-        ensures small { IsPen result }
+    fn act_colour(&mut self, parameter: u16)
+        requires { IsPen self.old }
+        ensures pen { self.new ≡ coloured self.old parameter }
+        ensures small { IsPen self.new }
     {
         match parameter {
-            30..=37 => self.in_colour(Layer::Fore, colour(parameter - 30)),
-            39 => self.in_colour(Layer::Fore, 7),
-            40..=47 => self.in_colour(Layer::Back, colour(parameter - 40)),
-            49 => self.in_colour(Layer::Back, 0),
-            90..=97 => self.in_colour(Layer::Fore, colour(parameter - 90) + 8),
-            100..=107 => self.in_colour(Layer::Back, colour(parameter - 100) + 8),
-            _ => self,
+            30..=37 => self.take_colour(Layer::Fore, colour(parameter - 30)),
+            39 => self.take_colour(Layer::Fore, 7),
+            40..=47 => self.take_colour(Layer::Back, colour(parameter - 40)),
+            49 => self.take_colour(Layer::Back, 0),
+            90..=97 => self.take_colour(Layer::Fore, colour(parameter - 90) + 8),
+            100..=107 => self.take_colour(Layer::Back, colour(parameter - 100) + 8),
+            _ => {}
         }
     }
 
-    /// The pen with a layer in a colour of the table of 256; unchanged where there is none of that number.
+    /// A layer takes a colour of the table of 256; nothing changes where there is none of that number.
     #[tactic(auto, unfolding(crate::specs::Pen::indexed))]
-    pub fn indexed(self, layer: Layer, number: u16) -> Pen
-        requires { IsPen self }
-        ensures pen { result ≡ indexed self layer number }
-        ensures small { IsPen result }
+    pub fn take_index(&mut self, layer: Layer, number: u16)
+        requires { IsPen self.old }
+        ensures pen { self.new ≡ indexed self.old layer number }
+        ensures small { IsPen self.new }
     {
         if number < 8 {
-            self.in_colour(layer, colour(number))
+            self.take_colour(layer, colour(number));
         } else if number < 16 {
-            self.in_colour(layer, colour(number - 8) + 8)
+            self.take_colour(layer, colour(number - 8) + 8);
         } else if number < 256 {
-            self.in_shade(layer, number as u8)
-        } else {
-            self
+            self.take_shade(layer, number as u8);
         }
     }
 }
@@ -211,54 +204,49 @@ pub struct Styling {
 }
 
 impl Styling {
+    // One parameter more. Out of line, so that the pen stays in memory and is not taken apart for each.
+    #[inline(never)]
     #[tactic(auto, unfolding(crate::specs::Pen::styled))]
-    fn after(self, parameter: u16) -> Styling
-        requires { IsPen self.pen }
-        ensures styled { result ≡ styled self parameter }
-        ensures small { IsPen result.pen }
+    fn take(&mut self, parameter: u16)
+        requires { IsPen self.old.pen }
+        ensures styled { self.new ≡ styled self.old parameter }
+        ensures small { IsPen self.new.pen }
     {
         match self.reading {
-            Reading::Plain => self.plainly(parameter),
-            Reading::Kind(layer) => Styling {
-                pen: self.pen,
-                reading: kind(layer, parameter),
-            },
-            Reading::Number(layer) => Styling {
-                pen: self.pen.indexed(layer, parameter),
-                reading: Reading::Plain,
-            },
-            Reading::Skip(count) => Styling {
-                pen: self.pen,
-                reading: if count <= 1 {
-                    Reading::Plain
-                } else {
-                    Reading::Skip(count - 1)
-                },
-            },
-            Reading::Over => self,
+            Reading::Plain => self.take_plainly(parameter),
+            Reading::Kind(layer) => self.reading = kind(layer, parameter),
+            Reading::Number(layer) => {
+                self.pen.take_index(layer, parameter);
+                self.reading = Reading::Plain;
+            }
+            Reading::Skip(count) => self.reading = skip(count),
+            Reading::Over => {}
         }
     }
 
-    // After a parameter that acts, or begins a colour.
-    fn plainly(self, parameter: u16) -> Styling
-        requires { IsPen self.pen }
-        ensures styled { result ≡ styled_plainly self.pen parameter }
-        ensures small { IsPen result.pen }
+    // A parameter that acts, or begins a colour.
+    fn take_plainly(&mut self, parameter: u16)
+        requires pen { IsPen self.old.pen }
+        requires plain { self.old.reading ≡ Plain }
+        ensures styled { self.new ≡ styled_plainly self.old.pen parameter }
+        ensures small { IsPen self.new.pen }
     {
         match parameter {
-            38 => Styling {
-                pen: self.pen,
-                reading: Reading::Kind(Layer::Fore),
-            },
-            48 => Styling {
-                pen: self.pen,
-                reading: Reading::Kind(Layer::Back),
-            },
-            _ => Styling {
-                pen: self.pen.after(parameter),
-                reading: Reading::Plain,
-            },
+            38 => self.reading = Reading::Kind(Layer::Fore),
+            48 => self.reading = Reading::Kind(Layer::Back),
+            _ => self.pen.act(parameter),
         }
+    }
+}
+
+// What follows where one of so many was skipped.
+fn skip(count: u8) -> Reading
+    ensures { result ≡ skip_of count }
+{
+    if count <= 1 {
+        Reading::Plain
+    } else {
+        Reading::Skip(count - 1)
     }
 }
 
@@ -283,7 +271,7 @@ pub fn after_all(pen: Pen, parameters: &[u16]) -> Pen
         reading: Reading::Plain,
     };
     for parameter in parameters {
-        styling = styling.after(*parameter);
+        styling.take(*parameter);
     }
     styling.pen
 }
