@@ -1,5 +1,5 @@
 //! Cells in a row.
-ghost use Rattle.std.specs.Prelude.{◌≡◌, ◌+◌, ◌≤◌, ◌++◌, length, take, drop, map, replicate, [], true, vec_capacity};
+ghost use Rattle.std.specs.Prelude.{◌≡◌, ◌+◌, ◌≤◌, ◌<◌, ◌++◌, length, take, drop, map, replicate, [], true, vec_capacity};
 ghost use Rattle.con_units.specs.Glyph.{cell_of};
 ghost use Rattle.con_vtgram.specs.Plain.{is_plain as is_plain_unit};
 ghost use Rattle.std.specs.List.{list_all};
@@ -8,6 +8,9 @@ ghost use Rattle.con_term.specs.Run.{pasted};
 
 use con_units::{Attr, Cell};
 use con_vtgram::is_plain;
+
+// How many cells are copied at once.
+const PIECE: usize = 256;
 
 /// Writes the cell from one place up to another.
 pub fn fill(cells: &mut [Cell], from: usize, upto: usize, cell: Cell)
@@ -39,6 +42,32 @@ pub fn copy_into(list: &mut Vec<Cell>, cells: &[Cell])
     let _ = list.extend_from_slice(cells);
 }
 
+// Where a piece ends that begins at a place.
+fn piece_end(at: usize, count: usize) -> usize
+    requires { at < count }
+    ensures more { at < result }
+    ensures inside { result ≤ count }
+{
+    if count - at < PIECE {
+        count
+    } else {
+        at + PIECE
+    }
+}
+
+// Copies the cells over as many others. In pieces, each of which is moved through vector registers.
+fn copy_over(to: &mut [Cell], from: &[Cell])
+    requires { length to.old ≡ length from.now }
+    ensures { to.new ≡ from.now }
+{
+    let mut at = 0;
+    while at < from.len() {
+        let end = piece_end(at, from.len());
+        to[at..end].copy_from_slice(&from[at..end]);
+        at = end;
+    }
+}
+
 /// Copies the cells to the front, and fills the places behind them, of which there are so many.
 pub fn move_into(to: &mut [Cell], from: &[Cell], rest: usize, cell: Cell)
     requires { length from.now + rest ≡ length to.old }
@@ -46,7 +75,7 @@ pub fn move_into(to: &mut [Cell], from: &[Cell], rest: usize, cell: Cell)
 {
     let kept = from.len();
     let end = to.len();
-    to[..kept].copy_from_slice(from);
+    copy_over(&mut to[..kept], from);
     fill(to, kept, end, cell);
 }
 

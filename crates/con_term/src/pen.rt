@@ -3,6 +3,7 @@ ghost use Rattle.std.specs.Prelude.{◌≡◌, ◌<◌, ◌≤◌};
 ghost use Rattle.con_term.specs.Pen.{lacking, word_of, attr_of, starting_pen, in_colour, in_shade, coloured, pen_after, indexed, IsPen};
 ghost use Rattle.con_term.specs.Sgr.{pen_by};
 ghost use Rattle.con_term.specs.SgrSteps.{kind_at, skip_at, begin_at, read_next};
+ghost use Rattle.con_term.specs.declared.pen.Place.TheVariants.{Next};
 ghost use Rattle.con_term.specs.Nibble.{nibble as nibble_of};
 
 use con_units::{Attr, Shade, near};
@@ -68,101 +69,93 @@ impl Pen {
         Attr::shaded(self.word(), self.fore, self.back)
     }
 
-    // A layer in one of the sixteen colours.
-    fn in_colour(self, layer: Layer, colour: u8) -> Pen
-        requires pen { IsPen self }
+    // A layer takes one of the sixteen colours.
+    fn take_colour(&mut self, layer: Layer, colour: u8)
+        requires pen { IsPen self.old }
         requires sixteen { colour < 16 }
-        ensures pen { result ≡ in_colour self layer colour }
-        ensures small { IsPen result }
+        ensures pen { self.new ≡ in_colour self.old layer colour }
+        ensures small { IsPen self.new }
     {
         match layer {
-            Layer::Fore => Pen {
-                foreground: colour,
-                fore: Shade::Plain,
-                ..self
-            },
-            Layer::Back => Pen {
-                background: colour,
-                back: Shade::Plain,
-                ..self
-            },
+            Layer::Fore => {
+                self.foreground = colour;
+                self.fore = Shade::Plain;
+            }
+            Layer::Back => {
+                self.background = colour;
+                self.back = Shade::Plain;
+            }
         }
     }
 
-    // A layer in the colour of an index.
-    fn in_shade(self, layer: Layer, index: u8) -> Pen
-        requires pen { IsPen self }
+    // A layer takes the colour of an index.
+    fn take_shade(&mut self, layer: Layer, index: u8)
+        requires pen { IsPen self.old }
         requires index { 16 ≤ index }
-        ensures pen { result ≡ in_shade self layer index }
-        ensures small { IsPen result }
+        ensures pen { self.new ≡ in_shade self.old layer index }
+        ensures small { IsPen self.new }
     {
         match layer {
-            Layer::Fore => Pen {
-                foreground: near(index),
-                fore: Shade::Index(index),
-                ..self
-            },
-            Layer::Back => Pen {
-                background: near(index),
-                back: Shade::Index(index),
-                ..self
-            },
+            Layer::Fore => {
+                self.foreground = near(index);
+                self.fore = Shade::Index(index);
+            }
+            Layer::Back => {
+                self.background = near(index);
+                self.back = Shade::Index(index);
+            }
         }
     }
 
-    /// The pen with a layer in a colour of the table of 256, by its number; unchanged where there is none of that number.
+    /// A layer takes a colour of the table of 256, by its number; nothing changes where there is none of that number.
     #[tactic(auto, unfolding(crate::specs::Pen::indexed))]
-    pub fn indexed(self, layer: Layer, number: u16) -> Pen
-        requires { IsPen self }
-        ensures pen { result ≡ indexed self layer number }
-        ensures small { IsPen result }
+    pub fn take_index(&mut self, layer: Layer, number: u16)
+        requires { IsPen self.old }
+        ensures pen { self.new ≡ indexed self.old layer number }
+        ensures small { IsPen self.new }
     {
         if number < 8 {
-            self.in_colour(layer, colour(number))
+            self.take_colour(layer, colour(number));
         } else if number < 16 {
-            self.in_colour(layer, colour(number - 8) + 8)
+            self.take_colour(layer, colour(number - 8) + 8);
         } else if number < 256 {
-            self.in_shade(layer, number as u8)
-        } else {
-            self
+            self.take_shade(layer, number as u8);
         }
     }
 
-    /// The pen after one parameter by itself.
+    /// One parameter acts by itself.
     #[tactic(auto, unfolding(crate::specs::Pen::pen_after))]
-    pub fn after(self, parameter: u16) -> Pen
-        requires { IsPen self }
-        ensures pen { result ≡ pen_after self parameter }
-        ensures small { IsPen result }
+    pub fn act(&mut self, parameter: u16)
+        requires { IsPen self.old }
+        ensures pen { self.new ≡ pen_after self.old parameter }
+        ensures small { IsPen self.new }
     {
-        let mut pen = self;
         match parameter {
-            0 => pen = Pen::starting(),
-            1 => pen.bold = true,
-            22 => pen.bold = false,
-            4 => pen.underline = true,
-            24 => pen.underline = false,
-            7 => pen.negative = true,
-            27 => pen.negative = false,
-            _ => pen = self.coloured(parameter),
+            0 => *self = Pen::starting(),
+            1 => self.bold = true,
+            22 => self.bold = false,
+            4 => self.underline = true,
+            24 => self.underline = false,
+            7 => self.negative = true,
+            27 => self.negative = false,
+            _ => self.act_colour(parameter),
         }
-        pen
     }
 
-    // The pen after a parameter that names a colour.
-    fn coloured(self, parameter: u16) -> Pen
-        requires { IsPen self }
-        ensures pen { result ≡ coloured self parameter }
-        ensures small { IsPen result }
+    // A parameter that may name a colour acts.
+    fn act_colour(&mut self, parameter: u16)
+        requires { IsPen self.old }
+        ensures pen { self.new ≡ coloured self.old parameter }
+        ensures small { IsPen self.new }
     {
         match parameter {
-            30..=37 => self.in_colour(Layer::Fore, colour(parameter - 30)),
-            39 => self.in_colour(Layer::Fore, 7),
-            40..=47 => self.in_colour(Layer::Back, colour(parameter - 40)),
-            49 => self.in_colour(Layer::Back, 0),
-            90..=97 => self.in_colour(Layer::Fore, colour(parameter - 90) + 8),
-            100..=107 => self.in_colour(Layer::Back, colour(parameter - 100) + 8),
-            _ => self,
+            30..=37 => self.take_colour(Layer::Fore, colour(parameter - 30)),
+            39 => self.take_colour(Layer::Fore, 7),
+            40..=47 => self.take_colour(Layer::Back, colour(parameter - 40)),
+            49 => self.take_colour(Layer::Back, 0),
+            90..=97 => self.take_colour(Layer::Fore, colour(parameter - 90) + 8),
+            100..=107 => self.take_colour(Layer::Back, colour(parameter - 100) + 8),
+            _ => {}
         }
     }
 }
@@ -211,50 +204,37 @@ pub struct Reader {
 }
 
 impl Reader {
-    /// What is read after one parameter more.
-    pub fn after(self, parameter: u16) -> Reader
-        requires { IsPen self.pen }
-        ensures read { result ≡ read_next self parameter }
-        ensures small { IsPen result.pen }
+    // One parameter more is read. Out of line, so that the pen stays in memory and is not taken apart for each.
+    #[inline(never)]
+    fn take(&mut self, parameter: u16)
+        requires { IsPen self.old.pen }
+        ensures read { self.new ≡ read_next self.old parameter }
+        ensures small { IsPen self.new.pen }
     {
         match self.place {
-            Place::Next => begin(self.pen, parameter),
-            Place::Kind(layer) => Reader {
-                pen: self.pen,
-                place: colour_kind(layer, parameter),
-            },
-            Place::Index(layer) => Reader {
-                pen: self.pen.indexed(layer, parameter),
-                place: Place::Next,
-            },
-            Place::Skip(count) => Reader {
-                pen: self.pen,
-                place: skip(count),
-            },
-            Place::Ended => self,
+            Place::Next => self.begin(parameter),
+            Place::Kind(layer) => self.place = colour_kind(layer, parameter),
+            Place::Index(layer) => {
+                self.pen.take_index(layer, parameter);
+                self.place = Place::Next;
+            }
+            Place::Skip(count) => self.place = skip(count),
+            Place::Ended => {}
         }
     }
-}
 
-// A parameter by itself, or the begin of a colour.
-fn begin(pen: Pen, parameter: u16) -> Reader
-    requires { IsPen pen }
-    ensures read { result ≡ begin_at pen parameter }
-    ensures small { IsPen result.pen }
-{
-    match parameter {
-        38 => Reader {
-            pen,
-            place: Place::Kind(Layer::Fore),
-        },
-        48 => Reader {
-            pen,
-            place: Place::Kind(Layer::Back),
-        },
-        _ => Reader {
-            pen: pen.after(parameter),
-            place: Place::Next,
-        },
+    // A parameter by itself, or the begin of a colour.
+    fn begin(&mut self, parameter: u16)
+        requires pen { IsPen self.old.pen }
+        requires next { self.old.place ≡ Next }
+        ensures read { self.new ≡ begin_at self.old.pen parameter }
+        ensures small { IsPen self.new.pen }
+    {
+        match parameter {
+            38 => self.place = Place::Kind(Layer::Fore),
+            48 => self.place = Place::Kind(Layer::Back),
+            _ => self.pen.act(parameter),
+        }
     }
 }
 
@@ -291,7 +271,7 @@ pub fn after_all(pen: Pen, parameters: &[u16]) -> Pen
         place: Place::Next,
     };
     for parameter in parameters {
-        reader = reader.after(*parameter);
+        reader.take(*parameter);
     }
     reader.pen
 }

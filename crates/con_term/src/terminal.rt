@@ -9,7 +9,7 @@ ghost use Rattle.con_term.specs.Terminal.{IsTerminal, view_of};
 use crate::dump::dump;
 use crate::page::Page;
 use con_units::{Cell, OutOfMemory, Size, Units, Utf8, View};
-use con_vtgram::{Found, Splitter, plain_is_printed};
+use con_vtgram::{Found, Splitter, is_plain, plain_is_printed};
 use std::alloc::Global;
 use std::marker::Model;
 
@@ -178,6 +178,13 @@ fn byte_played(bytes: &mut Utf8, page: &mut Page, units: &mut Splitter, byte: u8
     character_if(page, units, decoded.second);
 }
 
+fn begins_plain(input: &[u8]) -> bool {
+    match input.first() {
+        Some(byte) => is_plain(*byte as u16),
+        None => false,
+    }
+}
+
 // Plays bytes of printable ASCII at the front, and tells how many.
 fn run_played(bytes: &Utf8, page: &mut Page, units: &Splitter, input: &[u8]) -> usize
     ensures few { result ≤ length input.now }
@@ -187,6 +194,9 @@ fn run_played(bytes: &Utf8, page: &mut Page, units: &Splitter, input: &[u8]) -> 
         return 0;
     }
     if bytes.held() != 0 {
+        return 0;
+    }
+    if !begins_plain(input) {
         return 0;
     }
     plain_is_printed();

@@ -10,5 +10,8 @@ returns-then-not-is_clear-clause-played c = play-none _
 pub returns-then-held-ne0-clause-played : goal.returns-then-held-ne0-clause-played
 returns-then-held-ne0-clause-played c = play-none _
 
+pub returns-then-not-begins_plain-clause-played : goal.returns-then-not-begins_plain-clause-played
+returns-then-not-begins_plain-clause-played c = play-none _
+
 pub returns-clause-played : goal.returns-clause-played
 returns-clause-played c = plain_run (parts c.args.bytes.now c.args.page.now c.args.units.now) _ _ c.plain_is_printed.ensures (none_held _ _ c.held.ensures c.if-held-ne0.false) (c.is_clear.ensures.clear c.if-not-is_clear.false) c.print_run.ensures.plain c.print_run.ensures.printed
