@@ -2,17 +2,18 @@
 
 ghost use Rattle.std.specs.Prelude.{◌≡◌, ℕ, ◌+◌, ◌*◌, ◌≤◌, Bool, true, List, [], ◌∷◌, ◌++◌, length, flat_map, Option, Some, None, Err, OnOk, IfErr, vec_len, vec_capacity};
 ghost use Rattle.std.specs.List.{list_all};
-ghost use Rattle.con_units.specs.Split.{split_after};
+ghost use Rattle.con_units.specs.Split.{next, split_after};
 ghost use Rattle.con_outside.specs.Outside.{then_left};
 ghost use Rattle.con_link.specs.Frames.{spelling, is_frame, goes_on};
 ghost use Rattle.con_vtin.specs.Keys.{grammar, quieted};
+ghost use Rattle.con_vtin.specs.Pieces.{typed, piece_grammar, ended_piece};
 ghost use Rattle.con_vtin.specs.Sequences.{sent};
 
 use con_link::{LinkFault, all_frames};
 use con_outside::Source;
 use con_records::Key;
 use con_units::Frame;
-use con_vtin::{KeyReader, is_sent_within_its_bytes};
+use con_vtin::{KeyReader, is_read_in_pieces, is_sent_within_its_bytes};
 use std::alloc::Global;
 
 /// Two bytes give at most as many keys, and send at most as many units, as there were bytes held, and two more.
@@ -41,6 +42,16 @@ pub fn feed_then_quiet(reader: &mut KeyReader, byte: u8, out: &mut Vec<Key>)
     prove!(held <= 32);
     reader.feed(byte, out);
     reader.quiet(out);
+}
+
+/// What a byte gives, its keys and then the sequence that it ended without one, are its pieces.
+pub fn feed_piece(reader: &mut KeyReader, byte: u8, out: &mut Vec<Key>)
+    requires none { out.old.items ≡ [] }
+    requires room { 64 ≤ vec_capacity out.old }
+    ensures pieces { (next piece_grammar reader.old.held byte).items ≡ typed out.new.items ++ ended_piece reader.new.ended }
+{
+    is_read_in_pieces();
+    reader.feed(byte, out);
 }
 
 /// The records of bytes, however they are cut: two for each key, or one for each unit, are at most two a byte, those held before
