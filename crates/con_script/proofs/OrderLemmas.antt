@@ -13,6 +13,7 @@ use Rattle.con_script.specs.declared.place.Halt.TheVariants as halts
 use Rattle.con_script.specs.declared.place.Stop.{Stop}
 use Rattle.con_script.specs.declared.place.Stop.TheVariants as stops
 use Rattle.con_script.specs.Places.{Gives, Answers, Keeps, KeepsAll, StopsAt, seen, stands}
+use Rattle.con_script.proofs.LimitLemmas.{last_test}
 use Rattle.con_script.specs.Session.{Spot, key, Where, key_of, or_fault, unless, and_then, as_where, keys_spot, client_keys, top_keys, member_at, program_in, group_in, calls_in, script_in, version_in, size_in, clients_in, session_in}
 
 -- a refusal that is handed on
@@ -106,4 +107,4 @@ session_clients d v size e k p s c = rw (k, p, s, c) refl
 
 pub session_whole : (d : Data) (v : Version) (size : Size) (scripts : List Script) → top_where d ≡ None → version_at d ≡ Ok v → size_at d ≡ Ok size → scripts_at v d ≡ Ok scripts → session_in d ≡ or_fault (key_of (codes "clients")) (session_of size scripts)
 unfolding session_in
-session_whole d v size scripts k p s c = rw (k, p, s, c) refl
+session_whole d v size scripts k p s c = rw (k, p, s, c) (last_test v (member_at (codes "size") d) (member_at (codes "clients") d) size scripts s c)

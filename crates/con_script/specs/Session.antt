@@ -4,7 +4,7 @@ use Rattle.std.specs.Str.{bytes_eq}
 use Rattle.con_units.specs.declared.place.Size.{Size}
 use Rattle.con_events.specs.declared.script.Step.{Step}
 use Rattle.con_events.specs.declared.script.Script.{Script}
-use Rattle.con_events.specs.Session.{Clients, is_within, session_of}
+use Rattle.con_events.specs.Session.{Clients, is_within, steps_of}
 use Rattle.serde_json.specs.Data.{Data, null, boolean, number, string, array, object, Items, no_items, item, Members, no_members, member}
 use Rattle.serde_json.specs.Find.{get, as_number, as_u64, as_array, as_str, as_object}
 use Rattle.con_script.specs.declared.version.Version.{Version}
@@ -163,10 +163,15 @@ as_where whole = all
 as_where (key k) = key_of k
 as_where (call i) = all
 
--- what is left to be tried at the end is that there are at most 16,384 calls over all clients
+-- at most 16,384 calls over all clients
+abbrev pub few_calls : List Script → Bool
+few_calls scripts = nat_le (steps_of scripts) 16384
+
+abbrev pub of_scripts : Size → List Script → Result Clients Where
+of_scripts size scripts = if few_calls scripts then Ok (record { size = size; scripts = scripts }) else Err (key_of (codes "clients"))
+
 unfoldable pub session_in : Data → Result Clients Where
 session_in d = unless (option_map as_where (keys_spot top_keys d))
     (and_then (or_fault (key_of (codes "version")) (version_in (member_at (codes "version") d))) (λ v.
     and_then (or_fault (key_of (codes "size")) (size_in (member_at (codes "size") d))) (λ size.
-    and_then (clients_in v (member_at (codes "clients") d)) (λ scripts.
-    or_fault (key_of (codes "clients")) (session_of size scripts)))))
+    and_then (clients_in v (member_at (codes "clients") d)) (of_scripts size))))
