@@ -1,0 +1,12 @@
+//! Tests of documents and generated sessions, as a caller sees them.
+#![tactic(auto)]
+
+pub mod callers;
+#[cfg(test)]
+mod calls;
+#[cfg(test)]
+mod documents;
+#[cfg(test)]
+mod drawn;
+#[cfg(test)]
+mod large;
