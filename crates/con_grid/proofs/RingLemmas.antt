@@ -1,5 +1,5 @@
 -- Cells whose first one may stand anywhere in their block.
-use Rattle.std.proofs.Common.{◌≡◌, ℕ, ◌+◌, ◌-◌, ◌<◌, ◌≤◌, List, None, [], ◌∷◌, ◌++◌, length, take, drop, replicate, get_or, set, refl, sym, ap, ◌∙◌, append_assoc, arith}
+use Rattle.std.proofs.Common.{◌≡◌, ℕ, ◌+◌, ◌-◌, ◌<◌, ◌≤◌, List, None, [], ◌∷◌, ◌++◌, length, take, drop, replicate, get_or, set, min, refl, sym, ap, ◌∙◌, append_assoc, arith}
 use Rattle.std.proofs.lemmas.List.{same_lists, places, take-append-drop, length-replicate, length-map, take_more_set, drop-set-lt}
 use Rattle.std.proofs.lemmas.Grind.{common_steps}
 use Rattle.con_units.specs.Attr.{Attribute}
@@ -66,6 +66,23 @@ pub lift_turns : (s : List Glyph) (t by : ℕ) (c : Glyph) → t ≤ length s �
 unfolding turned filled lifted
 lift_turns s t by c inside few =
     same_lists _ _ (grind (arith, places)) (λ k d h. grind (arith, places))
+
+-- the first cells lie on both sides of the seam
+pub lift_wraps : (s : List Glyph) (t by : ℕ) (c : Glyph) → t ≤ length s → by ≤ length s → length s - t < by
+    → turned (filled (filled s t (length s) c) 0 (by - (length s - t)) c) (by - (length s - t)) ≡ lifted (turned s t) by c
+unfolding turned filled lifted
+lift_wraps s t by c inside few over =
+    same_lists _ _ (grind (arith, places)) (λ k d h. grind (arith, places))
+
+-- no more cells are lifted than there are
+pub lifted_all : (s : List Glyph) (by : ℕ) (c : Glyph) → lifted s (min by (length s)) c ≡ lifted s by c
+unfolding lifted
+lifted_all s by c = same_lists _ _ (grind (arith, places)) (λ k d h. grind (arith, places))
+
+pub lifted_few : (s r : List Glyph) (t by n few : ℕ) (c : Glyph) → turned s t ≡ r → few ≡ min by n → n ≡ length s → lifted (turned s t) few c ≡ lifted r by c
+lifted_few s r t by n few c same is count =
+    let long : n ≡ length r = count ∙ sym (length-turned s t) ∙ ap length same in
+    ap (λ (xs : List Glyph). lifted xs few c) same ∙ ap (λ k. lifted r k c) (is ∙ ap (λ k. min by k) long) ∙ lifted_all r by c
 
 -- ---- one cell
 

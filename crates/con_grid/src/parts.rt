@@ -31,6 +31,16 @@ pub fn fill(cells: &mut [Cell], from: usize, upto: usize, cell: Cell)
     }
 }
 
+/// Writes a cell over the cells from one place on, and over those in front of another.
+pub fn fill_ends(cells: &mut [Cell], from: usize, upto: usize, cell: Cell)
+    requires { (from ≤ length cells.old) × (upto ≤ length cells.old) }
+    ensures { cells.new ≡ filled (filled cells.old from (length cells.old) cell) 0 upto cell }
+{
+    let count = cells.len();
+    fill(cells, from, count, cell);
+    fill(cells, 0, upto, cell);
+}
+
 /// Lifts all cells.
 #[tactic(auto, unfolding(crate::specs::Picture::lifted, crate::specs::Picture::filled))]
 pub fn lift(cells: &mut [Cell], by: usize, cell: Cell)

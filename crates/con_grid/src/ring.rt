@@ -1,5 +1,5 @@
 //! Cells in a block whose first cell may stand anywhere, so that a scroll of all rows moves none.
-ghost use Rattle.std.specs.Prelude.{◌≡◌, ◌+◌, ◌*◌, ◌<◌, ◌≤◌, List, Some, length, replicate, slice_get, slice_set, IfOk, true};
+ghost use Rattle.std.specs.Prelude.{◌≡◌, ◌+◌, ◌*◌, ◌<◌, ◌≤◌, List, Some, length, min, replicate, slice_get, slice_set, IfOk, true};
 ghost use Rattle.con_units.specs.Glyph.{Glyph};
 ghost use Rattle.con_grid.specs.Picture.{filled, units_put, lifted, part_lifted, part_lowered};
 ghost use Rattle.con_grid.specs.Ring.{turned, IsSpot, IsIndex};
@@ -78,6 +78,12 @@ fn around(top: usize, count: usize) -> usize
     ensures inside { result ≤ count }
 {
     if top == count { 0 } else { top }
+}
+
+fn lesser(a: usize, b: usize) -> usize
+    ensures { result ≡ min a b }
+{
+    a.min(b)
 }
 
 impl Ring {
@@ -172,19 +178,21 @@ impl Ring {
         parts::lower_part(&mut self.block, at, at + (upto - from), by, cell);
     }
 
-    /// Lifts all cells.
+    /// Lifts all cells. The first ones become the last ones in their places; none else is touched.
     pub fn lift(&mut self, by: usize, cell: Cell)
         ensures { self.new ≡ lifted self.old by cell }
     {
         let count = self.block.len();
-        if by <= count - self.top {
+        let by = lesser(by, count);
+        let seam = count - self.top;
+        if by <= seam {
             let end = self.top + by;
             parts::fill(&mut self.block, self.top, end, cell);
             self.top = around(end, count);
         } else {
-            turn(&mut self.block, self.top);
-            self.top = 0;
-            parts::lift(&mut self.block, by, cell);
+            let end = by - seam;
+            parts::fill_ends(&mut self.block, self.top, end, cell);
+            self.top = end;
         }
     }
 }
