@@ -1,8 +1,8 @@
 //! Callers with variables: what a crate above does with the promises, with no proof of its own.
 ghost use Rattle.std.specs.Prelude.{◌≡◌, ℕ, ◌+◌, ◌<◌, ◌≤◌, Bool, true, false, IfOk, IfErr, IfSome, IsTrue, ◌↔◌, Ok, Err, if◌then◌else◌};
 ghost use Rattle.std.specs.Option.{IfNone};
-ghost use Rattle.con_handles.specs.Handles.{is_at, is_owned, new_number, least_of, is_used};
-ghost use Rattle.con_handles.specs.Tables.{IsTable, tally, on};
+ghost use Rattle.con_handles.specs.Handles.{is_at, is_owned, new_number, is_used};
+ghost use Rattle.con_handles.specs.Tables.{tally, on};
 ghost use Rattle.con_procs.specs.Procs.{is_attached, programs_of};
 ghost use Rattle.con_history.specs.Histories.{used_by, can_use};
 
