@@ -4,7 +4,7 @@
     bench/gate_cost.py rt ci --anew
 
 It looks twice a second at the processes below the command, by /proc, so up to half a second of each process is not counted. The last
-line has all that the command and its children took, by the system's own count."""
+line has all that the command and its children took, by the system's own count. A run that is interrupted prints what it took so far."""
 import collections
 import os
 import resource
@@ -59,14 +59,17 @@ def part_of(pid):
 
 def main():
     run, parts, took = subprocess.Popen(sys.argv[1:]), {}, {}
-    while run.poll() is None:
-        found = processes()
-        for pid in below(found, run.pid):
-            if pid in found:
-                one = pid, found[pid][2]
-                parts[one] = parts.get(one) or part_of(pid)
-                took[one] = found[pid][1]
-        time.sleep(0.5)
+    try:
+        while run.poll() is None:
+            found = processes()
+            for pid in below(found, run.pid):
+                if pid in found:
+                    one = pid, found[pid][2]
+                    parts[one] = parts.get(one) or part_of(pid)
+                    took[one] = found[pid][1]
+            time.sleep(0.5)
+    except KeyboardInterrupt:
+        run.wait()
     table = collections.defaultdict(collections.Counter)
     for one, part in parts.items():
         if part:
