@@ -1,5 +1,5 @@
 -- What is drawn goes on from what was drawn, and a generated session is within its limits.
-use Rattle.std.proofs.Common.{◌≡◌, ℕ, zero, suc, ◌+◌, ◌-◌, ◌*◌, ◌<◌, ◌≤◌, List, [], ◌∷◌, ◌++◌, length, refl, true, ap, sym, ◌∙◌, append_assoc, arith, Option, Some, None}
+use Rattle.std.proofs.Common.{◌≡◌, ℕ, zero, suc, ◌+◌, ◌-◌, ◌<◌, ◌≤◌, List, [], ◌∷◌, ◌++◌, length, refl, ap, sym, ◌∙◌, append_assoc, arith, Some, None}
 use Rattle.std.specs.Prelude.{codes}
 use Rattle.std.specs.Fmt.{decimal, digits}
 use Rattle.con_events.specs.declared.script.Step.{Step}
@@ -8,7 +8,7 @@ use Rattle.con_events.specs.declared.call.Call.TheVariants as call
 use Rattle.con_events.specs.declared.script.Script.{Script}
 use Rattle.con_events.specs.Session.{session_of}
 use Rattle.con_units.specs.SplitLaws.{append_none}
-use Rattle.con_script.specs.Generated.{Made, moved, drawn, units_drawn, step_drawn, steps_drawn, script_drawn, session_drawn, first_drawn, second_drawn, third_drawn, fourth_drawn}
+use Rattle.con_script.specs.Generated.{moved, drawn, units_drawn, step_drawn, steps_drawn, script_drawn, session_drawn, first_drawn, second_drawn, third_drawn}
 
 units_next : (n m x : ℕ) → n ≡ suc m → units_drawn n x ≡ record { made = (32 + drawn 95 (moved x)) ∷ (units_drawn m (moved x)).made; left = (units_drawn m (moved x)).left }
 unfolding units_drawn

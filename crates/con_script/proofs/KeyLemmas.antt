@@ -1,13 +1,13 @@
 -- The first fault of an object's keys, and arrays within limits.
-use Rattle.std.proofs.Common.{◌≡◌, ℕ, ◌≤◌, Bool, suc, arith, List, [], ◌∷◌, length, refl, true, false, Option, Some, None, ap, sym, ◌∙◌}
+use Rattle.std.proofs.Common.{◌≡◌, ℕ, ◌≤◌, Bool, suc, arith, List, [], ◌∷◌, length, refl, true, false, Some, None, ap, sym, ◌∙◌}
 use Rattle.std.specs.Prelude.{unwrap_or, option_map, if◌then◌else◌, ◌&&◌, nat_le}
 use Rattle.std.proofs.lemmas.Bool.Decides.{nat_tests}
 use borrow.Author.Tests.{leb-true}
-use Rattle.serde_json.specs.Data.{Data, null, boolean, number, string, array, object, Members, no_members, Items}
+use Rattle.serde_json.specs.Data.{Data, null, boolean, number, string, array, object, Members, no_members}
 use Rattle.serde_json.specs.Find.{get, as_object, as_array}
 use Rattle.serde_json.specs.View.{items_view}
 use Rattle.serde_json.specs.declared.value.Value.{Value}
-use Rattle.con_script.specs.Session.{Spot, whole, key, keys_spot, first_missing, first_unknown, or_else, count, array_within, member_at}
+use Rattle.con_script.specs.Session.{whole, key, keys_spot, first_missing, first_unknown, or_else, count, array_within, member_at}
 use Rattle.con_events.specs.Session.{is_within}
 
 pub not_object : (ks : List (List ℕ)) (d : Data) → None ≡ as_object d → keys_spot ks d ≡ Some whole

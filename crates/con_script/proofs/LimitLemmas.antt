@@ -1,18 +1,18 @@
 -- What is read of a document is within the limits of a session, but for the sum of calls.
-use Rattle.std.proofs.Common.{◌≡◌, ℕ, suc, List, [], ◌∷◌, length, refl, true, false, Bool, Option, Some, None, ap, sym, subst, ◌∙◌, arith}
+use Rattle.std.proofs.Common.{◌≡◌, ℕ, suc, List, [], ◌∷◌, length, refl, true, false, Bool, Option, Some, None, ap, sym, subst, arith}
 use Rattle.std.specs.Prelude.{Result, Ok, Err, codes, if◌then◌else◌, ◌&&◌, nat_le, option_and_then}
 use Rattle.std.proofs.lemmas.Bool.Decides.{nat_tests}
 use Rattle.con_units.specs.declared.place.Size.{Size}
 use Rattle.con_events.specs.declared.script.Step.{Step}
 use Rattle.con_events.specs.declared.script.Script.{Script}
-use Rattle.con_events.specs.Session.{Clients, is_within, is_size, is_script, all_scripts, steps_of, session_of}
+use Rattle.con_events.specs.Session.{Clients, is_within, is_size, is_script, all_scripts, session_of}
 use Rattle.con_values.specs.Values.{below}
 use Rattle.serde_json.specs.Data.{Data, Items, no_items, item}
 use Rattle.serde_json.specs.Find.{as_array, as_number, as_u64}
 use Rattle.con_script.specs.declared.version.Version.{Version}
 use Rattle.con_script.specs.declared.version.Version.TheVariants.{One, Two}
 use Rattle.con_script.specs.Values.{text_in}
-use Rattle.con_script.specs.Session.{Spot, key, Where, key_of, client, and_then, or_fault, unless, with_fault, each_from, count, within, array_within, keys_spot, client_keys, member_at, program_units, program_in, group_in, call_at, calls_in, script_in, between, size_of, size_items, size_in, most_clients, client_at, clients_in, few_calls, of_scripts}
+use Rattle.con_script.specs.Session.{key, key_of, client, and_then, or_fault, unless, with_fault, each_from, count, within, array_within, keys_spot, client_keys, member_at, program_units, program_in, group_in, call_at, calls_in, script_in, size_of, size_items, size_in, most_clients, client_at, clients_in, few_calls, of_scripts}
 
 -- ---- what an answer without a fault says
 

@@ -1,11 +1,11 @@
 -- The session that bytes are, and how the place of a fault is spelled.
-use Rattle.std.specs.Prelude.{ℕ, List, [], ◌++◌, codes, decimal, Bool, if◌then◌else◌, Option, Some, None, Result, option_map}
+use Rattle.std.specs.Prelude.{ℕ, List, [], ◌++◌, codes, decimal, if◌then◌else◌, Option, None, Result, option_map}
 use Rattle.std.specs.Str.{is_utf8}
 use Rattle.con_events.specs.Session.{Clients}
 use Rattle.serde_json.specs.Data.{Data}
 use Rattle.serde_json.specs.Read.{read}
 use Rattle.con_script.specs.Units.{text_units}
-use Rattle.con_script.specs.Session.{Spot, whole, key, call, Where, all, key_of, client, session_in}
+use Rattle.con_script.specs.Session.{whole, key, call, Where, all, key_of, client, session_in}
 
 -- the value of JSON (RFC 8259) that bytes are in UTF-8, nested to depth 127
 abbrev pub json_of : List ℕ → Option Data

@@ -1,6 +1,5 @@
 -- Sessions from a number: draws by the linear congruence of Knuth's MMIX (The Art of Computer Programming 2, section 3.3.4), and what they choose.
 use Rattle.std.specs.Prelude.{ℕ, zero, suc, ◌+◌, ◌*◌, ◌/◌, ◌%◌, pos, true, List, [], ◌∷◌, ◌++◌, codes, decimal}
-use Rattle.con_units.specs.declared.place.Rect.{Rect}
 use Rattle.con_records.specs.declared.record.Record.TheVariants as record_of
 use Rattle.con_events.specs.declared.call.Call.TheVariants as call
 use Rattle.con_events.specs.declared.script.Step.{Step}

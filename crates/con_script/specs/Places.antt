@@ -1,5 +1,5 @@
 -- The code's places, without where they lie in memory, and what the code's answers say.
-use Rattle.std.specs.Prelude.{◌≡◌, ℕ, List, Result, Ok, Err, Option, Some, None, map, string_bytes}
+use Rattle.std.specs.Prelude.{◌≡◌, ℕ, List, Result, Ok, Err, Option, Some, None, string_bytes}
 use Rattle.con_script.specs.declared.place.Place.{Place}
 use Rattle.con_script.specs.declared.place.Place.TheVariants as places
 use Rattle.con_script.specs.declared.place.Site.{Site}

@@ -1,12 +1,12 @@
 -- The session that a value of JSON is, or the place of its first fault.
-use Rattle.std.specs.Prelude.{ℕ, suc, ◌&&◌, ◌||◌, ◌==◌, Bool, true, false, cond, if◌then◌else◌, List, [], ◌∷◌, length, Option, Some, None, option_map, option_and_then, is_some, Result, Ok, Err, codes, nat_le, unwrap_or}
+use Rattle.std.specs.Prelude.{ℕ, suc, ◌||◌, ◌==◌, Bool, false, cond, if◌then◌else◌, List, [], ◌∷◌, length, Option, Some, None, option_map, option_and_then, is_some, Result, Ok, Err, codes, nat_le, unwrap_or}
 use Rattle.std.specs.Str.{bytes_eq}
 use Rattle.con_units.specs.declared.place.Size.{Size}
 use Rattle.con_events.specs.declared.script.Step.{Step}
 use Rattle.con_events.specs.declared.script.Script.{Script}
 use Rattle.con_events.specs.Session.{Clients, is_within, steps_of}
 use Rattle.serde_json.specs.Data.{Data, null, boolean, number, string, array, object, Items, no_items, item, Members, no_members, member}
-use Rattle.serde_json.specs.Find.{get, as_number, as_u64, as_array, as_str, as_object}
+use Rattle.serde_json.specs.Find.{get, as_number, as_u64, as_array}
 use Rattle.con_script.specs.declared.version.Version.{Version}
 use Rattle.con_script.specs.declared.version.Version.TheVariants.{One, Two}
 use Rattle.con_values.specs.Values.{below}

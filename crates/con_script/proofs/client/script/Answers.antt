@@ -1,4 +1,3 @@
-use Rattle.std.proofs.Common.{◌≡◌}
 use Rattle.con_script.proofs.OrderLemmas.{halted, halted_keys, script_keys, script_program, script_group, script_steps, script_ok}
 use Rattle.con_script.proofs.client.script.Goals as goal
 

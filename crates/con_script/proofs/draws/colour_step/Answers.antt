@@ -1,5 +1,4 @@
-use Rattle.std.proofs.Common.{◌≡◌}
-use Rattle.con_script.proofs.GeneratedLemmas.{colour_digits, colour_call}
+use Rattle.con_script.proofs.GeneratedLemmas.{colour_call}
 use Rattle.con_script.proofs.draws.colour_step.Goals as goal
 
 pub returns-clause-made : goal.returns-clause-made

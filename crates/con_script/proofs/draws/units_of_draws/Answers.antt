@@ -1,4 +1,3 @@
-use Rattle.std.proofs.Common.{◌≡◌}
 use Rattle.con_script.proofs.GeneratedLemmas.{more_units, units_left, all_units, end_of_units}
 use Rattle.con_script.proofs.draws.units_of_draws.Goals as goal
 

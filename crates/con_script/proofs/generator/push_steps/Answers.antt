@@ -1,4 +1,3 @@
-use Rattle.std.proofs.Common.{◌≡◌}
 use Rattle.con_script.proofs.GeneratedLemmas.{more_steps, steps_left, all_steps, end_of_steps}
 use Rattle.con_script.proofs.generator.push_steps.Goals as goal
 

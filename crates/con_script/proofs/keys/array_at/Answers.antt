@@ -1,4 +1,4 @@
-use Rattle.std.proofs.Common.{◌≡◌, arith, inl, inr}
+use Rattle.std.proofs.Common.{arith, inl, inr}
 use Rattle.serde_json.specs.View.{view}
 use Rattle.con_script.proofs.KeyLemmas.{array_found, array_lost}
 use Rattle.con_script.proofs.keys.array_at.Goals as goal

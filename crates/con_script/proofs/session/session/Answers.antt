@@ -1,4 +1,4 @@
-use Rattle.std.proofs.Common.{◌≡◌, ◌∙◌, ap, sym}
+use Rattle.std.proofs.Common.{◌∙◌, ap, sym}
 use Rattle.std.specs.Prelude.{Option, Result, codes}
 use Rattle.con_events.specs.Session.{Clients}
 use Rattle.serde_json.specs.View.{view}
