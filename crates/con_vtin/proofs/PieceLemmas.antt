@@ -1,11 +1,11 @@
 -- Pieces are keys, and the control sequences that give none.
-use Rattle.std.proofs.Common.{◌≡◌, ◌≢◌, ℕ, Bool, true, false, cond, ◌==◌, ◌&&◌, List, [], ◌∷◌, ◌++◌, Option, Some, None, refl, sym, ap, ◌∙◌}
-use Rattle.std.specs.Prelude.{not, map, option_map, option_to_list, nat_le}
+use Rattle.std.proofs.Common.{◌≡◌, ◌≢◌, ℕ, Bool, true, false, cond, ◌==◌, ◌&&◌, List, [], ◌∷◌, ◌++◌, Option, Some, None, refl, sym, ◌∙◌}
+use Rattle.std.specs.Prelude.{not, option_map, nat_le}
 use Rattle.std.proofs.lemmas.List.{map-append}
 use Rattle.con_units.specs.Split.{Split, begun, next, ended, items_or_none}
 use Rattle.con_records.specs.declared.record.Key.{Key}
-use Rattle.con_vtin.specs.Keys.{grammar, is_front, whole, broken, escape_is_front, control_is_front}
-use Rattle.con_vtin.specs.Pieces.{Piece, Typed, Ended, typed, pieces_of, piece_grammar, is_control, gives_none, is_keyless, ended_by, ended_piece, IsReadInPieces}
+use Rattle.con_vtin.specs.Keys.{grammar, is_front, whole, broken}
+use Rattle.con_vtin.specs.Pieces.{Piece, Typed, typed, pieces_of, piece_grammar, is_control, gives_none, ended_by, ended_piece, IsReadInPieces}
 use Rattle.con_vtin.specs.Holding.{Steps, held_of, is_text, ends_keyless, ends_none}
 use Rattle.con_vtin.specs.declared.unfinished.Step.{Step}
 use Rattle.con_vtin.specs.declared.unfinished.Step.TheVariants as steps

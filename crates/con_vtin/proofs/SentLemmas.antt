@@ -1,5 +1,5 @@
 -- How many units the keys of bytes send at most.
-use Rattle.std.proofs.Common.{◌≡◌, ℕ, zero, suc, Bool, true, false, cond, ◌==◌, ◌&&◌, ◌+◌, ◌-◌, ◌/◌, ◌%◌, ◌≤◌, ◌<◌, length, lit≤, arith, List, [], ◌∷◌, ◌++◌, Option, Some, None, refl, subst, length-append}
+use Rattle.std.proofs.Common.{◌≡◌, ℕ, suc, Bool, true, false, cond, ◌==◌, ◌&&◌, ◌+◌, ◌-◌, ◌/◌, ◌%◌, ◌≤◌, ◌<◌, length, lit≤, arith, List, [], ◌∷◌, ◌++◌, Option, Some, None, refl, subst, length-append}
 use Rattle.std.specs.Prelude.{option_to_list, option_map, flat_map, fold, nat_lt, nat_le, not}
 use Rattle.std.specs.Int.{is_in_range}
 use Rattle.std.proofs.lemmas.Bool.Decides.{nat_tests}
@@ -11,7 +11,7 @@ use Rattle.con_vtin.specs.declared.sequence.Row.{Row}
 use Rattle.con_vtin.specs.declared.sequence.Row.TheVariants as rows
 use Rattle.con_vtin.specs.Table.{character_keys, byte_key, pressed, with_alt, letter_key, control_sequence_key, replacement, escape, enhanced, ordinary, six_vk, page_vk, function_vk, is_modifier, modifier_state}
 use Rattle.con_vtin.specs.Keys.{grammar, is_front, whole, broken, quieted, replacements, control_ends, control_whole, single_whole, alt_whole, escape_whole, escape_broken, is_last, is_empty, is_parameter, is_intermediate, front_while, skip_while}
-use Rattle.con_vtin.specs.Sequences.{sent, key_units, units_by, row_of, row_units, plain_row, modified_row, modifier_of, own_units, escaped, alt_in, ctrl_in}
+use Rattle.con_vtin.specs.Sequences.{sent, key_units, units_by, row_of, plain_row, modified_row, modifier_of, own_units, escaped, alt_in, ctrl_in}
 use Rattle.con_vtin.specs.Counts.{SendsWithin}
 use Rattle.con_vtin.proofs.Lists.{both, all_below, holds_below}
 use Rattle.con_vtin.proofs.FewLemmas.{longer, few_next, few_quieted}

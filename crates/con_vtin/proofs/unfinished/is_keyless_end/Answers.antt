@@ -1,4 +1,3 @@
-use Rattle.std.proofs.Common.{◌≡◌}
 use Rattle.con_vtin.proofs.PieceLemmas.{keyless_escape}
 use Rattle.con_vtin.proofs.unfinished.is_keyless_end.Goals as goal
 

@@ -1,4 +1,4 @@
-use Rattle.std.proofs.Common.{rules, arith}
+use Rattle.std.proofs.Common.{rules}
 use Rattle.con_vtin.proofs.Lists.{kept_is}
 use Rattle.con_vtin.proofs.ended.Ended.keep.Goals as goal
 

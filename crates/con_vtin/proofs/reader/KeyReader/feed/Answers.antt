@@ -1,4 +1,4 @@
-use Rattle.std.proofs.Common.{◌≡◌, rules}
+use Rattle.std.proofs.Common.{rules}
 use Rattle.con_vtin.proofs.FewLemmas.{fed_few}
 use Rattle.con_vtin.proofs.SentLemmas.{fed_short}
 use Rattle.con_vtin.proofs.reader.KeyReader.feed.Goals as goal
