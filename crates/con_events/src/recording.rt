@@ -56,10 +56,10 @@ pub fn whole_record<A: Arguments>(name: &str, args: &mut A) -> Result<Record, Mi
 }
 
 /// A record's name.
-pub fn record_name(record: &Record) -> &'static str
-    ensures { result.now ≡ name_of_record record.now }
+pub fn record_name(input: &Record) -> &'static str
+    ensures { result.now ≡ name_of_record input.now }
 {
-    match record {
+    match input {
         Record::Key(_) => "key",
         Record::Mouse(_) => "mouse",
         Record::Size(_) => "size",
@@ -69,10 +69,10 @@ pub fn record_name(record: &Record) -> &'static str
 }
 
 /// Tells a record's fields in order.
-pub fn tell_record<S: Shows>(record: &Record, out: &mut S) -> Result<(), OutOfMemory>
-    ensures { IfOk result (λ _. out.new ≡ put_all S.put out.old (args_of_record record.now)) }
+pub fn tell_record<S: Shows>(input: &Record, out: &mut S) -> Result<(), OutOfMemory>
+    ensures { IfOk result (λ _. out.new ≡ put_all S.put out.old (args_of_record input.now)) }
 {
-    match record {
+    match input {
         Record::Key(key) => {
             out.flag(key.down)?;
             out.unit(key.repeat)?;
