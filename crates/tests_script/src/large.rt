@@ -53,7 +53,11 @@ fn of_many(
 fn lengths_are_tried_at_their_limits(rt: HostRuntime) -> Result<(), Fail> {
     let alloc = rt.alloc();
     let bad = ",{\"program\":\"a\",\"group\":1,\"calls\":[[\"titel\"]]}";
+    let waits =
+        ",{\"program\":\"a\",\"group\":1,\"calls\":[[\"read-with\",1,1,\"ab\",0],[\"read-with\",1,20000,\"\",0]]}";
     let rows = [
+        ("2", 1, 0, waits, "ok"),
+        ("1", 1, 0, waits, "at clients[1].calls[0]"),
         ("1", 16, 0, "", "ok"),
         ("1", 17, 0, "", "at clients"),
         ("2", 64, 0, "", "ok"),
