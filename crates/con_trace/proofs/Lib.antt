@@ -1,3 +1,14 @@
 pub mod Plain
 pub mod Puts
 pub mod Names
+pub mod ToldBack
+pub mod LineBack
+pub mod TablesFit
+pub mod TellsFit
+pub mod EndingFits
+pub mod ReadBack
+pub mod LinePlain
+pub mod Tells
+pub mod Gather
+pub mod Shapes
+pub mod Neither

@@ -6,5 +6,9 @@ pub mod Form
 pub mod Line
 pub mod Fits
 pub mod Ending
--- The code's own words: bytes value by value, and the way back.
+pub mod Report
+-- The code's own words: bytes value by value, the way back, and a text cut into lines.
 pub mod Writing
+pub mod Told
+pub mod Last
+pub mod Cut

@@ -114,7 +114,7 @@ impl Line {
 }
 
 /// The same text in memory of its own.
-fn owned(alloc: Global, text: &str) -> Result<String, OutOfMemory>
+pub fn owned(alloc: Global, text: &str) -> Result<String, OutOfMemory>
     ensures { IfOk result (λ s. string_bytes s ≡ text.now) }
 {
     match String::from_str(alloc, text) {

@@ -1,0 +1,91 @@
+-- A whole report, and what is wrong with another text.
+use Rattle.std.specs.Prelude.{◌≡◌, ◌⊎◌, ℕ, zero, suc, ◌<◌, List, [], ◌∷◌, ◌++◌, length}
+use Rattle.con_events.specs.declared.entry.Entry.{Entry}
+use Rattle.con_events.specs.declared.event.Event.{Event}
+use Rattle.con_events.specs.declared.event.Event.TheVariants as event
+use Rattle.con_events.specs.declared.reply.Reply.{Reply}
+use Rattle.con_trace.specs.declared.said.Said.{Said}
+use Rattle.con_trace.specs.declared.trace.Trace.{Trace}
+use Rattle.con_trace.specs.Line.{line_text, ended}
+use Rattle.con_trace.specs.Fits.{LineFits}
+use Rattle.con_trace.specs.Ending.{Ending, IsEnding, status_of, ending_text}
+
+abbrev pub IsLine : Said → Type 0
+IsLine s = LineFits s.entry s.reply s.end
+
+abbrev pub AreLines : List Said → Type 0
+AreLines [] = Unit {0}
+AreLines (s ∷ ss) = IsLine s × AreLines ss
+
+abbrev pub said_text : Said → List ℕ
+said_text s = ended (line_text s.entry s.reply s.end)
+
+abbrev pub report : List Said → Ending → List ℕ
+report [] last = ended (ending_text last)
+report (s ∷ ss) last = said_text s ++ report ss last
+
+-- ---- a history: an answer for each event, and a length for each picture
+
+pub record History : Type 0 where
+  pub entries : List Entry
+  pub replies : List Reply
+  pub ends : List ℕ
+
+abbrev pub end_of : Event → List ℕ → ℕ
+end_of event.Paint [] = 0
+end_of event.Paint (n ∷ ns) = n
+end_of other ns = 0
+
+abbrev pub ends_behind : Event → List ℕ → List ℕ
+ends_behind event.Paint [] = []
+ends_behind event.Paint (n ∷ ns) = ns
+ends_behind other ns = ns
+
+abbrev pub said : List Entry → List Reply → List ℕ → List Said
+said [] rs ns = []
+said (e ∷ es) [] ns = []
+said (e ∷ es) (r ∷ rs) ns = record { entry = e; reply = r; end = end_of e.event ns } ∷ said es rs (ends_behind e.event ns)
+
+abbrev pub with_picture : Event → ℕ → ℕ
+with_picture event.Paint n = suc n
+with_picture other n = n
+
+abbrev pub pictures : List Entry → ℕ
+pictures [] = 0
+pictures (e ∷ es) = with_picture e.event (pictures es)
+
+-- the history has an answer for each event and a length for each picture, all of them as lines have them
+pub record IsHistory (h : History) : Type 0 where
+  pub answered : length h.replies ≡ length h.entries
+  pub shown : length h.ends ≡ pictures h.entries
+  pub lines : AreLines (said h.entries h.replies h.ends)
+
+abbrev pub report_of : History → Ending → List ℕ
+report_of h last = report (said h.entries h.replies h.ends) last
+
+-- what was read of a text
+abbrev pub history_of : Trace → History
+history_of t = record { entries = t.entries; replies = t.replies; ends = t.ends }
+
+-- the text is the report of the trace, with a last line of its status
+abbrev pub IsReport : List ℕ → Trace → Type 0
+IsReport text t = (last : Ending) × IsEnding last × (status_of last ≡ t.status) × IsHistory (history_of t) × (text ≡ report_of (history_of t) last)
+
+-- ---- the first line of a text that is none of a report, counted from 0
+
+abbrev pub IsWrongAt : ℕ → List ℕ → Type 0
+IsWrongAt zero text = ((s : Said) (rest : List ℕ) → IsLine s → text ≡ said_text s ++ rest → ⊥)
+    × ((e : Ending) (rest : List ℕ) → IsEnding e → text ≡ ended (ending_text e) ++ rest → ⊥)
+IsWrongAt (suc n) text = ((s : Said) × (rest : List ℕ) × IsLine s × (text ≡ said_text s ++ rest) × IsWrongAt n rest)
+    ⊎ ((e : Ending) × (rest : List ℕ) × IsEnding e × (text ≡ ended (ending_text e) ++ rest) × (0 < length rest) × (n ≡ 0))
+
+-- ---- laws
+
+-- a report determines the history, the replies, the streams' lengths and the last line
+abbrev pub ReportTells : Type 0
+ReportTells = (h k : History) (last other : Ending) → IsHistory h → IsHistory k → IsEnding last → IsEnding other
+    → report_of h last ≡ report_of k other → (h ≡ k) × (last ≡ other)
+
+-- no line of a report is wrong
+abbrev pub NoneIsWrong : Type 0
+NoneIsWrong = (h : History) (last : Ending) (n : ℕ) → IsHistory h → IsEnding last → IsWrongAt n (report_of h last) → ⊥

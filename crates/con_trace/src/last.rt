@@ -1,0 +1,192 @@
+//! The last line, read.
+
+ghost use Rattle.std.specs.Prelude.{◌≡◌, length, Some, None, IfOk, IfSome, IsTrue, ◌↔◌, option_map, option_and_then};
+ghost use Rattle.serde_json.specs.View.{view, items_view};
+ghost use Rattle.con_trace.specs.Ending.{IsEnding, ending_data, ending_text, status_of};
+ghost use Rattle.con_trace.specs.Writing.{put};
+ghost use Rattle.con_trace.specs.Last.{last_of, TextFits};
+ghost use Rattle.con_trace.specs.Told.{kind_in, alone_in, is_worded, worded_in, ending_items, ending_in};
+
+use crate::answers::length as number;
+use crate::ending::owned;
+use crate::line::Line;
+use con_units::{FrameFault, OutOfMemory};
+use serde_json::Value;
+use std::alloc::Global;
+
+/// A last line as it is read.
+#[derive(Clone, Copy, Drop)]
+pub enum Last<'v> {
+    /// A status alone.
+    Alone(u8),
+    /// A status and a text.
+    Worded(u8, &'v str),
+    /// Status 8, with a place and a kind.
+    Frame(u64, FrameFault),
+}
+
+impl<'v> Last<'v> {
+    /// The status that it tells.
+    pub fn status(&self) -> u8
+        ensures { result ≡ status_of (last_of self.now) }
+    {
+        match self {
+            Last::Alone(status) => *status,
+            Last::Worded(status, _) => *status,
+            Last::Frame(_, _) => 8,
+        }
+    }
+}
+
+/// The kind of a fault by its word.
+fn kind(word: &str) -> Option<FrameFault>
+    ensures { result ≡ kind_in word.now }
+{
+    match word {
+        "tag" => Some(FrameFault::Tag),
+        "length" => Some(FrameFault::Length),
+        "size" => Some(FrameFault::Size),
+        "cut" => Some(FrameFault::Cut),
+        _ => None,
+    }
+}
+
+/// A status that stands alone.
+fn alone(status: u64) -> Option<Last<'static>>
+    ensures told { option_map last_of result ≡ alone_in status }
+    ensures text { IfSome result (λ last. TextFits (last_of last)) }
+{
+    match status {
+        0 => Some(Last::Alone(0)),
+        9 => Some(Last::Alone(9)),
+        _ => None,
+    }
+}
+
+/// Whether a status stands with the text.
+fn has_text(status: u64, text: &str) -> bool
+    ensures { result ≡ is_worded status text.now }
+{
+    match status {
+        2 => text == "usage",
+        3 => true,
+        4 => text == "link",
+        5 => text == "term",
+        7 => text == "missing" || text == "failed",
+        10 => text == "too long",
+        _ => false,
+    }
+}
+
+/// A status with a text.
+fn worded(status: u64, text: &str) -> Option<Last<'_>>
+    ensures told { option_map last_of result ≡ worded_in status text.now }
+    ensures text { IfSome result (λ last. TextFits (last_of last)) }
+{
+    if has_text(status, text) && status <= 10 {
+        Some(Last::Worded(status as u8, text))
+    } else {
+        None
+    }
+}
+
+fn of_two(items: &[Value]) -> Option<Last<'static>>
+    requires { length items.now ≡ 2 }
+    ensures told { option_map last_of result ≡ ending_items (items_view items.now) }
+    ensures text { IfSome result (λ last. TextFits (last_of last)) }
+{
+    match items {
+        [_, status] => alone(number(status)?),
+        _ => None,
+    }
+}
+
+fn of_three(items: &[Value]) -> Option<Last<'_>>
+    requires { length items.now ≡ 3 }
+    ensures told { option_map last_of result ≡ ending_items (items_view items.now) }
+    ensures text { IfSome result (λ last. TextFits (last_of last)) }
+{
+    match items {
+        [_, status, text] => {
+            let status = number(status)?;
+            let text = text.as_str()?;
+            worded(status, text)
+        }
+        _ => None,
+    }
+}
+
+fn of_four(items: &[Value]) -> Option<Last<'static>>
+    requires { length items.now ≡ 4 }
+    ensures told { option_map last_of result ≡ ending_items (items_view items.now) }
+    ensures text { IfSome result (λ last. TextFits (last_of last)) }
+{
+    match items {
+        [_, _, place, word] => {
+            let place = number(place)?;
+            let word = word.as_str()?;
+            Some(Last::Frame(place, kind(word)?))
+        }
+        _ => None,
+    }
+}
+
+#[tactic(auto, using(crate::proofs::Shapes::no_ending))]
+fn last_of_items(items: &[Value]) -> Option<Last<'_>>
+    ensures told { option_map last_of result ≡ ending_items (items_view items.now) }
+    ensures text { IfSome result (λ last. TextFits (last_of last)) }
+{
+    match items.len() {
+        2 => of_two(items),
+        3 => of_three(items),
+        4 => of_four(items),
+        _ => None,
+    }
+}
+
+/// The last line that a value is, where its text is UTF-8.
+fn ending_told(value: &Value) -> Option<Last<'_>>
+    ensures told { option_map last_of result ≡ ending_in (view value.now) }
+    ensures text { IfSome result (λ last. TextFits (last_of last)) }
+{
+    last_of_items(value.as_array()?.as_slice())
+}
+
+/// The last line that a value is.
+pub fn ending(value: &Value) -> Option<Last<'_>>
+    ensures told { option_map last_of result ≡ ending_in (view value.now) }
+    ensures fits { IfSome result (λ last. IsEnding (last_of last)) }
+{
+    ending_told(value)
+}
+
+impl Line {
+    /// A last line.
+    fn last(&mut self, alloc: Global, last: &Last<'_>) -> Result<(), OutOfMemory>
+        ensures { IfOk result (λ _. self.new ≡ put self.old (ending_data (last_of last.now))) }
+    {
+        match last {
+            Last::Alone(status) => self.alone(*status),
+            Last::Worded(status, text) => self.worded(alloc, *status, owned(alloc, text)?),
+            Last::Frame(place, kind) => self.at_frame(*place, *kind),
+        }
+    }
+}
+
+/// The bytes of a last line, without the line feed.
+#[tactic(auto, unfolding(crate::specs::Ending::ending_text, crate::specs::Writing::put))]
+fn last_line(alloc: Global, last: &Last<'_>) -> Result<Line, OutOfMemory>
+    ensures { IfOk result (λ line. line.bytes ≡ ending_text (last_of last.now)) }
+{
+    let mut line = Line::new(alloc);
+    line.last(alloc, last)?;
+    Ok(line)
+}
+
+/// Whether the line is this last line.
+pub fn is_ending_of(alloc: Global, last: &Last<'_>, line: &[u8]) -> Result<bool, OutOfMemory>
+    ensures { IfOk result (λ b. IsTrue b ↔ (line.now ≡ ending_text (last_of last.now))) }
+{
+    let written = last_line(alloc, last)?;
+    Ok(written.as_slice() == line)
+}
