@@ -1,0 +1,21 @@
+-- What a reader must believe: the console, its calls by groups, and one step.
+pub mod State
+pub mod Outcome
+pub mod HandleCalls
+pub mod ScreenCalls
+pub mod CellCalls
+pub mod InputCalls
+pub mod LineCalls
+pub mod ProcessCalls
+pub mod Call
+pub mod Serving
+pub mod Closing
+pub mod Signals
+pub mod Reads
+pub mod Terminal
+pub mod Painting
+pub mod Step
+pub mod History
+-- The code's own words: what holds of every console, and what is promised to fit.
+pub mod Kept
+pub mod Sound

@@ -1,0 +1,162 @@
+-- Events of a client beside its calls: reads begin and are collected, control events are taken, and it exits.
+use Rattle.std.specs.Prelude.{ℕ, zero, suc, ◌==◌, ◌&&◌, ◌||◌, Bool, true, false, not, nat_lt, List, [], ◌∷◌, ◌++◌, length, take, drop, min, filter, slice_get, pos, Option, None, Some, if◌then◌else◌}
+use Rattle.std.specs.List.{list_any}
+use Rattle.con_units.specs.Stored.{is_control}
+use Rattle.con_units.specs.declared.code.Code.TheVariants as code
+use Rattle.con_events.specs.declared.event.Wanted.{Wanted}
+use Rattle.con_events.specs.declared.event.Wanted.TheVariants as wanted
+use Rattle.con_events.specs.declared.reply.Reply.TheVariants as replies
+use Rattle.con_handles.specs.declared.handle.Handle.{Handle}
+use Rattle.con_handles.specs.Handles.{is_owned}
+use Rattle.con_procs.specs.Procs.{exited, first_pending, took_pending, program_of, programs_of}
+use Rattle.con_history.specs.Histories.{used_by}
+use Rattle.con_readers.specs.Reads.{begun, is_open, without, answer_in, place_of}
+use Rattle.con_readers.specs.declared.answer.Answer.{Answer}
+use Rattle.con_readers.specs.declared.answer.Answer.TheVariants as answers
+use Rattle.con_readers.specs.declared.open.OpenRead.{OpenRead}
+use Rattle.con_readers.specs.declared.open.OpenRead.TheVariants as reads
+use Rattle.con_screens.specs.Buffers.{Buffers}
+use Rattle.con_machine.specs.State.{State, noted_of, without_noted, rest_in, with_rest, rest_begun, without_rests, id_of}
+use Rattle.con_machine.specs.Outcome.{Outcome, refused, answered, done, on_input, has_bit}
+use Rattle.con_machine.specs.HandleCalls.{released}
+use Rattle.con_machine.specs.declared.noted.Noted.{Noted}
+
+-- ---- a read begins: ReadConsole, ReadConsoleInput
+
+-- a read goes behind the open ones
+abbrev pub with_read : State → ℕ → OpenRead → State
+with_read s p read = record s { reads = s.reads ++ begun p read ∷ [] }
+
+-- where the front of a text ends that one read answers: at n units, but not past the first CR LF
+unfoldable pub line_front : ℕ → List ℕ → ℕ
+line_front zero us = 0
+line_front (suc n) [] = 0
+line_front (suc n) (u ∷ us) = if ends_line u us then min (suc n) 2 else suc (line_front n us) where
+  ends_line : ℕ → List ℕ → Bool
+  ends_line u [] = false
+  ends_line u (v ∷ vs) = (u == 13) && (v == 10)
+
+abbrev pub front_of : ℕ → List ℕ → List ℕ
+front_of n text = take (line_front n text) text
+
+abbrev pub back_of : ℕ → List ℕ → List ℕ
+back_of n text = drop (line_front n text) text
+
+-- the program's history is used, the others of attached processes being busy
+abbrev pub history_used : State → ℕ → State
+history_used s p = record s { histories = used_by s.histories (program_of s.procs p) (programs_of s.procs) }
+
+-- a read that is done at once
+abbrev pub answered_with : State → ℕ → List ℕ → State
+answered_with s p units = with_read s p (reads.Done (answers.Units units))
+
+-- what is left of a line answers
+abbrev pub rest_answered : State → ℕ → ℕ → ℕ → List ℕ → State
+rest_answered s p h n rest = record (answered_with s p (front_of n rest)) { rests = with_rest (back_of n rest) s.rests p h }
+
+-- where the line will show is noted when the read becomes the first one
+abbrev pub first_note : State → ℕ → ℕ → ℕ → List ℕ → Noted
+first_note s p h n initial = record {
+  process = p;
+  handle = h;
+  n = n;
+  echoes = has_bit s.mode 2 && has_bit s.mode 4;
+  ahead = length initial;
+  buffer = id_of 0;
+  birth = 0;
+  origin = record { x = 0; y = pos 0 };
+  woken = false;
+}
+
+abbrev pub line_begun : State → ℕ → ℕ → ℕ → List ℕ → ℕ → State
+line_begun s p h n initial mask = record (with_read s p (reads.Line (record { program = program_of s.procs p; insert = has_bit s.mode 0x20; initial = initial; mask = mask; presses = [] }))) {
+  noted = s.noted ++ first_note s p h n initial ∷ [];
+  rests = rest_begun s.rests p h;
+}
+
+abbrev pub is_empty : List ℕ → Bool
+is_empty [] = true
+is_empty (u ∷ us) = false
+
+-- a read of a line
+abbrev pub began_line : State → ℕ → ℕ → ℕ → List ℕ → ℕ → State
+began_line s p h n initial mask =
+    if n == 0 then answered_with s p []
+    else if is_empty (rest_in s.rests p h) then line_begun s p h n initial mask
+    else rest_answered s p h n (rest_in s.rests p h)
+
+-- a read of units, without line mode
+abbrev pub began_units : State → ℕ → ℕ → State
+began_units s p n = if n == 0 then answered_with s p [] else with_read s p (reads.Units n)
+
+-- an initial text with a control, of more than 1,024 units, or of more than the read asks for
+abbrev pub is_no_initial : List ℕ → ℕ → Bool
+is_no_initial text n = list_any is_control text || nat_lt 1024 (length text) || nat_lt n (length text)
+
+-- a plain read begins with an empty text and no mask; without line mode, and where a rest answers, both are ignored
+abbrev pub began_read : State → ℕ → ℕ → ℕ → List ℕ → ℕ → Outcome
+began_read s p h n initial mask = on_input s p h 1 (
+    if is_open s.reads p || is_no_initial initial n then refused s code.BadArgument
+    else if nat_lt 16384 n then refused s code.Limit
+    else done (if has_bit s.mode 2 then began_line (history_used s p) p h n initial mask else began_units s p n))
+
+abbrev pub began_read_input : State → ℕ → ℕ → ℕ → Outcome
+began_read_input s p h n = on_input s p h 1 (
+    if is_open s.reads p || (n == 0) then refused s code.BadArgument
+    else if nat_lt 1024 n then refused s code.Limit
+    else done (with_read s p (reads.Records n)))
+
+unfoldable pub began : State → ℕ → Wanted → Outcome
+began s p (wanted.Read h n) = began_read s p h n [] 0
+began s p (wanted.ReadInput h n) = began_read_input s p h n
+began s p (wanted.ReadWith h n initial mask) = began_read s p h n initial mask
+
+-- ---- a read is collected
+
+-- of a text that ended by a masked control the first n units answer, and of a line those up to its first CR LF at most
+abbrev pub part_told : Noted → List ℕ → List ℕ
+part_told n text = if n.woken then take n.n text else front_of n.n text
+
+abbrev pub part_left : Noted → List ℕ → List ℕ
+part_left n text = if n.woken then drop n.n text else back_of n.n text
+
+-- what follows is left for the handle, unless it was closed
+abbrev pub line_cut : State → Noted → List ℕ → Outcome
+line_cut s n text = answered (record s { rests = with_rest (part_left n text) s.rests n.process n.handle }) (replies.Units (part_told n text))
+
+abbrev pub units_told : State → Option Noted → List ℕ → Outcome
+units_told s None units = answered s (replies.Units units)
+units_told s (Some n) text = line_cut s n text
+
+abbrev pub answer_told : State → Option Noted → Answer → Outcome
+answer_told s n (answers.Units units) = units_told s n units
+answer_told s n (answers.Records records) = answered s (replies.Records records)
+answer_told s n (answers.Fail why) = answered s (replies.Fail why)
+
+unfoldable pub collected : State → ℕ → Outcome
+collected s p = answer_told (record s { reads = without s.reads p; noted = without_noted s.noted p }) (noted_of s.noted p) (answer_in (slice_get s.reads (place_of s.reads p)))
+
+-- ---- the oldest control event is taken
+
+abbrev pub event_or_none : Option ℕ → ℕ
+event_or_none None = 0
+event_or_none (Some e) = e
+
+unfoldable pub took_ctrl : State → ℕ → Outcome
+took_ctrl s p = answered (record s { procs = took_pending s.procs p }) (replies.Ctrl (event_or_none (first_pending s.procs p)))
+
+-- ---- a client exits: its read goes, and every handle is closed
+
+abbrev pub released_all : Buffers → List Handle → Buffers
+released_all buffers [] = buffers
+released_all buffers (h ∷ hs) = released_all (released h.object buffers) hs
+
+unfoldable pub left : State → ℕ → ℕ → State
+left s p status = record s {
+  handles = filter (λ h. not (is_owned p h)) s.handles;
+  buffers = released_all s.buffers (filter (is_owned p) s.handles);
+  procs = exited s.procs p status;
+  reads = without s.reads p;
+  noted = without_noted s.noted p;
+  rests = without_rests s.rests p;
+}

@@ -1,0 +1,111 @@
+-- One step of the console: an event of an actor gives a new console and a reply. And when an event may be entered.
+use Rattle.std.specs.Prelude.{ℕ, ◌&&◌, ◌||◌, Bool, true, false, not, nat_lt, nat_le, is_some, [], Option, None, Some, if◌then◌else◌}
+use Rattle.con_units.specs.declared.code.Code.TheVariants as code
+use Rattle.con_units.specs.declared.place.Size.{Size}
+use Rattle.con_events.specs.Session.{is_size}
+use Rattle.con_events.specs.declared.actor.Actor.{Actor}
+use Rattle.con_events.specs.declared.actor.Actor.TheVariants as actors
+use Rattle.con_events.specs.declared.event.Event.{Event}
+use Rattle.con_events.specs.declared.event.Event.TheVariants as events
+use Rattle.con_events.specs.declared.reply.Reply.{Reply}
+use Rattle.con_events.specs.declared.reply.Reply.TheVariants as replies
+use Rattle.con_procs.specs.Procs.{is_attached, first_pending}
+use Rattle.con_readers.specs.Reads.{has_done}
+use Rattle.con_machine.specs.State.{State}
+use Rattle.con_machine.specs.Outcome.{Outcome, refused, answered, done}
+use Rattle.con_machine.specs.Call.{called}
+use Rattle.con_machine.specs.Serving.{settled_state}
+use Rattle.con_machine.specs.Closing.{hung_up, closing}
+use Rattle.con_machine.specs.Reads.{began, collected, took_ctrl, left}
+use Rattle.con_machine.specs.Terminal.{fed, quiet, resized, asked, drained}
+use Rattle.con_machine.specs.Painting.{view_now, is_paint_due, painted}
+
+-- ---- whose event it is
+
+abbrev pub is_clients : Event → Bool
+is_clients (events.Call c) = true
+is_clients (events.Begin w) = true
+is_clients events.Collect = true
+is_clients events.TakeCtrl = true
+is_clients (events.Exit n) = true
+is_clients (events.Feed b) = false
+is_clients events.Quiet = false
+is_clients (events.Resize size) = false
+is_clients events.Ask = false
+is_clients events.Hangup = false
+is_clients events.Drained = false
+is_clients events.Paint = false
+
+abbrev pub is_painters : Event → Bool
+is_painters events.Paint = true
+is_painters (events.Call c) = false
+is_painters (events.Begin w) = false
+is_painters events.Collect = false
+is_painters events.TakeCtrl = false
+is_painters (events.Exit n) = false
+is_painters (events.Feed b) = false
+is_painters events.Quiet = false
+is_painters (events.Resize size) = false
+is_painters events.Ask = false
+is_painters events.Hangup = false
+is_painters events.Drained = false
+
+abbrev pub is_actors : Actor → Event → Bool
+is_actors (actors.Client p) e = is_clients e
+is_actors actors.Terminal e = not (is_clients e) && not (is_painters e)
+is_actors actors.Painter e = is_painters e
+
+abbrev pub client_of : Actor → ℕ
+client_of (actors.Client p) = p
+client_of actors.Terminal = 0
+client_of actors.Painter = 0
+
+-- ---- the step
+
+unfoldable pub effect : State → ℕ → Event → Outcome
+effect s p (events.Call call) = called s p call
+effect s p (events.Begin w) = began s p w
+effect s p events.Collect = collected s p
+effect s p events.TakeCtrl = took_ctrl s p
+effect s p (events.Exit status) = done (left s p status)
+effect s p (events.Feed bytes) = done (fed s bytes)
+effect s p events.Quiet = done (quiet s)
+effect s p (events.Resize size) = done (resized s size)
+effect s p events.Ask = done (asked s)
+effect s p events.Hangup = done (hung_up s)
+effect s p events.Drained = done (drained s)
+effect s p events.Paint = answered (painted s) (replies.View (view_now s) [] false)
+
+-- an event of a client that is not attached
+abbrev pub is_outside : State → Actor → Event → Bool
+is_outside s actor e = is_clients e && not (is_attached s.procs (client_of actor))
+
+-- open reads are served, and then the console may close
+abbrev pub finished : Outcome → Outcome
+finished o = record o { after = closing (settled_state o.after) }
+
+unfoldable pub step : State → Actor → Event → Outcome
+step s actor e = if is_outside s actor e then refused s code.BadHandle else finished (effect s (client_of actor) e)
+
+-- ---- ready
+
+-- nothing is asked for that was not painted yet
+abbrev pub is_served : State → Bool
+is_served s = not s.asked
+
+unfoldable pub is_due : State → ℕ → Event → Bool
+is_due s p (events.Call call) = true
+is_due s p (events.Begin w) = true
+is_due s p events.Collect = has_done s.reads p
+is_due s p events.TakeCtrl = is_some (first_pending s.procs p)
+is_due s p (events.Exit status) = true
+is_due s p (events.Feed bytes) = is_served s
+is_due s p events.Quiet = is_served s
+is_due s p (events.Resize size) = is_size size && is_served s
+is_due s p events.Ask = is_served s
+is_due s p events.Hangup = true
+is_due s p events.Drained = is_served s
+is_due s p events.Paint = is_paint_due s
+
+unfoldable pub is_ready : State → Actor → Event → Bool
+is_ready s actor e = is_actors actor e && (is_outside s actor e || is_due s (client_of actor) e)
