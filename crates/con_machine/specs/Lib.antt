@@ -19,3 +19,4 @@ pub mod History
 -- The code's own words: what holds of every console, and what is promised to fit.
 pub mod Kept
 pub mod Sound
+pub mod Held

@@ -1,5 +1,5 @@
 -- The console as contracts see it: lists, numbers and texts, and no room.
-use Rattle.std.specs.Prelude.{ℕ, ◌+◌, ◌==◌, ◌&&◌, Bool, true, false, not, List, [], ◌∷◌, ◌++◌, filter, Option, None, Some, if◌then◌else◌}
+use Rattle.std.specs.Prelude.{ℕ, ◌+◌, ◌==◌, ◌&&◌, Bool, true, false, not, List, [], ◌∷◌, ◌++◌, map, filter, Option, None, Some, if◌then◌else◌}
 use Rattle.std.specs.List.{find, list_any}
 use Rattle.con_units.specs.Units.{changed_where}
 use Rattle.con_units.specs.declared.view.View.{View}
@@ -69,10 +69,13 @@ is_rest_of p h r = (r.process == p) && (r.handle == h)
 abbrev pub is_rest_by : ℕ → Rest → Bool
 is_rest_by p r = r.process == p
 
+abbrev pub units_of : Option Rest → List ℕ
+units_of None = []
+units_of (Some r) = r.units
+
 -- what is left for a handle's next line read
 abbrev pub rest_in : List Rest → ℕ → ℕ → List ℕ
-rest_in [] p h = []
-rest_in (r ∷ rs) p h = if is_rest_of p h r then r.units else rest_in rs p h
+rest_in rs p h = units_of (find (is_rest_of p h) rs)
 
 -- a rest that is there becomes another one
 abbrev pub with_rest : List ℕ → List Rest → ℕ → ℕ → List Rest
@@ -119,9 +122,12 @@ behind_first (n ∷ ns) = ns
 abbrev pub start_of : Script → ℕ → ProcStart
 start_of s rack = record { program = s.program; group = s.group; rack = rack }
 
+abbrev pub starts_of : List Script → List ℕ → List ProcStart
+starts_of [] racks = []
+starts_of (s ∷ ss) racks = start_of s (first_or_none racks) ∷ starts_of ss (behind_first racks)
+
 abbrev pub procs_of : List Script → List ℕ → List Proc
-procs_of [] racks = []
-procs_of (s ∷ ss) racks = started (start_of s (first_or_none racks)) ∷ procs_of ss (behind_first racks)
+procs_of scripts racks = map started (starts_of scripts racks)
 
 -- a session's clients have started, with racks of so many handlers
 abbrev pub opening : Clients → List ℕ → State

@@ -10,10 +10,24 @@
 //! Never promised: that a client that waits is ever answered, and which actor comes first.
 #![tactic(auto)]
 
+mod console;
+mod copies;
+mod counting;
+mod handle_calls;
+mod input_calls;
 mod noted;
+mod notes;
 mod rest;
+mod rests;
+mod screen_calls;
 mod seen;
+mod setters;
+mod title;
 
+pub use console::Console;
 pub use noted::Noted;
+pub use notes::Notes;
 pub use rest::Rest;
+pub use rests::Rests;
 pub use seen::Seen;
+pub use title::Title;

@@ -1,4 +1,5 @@
 //! What is left of a line for the next read.
+ghost use Rattle.std.specs.Prelude.{◌≡◌};
 
 use con_units::Units;
 
@@ -8,4 +9,13 @@ pub struct Rest {
     pub process: u8,
     pub handle: u32,
     pub units: Units,
+}
+
+impl Rest {
+    /// It becomes these units.
+    pub(crate) fn set(&mut self, units: Units)
+        ensures { self.new ≡ record self.old { units = units } }
+    {
+        self.units = units;
+    }
 }
