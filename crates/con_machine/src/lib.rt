@@ -10,6 +10,8 @@
 //! Never promised: that a client that waits is ever answered, and which actor comes first.
 #![tactic(auto)]
 
+mod cell_calls;
+mod cells;
 mod console;
 mod copies;
 mod counting;
@@ -19,6 +21,7 @@ mod line_calls;
 mod noted;
 mod notes;
 mod process_calls;
+mod rect_room;
 mod rest;
 mod rests;
 mod screen_calls;
@@ -29,6 +32,7 @@ mod title;
 pub use console::Console;
 pub use noted::Noted;
 pub use notes::Notes;
+pub use rect_room::RectRoom;
 pub use rest::Rest;
 pub use rests::Rests;
 pub use seen::Seen;
