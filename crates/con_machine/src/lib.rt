@@ -12,6 +12,7 @@
 
 mod cell_calls;
 mod cells;
+mod closing;
 mod console;
 mod copies;
 mod counting;
