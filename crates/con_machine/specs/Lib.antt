@@ -17,6 +17,7 @@ pub mod Painting
 pub mod Step
 pub mod History
 -- The code's own words: what holds of every console, and what is promised to fit.
+pub mod Pumping
 pub mod Rooms
 pub mod Kept
 pub mod Sound

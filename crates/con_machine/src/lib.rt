@@ -16,6 +16,7 @@ mod closing;
 mod console;
 mod copies;
 mod counting;
+mod echoes;
 mod handle_calls;
 mod input_calls;
 mod line_calls;
@@ -27,6 +28,7 @@ mod rest;
 mod rests;
 mod screen_calls;
 mod seen;
+mod serving;
 mod setters;
 mod title;
 
