@@ -22,3 +22,7 @@ pub mod Rooms
 pub mod Kept
 pub mod Sound
 pub mod Held
+-- What a Paint tells beside its view.
+pub mod Marks
+-- Bytes of the terminal one at a time.
+pub mod Feeding

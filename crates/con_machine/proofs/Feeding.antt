@@ -1,0 +1,275 @@
+-- What comes from the terminal leaves alone, and bytes one after the other.
+use Rattle.std.proofs.Common.{◌≡◌, ℕ, zero, suc, ◌+◌, ◌*◌, ◌<◌, ◌≤◌, Bool, true, false, not, ◌&&◌, cond, List, [], ◌∷◌, ◌++◌, length, map, drop, get_or, Option, None, Some, refl, sym, ap, ◌∙◌, arith, length-append}
+use Rattle.std.specs.Prelude.{fold, if◌then◌else◌}
+use Rattle.std.proofs.lemmas.List.{length-map}
+use Rattle.std.proofs.lemmas.List.Sums.{fold-append}
+use Rattle.con_units.specs.Split.{Split, next, read_on, split_after, ended as split_ended}
+use Rattle.con_records.specs.declared.record.Key.{Key}
+use Rattle.con_records.specs.declared.record.Record.{Record}
+use Rattle.con_records.specs.declared.record.Record.TheVariants as kinds
+use Rattle.con_cooked.specs.declared.cooked.Cooked.{Cooked}
+use Rattle.con_mouse.specs.Reports.{report_of}
+use Rattle.con_mouse.specs.declared.report.Report.{Report}
+use Rattle.con_readers.specs.Act.{Act, began, typed, passed, ended, woke}
+use Rattle.con_readers.specs.Reads.{Settled, settled}
+use Rattle.con_vtin.specs.Keys.{grammar, is_front, whole}
+use Rattle.con_vtin.specs.Pieces.{Piece, Typed, Ended, piece_grammar, typed as keys_typed, ended_piece, ended_by, is_control, gives_none, IsReadInPieces}
+use Rattle.con_vtin.specs.Sequences.{key_units, sent}
+use Rattle.con_machine.specs.State.{State, noted_of}
+use Rattle.con_machine.specs.Outcome.{has_bit}
+use Rattle.con_machine.specs.ScreenCalls.{reported}
+use Rattle.con_machine.specs.Serving.{followed, line_shown, line_finished, line_woken, shows_line, with_echo, settled_from, settled_state}
+use Rattle.con_machine.specs.Signals.{signalled_to}
+use Rattle.con_machine.specs.Terminal.{is_break, key_taken, by_report, report_taken, sequence_taken, piece_taken, records_of, released_key, fed}
+use Rattle.con_machine.specs.Feeding.{byte_taken, stored_count, told_report, report_taken_in}
+use Rattle.con_machine.specs.declared.noted.Noted.{Noted}
+
+-- ---- the bytes that are held are looked at by nothing else
+
+shown_held : (s : State) (h : List ℕ) (n : Option Noted) (old new : Cooked) → line_shown (record s { held = h }) n old new ≡ record (line_shown s n old new) { held = h }
+shown_held s h None old new = refl
+shown_held s h (Some n) old new = by_test (shows_line s.buffers n) refl
+  where
+    by_test : (t : Bool) → shows_line s.buffers n ≡ t → line_shown (record s { held = h }) (Some n) old new ≡ record (line_shown s (Some n) old new) { held = h }
+    by_test true e = rw e refl
+    by_test false e = rw e refl
+
+finished_held : (s : State) (h : List ℕ) (n : Option Noted) (len : ℕ) → line_finished (record s { held = h }) n len ≡ record (line_finished s n len) { held = h }
+finished_held s h None len = refl
+finished_held s h (Some n) len = by_test (shows_line s.buffers n) refl
+  where
+    by_test : (t : Bool) → shows_line s.buffers n ≡ t → line_finished (record s { held = h }) (Some n) len ≡ record (line_finished s (Some n) len) { held = h }
+    by_test true e = rw e refl
+    by_test false e = rw e refl
+
+followed_held : (s : State) (h : List ℕ) (a : Act) → followed (record s { held = h }) a ≡ record (followed s a) { held = h }
+followed_held s h (began p) = refl
+followed_held s h (typed p old new echo) = shown_held s h (noted_of s.noted p) old new
+followed_held s h (passed p) = refl
+followed_held s h (ended p read len) = finished_held s h (noted_of s.noted p) len
+followed_held s h (woke p line) = refl
+
+all_followed_held : (s : State) (h : List ℕ) (acts : List Act) → fold followed (record s { held = h }) acts ≡ record (fold followed s acts) { held = h }
+all_followed_held s h [] = refl
+all_followed_held s h (a ∷ rest) = ap (λ (t : State). fold followed t rest) (followed_held s h a) ∙ all_followed_held (followed s a) h rest
+
+settled_held : (s : State) (h : List ℕ) → settled_state (record s { held = h }) ≡ record (settled_state s) { held = h }
+unfolding settled_state
+settled_held s h =
+    let t = settled s.aliases s.reads s.records s.histories in
+    all_followed_held (record s { reads = t.reads; records = t.records; histories = t.histories }) h t.acts
+
+key_held : (s : State) (h : List ℕ) (k : Key) → key_taken (record s { held = h }) k ≡ record (key_taken s k) { held = h }
+key_held s h k = by_test (is_break s k)
+  where
+    by_test : (t : Bool) → cond t (signalled_to (settled_state (record s { held = h })) 0 0) (record s { held = h; records = s.records ++ records_of s k })
+        ≡ record (cond t (signalled_to (settled_state s) 0 0) (record s { records = s.records ++ records_of s k })) { held = h }
+    by_test true = ap (λ (x : State). signalled_to x 0 0) (settled_held s h)
+    by_test false = refl
+
+report_held : (s : State) (h : List ℕ) (r : Option Report) → by_report (record s { held = h }) r ≡ record (by_report s r) { held = h }
+report_held s h None = refl
+report_held s h (Some r) = refl
+
+sequence_held : (s : State) (h bytes : List ℕ) → sequence_taken (record s { held = h }) bytes ≡ record (sequence_taken s bytes) { held = h }
+sequence_held s h bytes = by_test (has_bit s.mode 0x10)
+  where
+    by_test : (t : Bool) → cond t (by_report (record s { held = h }) (report_of bytes)) (record s { held = h }) ≡ record (cond t (by_report s (report_of bytes)) s) { held = h }
+    by_test true = report_held s h (report_of bytes)
+    by_test false = refl
+
+piece_held : (s : State) (h : List ℕ) (p : Piece) → piece_taken (record s { held = h }) p ≡ record (piece_taken s p) { held = h }
+piece_held s h (Typed k) = key_held s h k
+piece_held s h (Ended bytes) = sequence_held s h bytes
+
+pieces_held : (s : State) (h : List ℕ) (ps : List Piece) → fold piece_taken (record s { held = h }) ps ≡ record (fold piece_taken s ps) { held = h }
+pieces_held s h [] = refl
+pieces_held s h (p ∷ ps) = ap (λ (t : State). fold piece_taken t ps) (piece_held s h p) ∙ pieces_held (piece_taken s p) h ps
+
+-- ---- bytes one after the other
+
+one_byte : (s : State) (h : List ℕ) (is : List Piece) (b : ℕ)
+    → fold piece_taken (record s { held = (next piece_grammar h b).tail }) (is ++ (next piece_grammar h b).items) ≡ byte_taken (fold piece_taken (record s { held = h }) is) b
+unfolding byte_taken
+one_byte s h is b =
+    let n : Split Piece = next piece_grammar h b in
+    let before : State = fold piece_taken s is in
+    let here : fold piece_taken (record s { held = h }) is ≡ record before { held = h } = pieces_held s h is in
+    let left : fold piece_taken (record s { held = n.tail }) (is ++ n.items) ≡ fold piece_taken (record before { held = n.tail }) n.items =
+    fold-append piece_taken (record s { held = n.tail }) is n.items ∙ ap (λ (t : State). fold piece_taken t n.items) (pieces_held s n.tail is) in
+    left ∙ sym (ap (λ (t : State). let m : Split Piece = next piece_grammar t.held b in fold piece_taken (record t { held = m.tail }) m.items) here)
+
+all_bytes : (s : State) (h : List ℕ) (is : List Piece) (bytes : List ℕ)
+    → (let t : Split Piece = fold (read_on piece_grammar) (record { items = is; tail = h }) bytes in fold piece_taken (record s { held = t.tail }) t.items) ≡ fold byte_taken (fold piece_taken (record s { held = h }) is) bytes
+all_bytes s h is [] = refl
+all_bytes s h is (b ∷ bs) =
+    let n : Split Piece = next piece_grammar h b in
+    all_bytes s n.tail (is ++ n.items) bs ∙ ap (λ (t : State). fold byte_taken t bs) (one_byte s h is b)
+
+pub fed_by_bytes : (s : State) (bytes : List ℕ) → fed s bytes ≡ fold byte_taken s bytes
+unfolding fed split_after
+fed_by_bytes s bytes = all_bytes s s.held [] bytes
+
+-- ---- modes stay
+
+shown_modes : (s : State) (n : Option Noted) (old new : Cooked) → ((line_shown s n old new).mode ≡ s.mode) × ((line_shown s n old new).cursor_keys ≡ s.cursor_keys)
+shown_modes s None old new = (refl, refl)
+shown_modes s (Some n) old new = by_test (shows_line s.buffers n) refl
+  where
+    by_test : (t : Bool) → shows_line s.buffers n ≡ t → ((line_shown s (Some n) old new).mode ≡ s.mode) × ((line_shown s (Some n) old new).cursor_keys ≡ s.cursor_keys)
+    by_test true e = rw e (refl, refl)
+    by_test false e = rw e (refl, refl)
+
+finished_modes : (s : State) (n : Option Noted) (len : ℕ) → ((line_finished s n len).mode ≡ s.mode) × ((line_finished s n len).cursor_keys ≡ s.cursor_keys)
+finished_modes s None len = (refl, refl)
+finished_modes s (Some n) len = by_test (shows_line s.buffers n) refl
+  where
+    by_test : (t : Bool) → shows_line s.buffers n ≡ t → ((line_finished s (Some n) len).mode ≡ s.mode) × ((line_finished s (Some n) len).cursor_keys ≡ s.cursor_keys)
+    by_test true e = rw e (refl, refl)
+    by_test false e = rw e (refl, refl)
+
+followed_modes : (s : State) (a : Act) → ((followed s a).mode ≡ s.mode) × ((followed s a).cursor_keys ≡ s.cursor_keys)
+followed_modes s (began p) = (refl, refl)
+followed_modes s (typed p old new echo) = shown_modes s (noted_of s.noted p) old new
+followed_modes s (passed p) = (refl, refl)
+followed_modes s (ended p read len) = finished_modes s (noted_of s.noted p) len
+followed_modes s (woke p line) = (refl, refl)
+
+all_followed_modes : (s : State) (acts : List Act) → ((fold followed s acts).mode ≡ s.mode) × ((fold followed s acts).cursor_keys ≡ s.cursor_keys)
+all_followed_modes s [] = (refl, refl)
+all_followed_modes s (a ∷ rest) =
+    let one = followed_modes s a in
+    let more = all_followed_modes (followed s a) rest in
+    (more.0 ∙ one.0, more.1 ∙ one.1)
+
+settled_modes : (s : State) → ((settled_state s).mode ≡ s.mode) × ((settled_state s).cursor_keys ≡ s.cursor_keys)
+unfolding settled_state
+settled_modes s =
+    let t = settled s.aliases s.reads s.records s.histories in
+    all_followed_modes (record s { reads = t.reads; records = t.records; histories = t.histories }) t.acts
+
+pub key_modes : (s : State) (k : Key) → ((key_taken s k).mode ≡ s.mode) × ((key_taken s k).cursor_keys ≡ s.cursor_keys)
+key_modes s k = by_test (is_break s k)
+  where
+    by_test : (t : Bool) → ((cond t (signalled_to (settled_state s) 0 0) (record s { records = s.records ++ records_of s k })).mode ≡ s.mode)
+        × ((cond t (signalled_to (settled_state s) 0 0) (record s { records = s.records ++ records_of s k })).cursor_keys ≡ s.cursor_keys)
+    by_test true = settled_modes s
+    by_test false = (refl, refl)
+
+-- ---- how many records keys are stored as
+
+stored_as : ℕ → Bool → Key → List Record
+stored_as mode keys k = if has_bit mode 0x200 then map reported (key_units k keys) else kinds.Key k ∷ kinds.Key (released_key k) ∷ []
+
+count_as : ℕ → Bool → List Key → ℕ
+count_as mode keys [] = 0
+count_as mode keys (k ∷ ks) = length (stored_as mode keys k) + count_as mode keys ks
+
+count_is : (s : State) (ks : List Key) → stored_count s ks ≡ count_as s.mode s.cursor_keys ks
+unfolding count_as stored_as
+count_is s [] = refl
+count_is s (k ∷ ks) = ap (λ (n : ℕ). length (records_of s k) + n) (count_is s ks)
+
+pub count_keeps : (s : State) (k : Key) (ks : List Key) → stored_count (key_taken s k) ks ≡ stored_count s ks
+count_keeps s k ks =
+    let same = key_modes s k in
+    count_is (key_taken s k) ks ∙ ap (λ (m : ℕ). count_as m (key_taken s k).cursor_keys ks) same.0 ∙ ap (λ (b : Bool). count_as s.mode b ks) same.1 ∙ sym (count_is s ks)
+
+sent_many : (keys : Bool) (m : ℕ) (ks : List Key) → has_bit m 0x200 ≡ true → count_as m keys ks ≡ length (sent ks keys)
+unfolding count_as stored_as
+sent_many keys m [] e = refl
+sent_many keys m (k ∷ ks) e =
+    let here : length (stored_as m keys k) ≡ length (key_units k keys) = rw e (length-map (key_units k keys) reported) in
+    ap (λ (n : ℕ). n + count_as m keys ks) here ∙ ap (λ (n : ℕ). length (key_units k keys) + n) (sent_many keys m ks e) ∙ sym (length-append (key_units k keys) (sent ks keys))
+
+two_each : (keys : Bool) (m : ℕ) (ks : List Key) → has_bit m 0x200 ≡ false → count_as m keys ks ≡ 2 * length ks
+unfolding count_as stored_as
+two_each keys m [] e = refl
+two_each keys m (k ∷ ks) e =
+    let here : length (stored_as m keys k) ≡ 2 = rw e refl in
+    let more : count_as m keys ks ≡ 2 * length ks = two_each keys m ks e in
+    omega (arith, here, more)
+
+-- at most two for each key and for each unit that is sent
+pub stored_few : (s : State) (ks : List Key) (n : ℕ) → length ks ≤ n → length (sent ks s.cursor_keys) ≤ n → stored_count s ks ≤ 2 * n
+stored_few s ks n few units = by_test (has_bit s.mode 0x200) refl
+  where
+    by_test : (t : Bool) → has_bit s.mode 0x200 ≡ t → stored_count s ks ≤ 2 * n
+    by_test true e = let is : stored_count s ks ≡ length (sent ks s.cursor_keys) = count_is s ks ∙ sent_many s.cursor_keys s.mode ks e in omega (arith, is, units)
+    by_test false e = let is : stored_count s ks ≡ 2 * length ks = count_is s ks ∙ two_each s.cursor_keys s.mode ks e in omega (arith, is, few)
+
+-- ---- one byte
+
+-- a sequence that gives no key gives nothing
+pub ended_nothing : (held : List ℕ) (b : ℕ) (bs : List ℕ) → ended_by held b ≡ Some bs → ((next grammar held b).items ≡ []) × ((next grammar held b).tail ≡ [])
+unfolding next
+ended_nothing [] u bs e = absurd (by_front (is_front (u ∷ [])) e)
+  where
+    by_front : (f : Bool) → cond (not f && false) (Some (u ∷ [])) None ≡ Some bs → ⊥
+    by_front true e = cc
+    by_front false e = cc
+ended_nothing (v ∷ front) u bs e = by_whole (is_front (v ∷ front ++ u ∷ [])) (is_control (v ∷ front ++ u ∷ [])) (whole (v ∷ front ++ u ∷ [])) e
+  where
+    by_whole : (f c : Bool) (o : Option (List Key)) → cond (not f && (c && gives_none o)) (Some (v ∷ front ++ u ∷ [])) None ≡ Some bs
+        → let s : Split Key = cond f (record { items = []; tail = v ∷ front ++ u ∷ [] }) (split_ended grammar (v ∷ front) u o) in (s.items ≡ []) × (s.tail ≡ [])
+    by_whole true c o e = absurd (cc)
+    by_whole false true None e = absurd (cc)
+    by_whole false true (Some []) e = (refl, refl)
+    by_whole false true (Some (k ∷ ks)) e = absurd (cc)
+    by_whole false false o e = absurd (cc)
+
+typed_taken : (s : State) (ks : List Key) → fold piece_taken s (keys_typed ks) ≡ fold key_taken s ks
+typed_taken s [] = refl
+typed_taken s (k ∷ ks) = typed_taken (key_taken s k) ks
+
+piece_ended : (s : State) (e : Option (List ℕ)) → fold piece_taken s (ended_piece e) ≡ report_taken_in s (told_report e)
+piece_ended s None = by_test (has_bit s.mode 0x10)
+  where
+    by_test : (t : Bool) → s ≡ cond t s s
+    by_test true = refl
+    by_test false = refl
+piece_ended s (Some bytes) = refl
+
+-- a byte's keys are taken, and then the report that it ended
+pub byte_is : (s : State) (b : ℕ) (keys : Split Key) (e : Option (List ℕ)) → keys ≡ next grammar s.held b → e ≡ ended_by s.held b → IsReadInPieces
+    → byte_taken s b ≡ report_taken_in (fold key_taken (record s { held = keys.tail }) keys.items) (told_report e)
+unfolding byte_taken
+byte_is s b keys e is at pieces =
+    let both : next piece_grammar s.held b ≡ record { items = keys_typed keys.items ++ ended_piece e; tail = keys.tail } =
+    pieces s.held b ∙ rw (is, at) refl in
+    ap (λ (n : Split Piece). fold piece_taken (record s { held = n.tail }) n.items) both
+    ∙ fold-append piece_taken (record s { held = keys.tail }) (keys_typed keys.items) (ended_piece e)
+    ∙ ap (λ (t : State). fold piece_taken t (ended_piece e)) (typed_taken (record s { held = keys.tail }) keys.items)
+    ∙ piece_ended (fold key_taken (record s { held = keys.tail }) keys.items) e
+
+-- and what is held then is what the byte leaves
+pub byte_held : (s : State) (b : ℕ) → IsReadInPieces → (byte_taken s b).held ≡ (next grammar s.held b).tail
+unfolding byte_taken
+byte_held s b read =
+    let n : Split Piece = next piece_grammar s.held b in
+    let kept : fold piece_taken (record s { held = n.tail }) n.items ≡ record (fold piece_taken (record s { held = n.tail }) n.items) { held = n.tail } = pieces_held (record s { held = n.tail }) n.tail n.items in
+    ap (λ (t : State). t.held) kept ∙ ap (λ (m : Split Piece). m.tail) (read s.held b)
+
+-- ---- keys in their order
+
+pub record AreTaken (s t : State) (keys : List Key) (i a b : ℕ) : Type 0 where
+  pub state : fold key_taken t (drop i keys) ≡ fold key_taken s keys
+  pub modes : (ks : List Key) → stored_count t ks ≡ stored_count s ks
+  pub spare : a + stored_count s (drop i keys) ≤ b + stored_count s keys
+
+pub taken_fits : (s t : State) (keys : List Key) (i a b : ℕ) (k : Key) → AreTaken s t keys i a b → drop i keys ≡ k ∷ drop (i + 1) keys → stored_count s keys ≤ a → length (records_of t k) ≤ b
+taken_fits s t keys i a b k so_far is fits =
+    let e : stored_count s (drop i keys) ≡ length (records_of t k) + stored_count t (drop (i + 1) keys) = ap (stored_count s) is ∙ sym (so_far.modes (k ∷ drop (i + 1) keys)) in
+    let more = so_far.spare in
+    omega (arith, e, more, fits)
+
+pub taken_next : (s t u : State) (keys : List Key) (i a b c : ℕ) (k : Key) → AreTaken s t keys i a b → drop i keys ≡ k ∷ drop (i + 1) keys → u ≡ key_taken t k → b ≤ c + length (records_of t k) → AreTaken s u keys (i + 1) a c
+taken_next s t u keys i a b c k so_far is now spare = record {
+  state = ap (λ (x : State). fold key_taken x (drop (i + 1) keys)) now ∙ sym (ap (λ (l : List Key). fold key_taken t l) is) ∙ so_far.state;
+  modes = λ ks. ap (λ (x : State). stored_count x ks) now ∙ count_keeps t k ks ∙ so_far.modes ks;
+  spare =
+      let e : stored_count s (drop i keys) ≡ length (records_of t k) + stored_count t (drop (i + 1) keys) = ap (stored_count s) is ∙ sym (so_far.modes (k ∷ drop (i + 1) keys)) in
+      let f : stored_count t (drop (i + 1) keys) ≡ stored_count s (drop (i + 1) keys) = so_far.modes (drop (i + 1) keys) in
+      let more = so_far.spare in
+      omega (arith, e, f, more, spare);
+}
