@@ -9,6 +9,12 @@ use Rattle.con_events.specs.declared.call.Words.{Words}
 use Rattle.con_grid.specs.Picture.{Picture}
 use Rattle.con_rects.specs.Runs.{run_count, run_cells}
 use Rattle.con_machine.specs.CellCalls.{cells_for, is_over}
+use Rattle.con_handles.specs.declared.handle.Object.{Object}
+use Rattle.con_screen.specs.Fit.{Fit, IsFit}
+use Rattle.con_screens.specs.Buffers.{Buffers}
+use Rattle.con_machine.specs.State.{State}
+use Rattle.con_machine.specs.Outcome.{buffer_of}
+use Rattle.con_machine.specs.ScreenCalls.{page_at, is_size}
 use Rattle.con_machine.specs.declared.rect_room.RectRoom.{RectRoom}
 
 -- the cells of units and words, and memory for four numbers
@@ -20,3 +26,13 @@ IsRectRoom (Some r) units ws = (r.cells.items ≡ cells_for units ws) × (r.side
 abbrev pub IsRun : Result (Vec Glyph Global) Code → Picture → Coord → ℕ → Type 0
 IsRun (Ok cells) g at n = (is_over (run_count g at n) ≡ false) × (cells.items ≡ run_cells g at n)
 IsRun (Err why) g at n = (is_over (run_count g at n) ≡ true) × (why ≡ code.Limit)
+
+-- the memory of another size of a buffer
+abbrev pub IsFitAt : Buffers → ℕ → ℕ → ℕ → Option Fit → Type 0
+IsFitAt b id w h None = ⊥
+IsFitAt b id w h (Some f) = IsFit (page_at b id) f × (f.buffer ≡ record { w = w; h = h }) × (f.window ≡ record { w = b.w; h = b.h })
+
+-- the same, where a call sets it
+abbrev pub IsSizeRoom : State → Result Object Code → ℕ → ℕ → Option Fit → Type 0
+IsSizeRoom s (Err why) w h f = Unit {0}
+IsSizeRoom s (Ok o) w h f = is_size s.buffers (buffer_of o) w h ≡ true → IsFitAt s.buffers (buffer_of o) w h f

@@ -37,6 +37,8 @@ mod showing;
 mod terminal;
 mod title;
 mod typing;
+mod sizing;
+mod writing;
 
 pub use console::Console;
 pub use noted::Noted;
