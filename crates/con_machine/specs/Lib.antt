@@ -26,3 +26,4 @@ pub mod Held
 pub mod Marks
 -- Bytes of the terminal one at a time.
 pub mod Feeding
+pub mod CallRooms

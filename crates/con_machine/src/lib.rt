@@ -10,6 +10,7 @@
 //! Never promised: that a client that waits is ever answered, and which actor comes first.
 #![tactic(auto)]
 
+mod call_room;
 mod cell_calls;
 mod cells;
 mod closing;
@@ -29,6 +30,7 @@ mod process_calls;
 mod rect_room;
 mod rest;
 mod rests;
+mod room_calls;
 mod screen_calls;
 mod seen;
 mod serving;
@@ -40,6 +42,7 @@ mod typing;
 mod sizing;
 mod writing;
 
+pub use call_room::CallRoom;
 pub use console::Console;
 pub use noted::Noted;
 pub use notes::Notes;
