@@ -11,6 +11,7 @@
 #![tactic(auto)]
 
 mod call_room;
+mod calls;
 mod cell_calls;
 mod cells;
 mod closing;

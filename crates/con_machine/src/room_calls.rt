@@ -41,7 +41,14 @@ impl Console {
     }
 
     /// [`Console::set_size`] with its room.
-    pub(crate) fn set_size_in(&mut self, p: u8, handle: u32, w: u32, h: u32, room: &mut CallRoom) -> Reply
+    pub(crate) fn set_size_in(
+        &mut self,
+        p: u8,
+        handle: u32,
+        w: u32,
+        h: u32,
+        room: &mut CallRoom,
+    ) -> Reply
         requires { IsFitRoom self.old p handle w h room.old }
         ensures state { self.new.state ≡ (set_size self.old.state p handle w h).after }
         ensures reply { result ≡ (set_size self.old.state p handle w h).reply }
