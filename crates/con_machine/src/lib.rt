@@ -37,10 +37,10 @@ mod seen;
 mod serving;
 mod setters;
 mod showing;
+mod sizing;
 mod terminal;
 mod title;
 mod typing;
-mod sizing;
 mod writing;
 
 pub use call_room::CallRoom;

@@ -54,8 +54,8 @@ pub(crate) fn is_painted(screens: &Screens, seen: Option<Seen>, painted: &Option
     }
 }
 
-// The window's size.
-fn window(screens: &Screens) -> Size
+/// The window's size.
+pub(crate) fn window(screens: &Screens) -> Size
     requires { AreBuffers screens.now }
     ensures { result ≡ record { w = screens.now.w; h = screens.now.h } }
 {

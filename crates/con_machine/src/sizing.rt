@@ -10,23 +10,11 @@ ghost use Rattle.con_machine.specs.Rooms.{IsSizeRoom, IsFitAt};
 ghost use Rattle.con_machine.specs.Sound.{AreCounted};
 
 use crate::console::Console;
-use crate::setters;
+use crate::showing::window;
 use con_events::Reply;
 use con_screen::Fit;
 use con_screens::Screens;
-use con_units::{BufferId, Code, OutOfMemory, Size, index_of};
-
-// The window's size.
-fn window(screens: &Screens) -> Size
-    requires { AreBuffers screens.now }
-    ensures { result ≡ record { w = screens.now.w; h = screens.now.h } }
-{
-    let window = setters::info(screens, screens.active()).window;
-    Size {
-        w: (index_of(window.right) - index_of(window.left) + 1) as u16,
-        h: (index_of(window.bottom) - index_of(window.top) + 1) as u16,
-    }
-}
+use con_units::{BufferId, Code, OutOfMemory, Size};
 
 fn is_within(window: Size, w: u32, h: u32) -> bool
     ensures { result ≡ (nat_le window.w w && nat_le window.h h && nat_le w 512 && nat_le h 2048) }
