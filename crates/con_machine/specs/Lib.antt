@@ -16,6 +16,14 @@ pub mod Terminal
 pub mod Painting
 pub mod Step
 pub mod History
+-- What it is for a history to follow a session and a link, and to go by rounds.
+pub mod Along
+pub mod Turns
+pub mod Chain
+pub mod Client
+pub mod Follows
+pub mod Rounds
+pub mod Sights
 -- The code's own words: what holds of every console, and what is promised to fit.
 pub mod Pumping
 pub mod Rooms
