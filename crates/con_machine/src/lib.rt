@@ -27,6 +27,7 @@ mod notes;
 mod paint_room;
 mod painting;
 mod pointing;
+mod preparing;
 mod process_calls;
 mod rect_room;
 mod rest;
