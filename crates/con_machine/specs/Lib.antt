@@ -26,6 +26,7 @@ pub mod Rounds
 pub mod Sights
 -- The code's own words: what holds of every console, and what is promised to fit.
 pub mod Pumping
+pub mod Began
 pub mod Rooms
 pub mod Kept
 pub mod Sound

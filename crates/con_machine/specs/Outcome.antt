@@ -50,6 +50,11 @@ while_open s o = if s.closed then refused s code.Closed else o
 abbrev pub guard : State → ℕ → ℕ → Kind → ℕ → Result Object Code
 guard s p h k right = if s.closed then Err code.Closed else look s.handles p h k right
 
+-- an answer, where the handle serves
+abbrev pub guarded : Result Object Code → Result (Unit {0}) Code → Result (Unit {0}) Code
+guarded (Err why) r = Err why
+guarded (Ok o) r = r
+
 abbrev pub with_object : State → Result Object Code → (Object → Outcome) → Outcome
 with_object s (Err why) f = refused s why
 with_object s (Ok o) f = f o

@@ -1,13 +1,15 @@
 -- Events of a client beside its calls: reads begin and are collected, control events are taken, and it exits.
-use Rattle.std.specs.Prelude.{ℕ, zero, suc, ◌==◌, ◌&&◌, ◌||◌, Bool, true, false, not, nat_lt, List, [], ◌∷◌, ◌++◌, length, take, drop, min, filter, slice_get, pos, Option, None, Some, if◌then◌else◌}
+use Rattle.std.specs.Prelude.{ℕ, zero, suc, ◌==◌, ◌&&◌, ◌||◌, Bool, true, false, not, nat_lt, List, [], ◌∷◌, ◌++◌, length, take, drop, min, filter, slice_get, pos, Option, None, Some, Result, Ok, Err, if◌then◌else◌}
 use Rattle.std.specs.List.{list_any}
 use Rattle.con_units.specs.Stored.{is_control}
+use Rattle.con_units.specs.declared.code.Code.{Code}
 use Rattle.con_units.specs.declared.code.Code.TheVariants as code
 use Rattle.con_events.specs.declared.event.Wanted.{Wanted}
 use Rattle.con_events.specs.declared.event.Wanted.TheVariants as wanted
 use Rattle.con_events.specs.declared.reply.Reply.TheVariants as replies
 use Rattle.con_handles.specs.declared.handle.Handle.{Handle}
 use Rattle.con_handles.specs.Handles.{is_owned}
+use Rattle.con_handles.specs.declared.handle.Kind.TheVariants as kind
 use Rattle.con_procs.specs.Procs.{exited, first_pending, took_pending, program_of, programs_of}
 use Rattle.con_history.specs.Histories.{used_by}
 use Rattle.con_readers.specs.Reads.{begun, is_open, without, answer_in, place_of}
@@ -17,7 +19,7 @@ use Rattle.con_readers.specs.declared.open.OpenRead.{OpenRead}
 use Rattle.con_readers.specs.declared.open.OpenRead.TheVariants as reads
 use Rattle.con_screens.specs.Buffers.{Buffers}
 use Rattle.con_machine.specs.State.{State, noted_of, without_noted, rest_in, with_rest, rest_begun, without_rests, id_of}
-use Rattle.con_machine.specs.Outcome.{Outcome, refused, answered, done, on_input, has_bit}
+use Rattle.con_machine.specs.Outcome.{Outcome, answered, by_answer, guard, guarded, has_bit}
 use Rattle.con_machine.specs.HandleCalls.{released}
 use Rattle.con_machine.specs.declared.noted.Noted.{Noted}
 
@@ -27,14 +29,16 @@ use Rattle.con_machine.specs.declared.noted.Noted.{Noted}
 abbrev pub with_read : State → ℕ → OpenRead → State
 with_read s p read = record s { reads = s.reads ++ begun p read ∷ [] }
 
+-- CR, and then LF
+abbrev pub ends_line : ℕ → List ℕ → Bool
+ends_line u [] = false
+ends_line u (v ∷ vs) = (u == 13) && (v == 10)
+
 -- where the front of a text ends that one read answers: at n units, but not past the first CR LF
 unfoldable pub line_front : ℕ → List ℕ → ℕ
 line_front zero us = 0
 line_front (suc n) [] = 0
-line_front (suc n) (u ∷ us) = if ends_line u us then min (suc n) 2 else suc (line_front n us) where
-  ends_line : ℕ → List ℕ → Bool
-  ends_line u [] = false
-  ends_line u (v ∷ vs) = (u == 13) && (v == 10)
+line_front (suc n) (u ∷ us) = if ends_line u us then min (suc n) 2 else suc (line_front n us)
 
 abbrev pub front_of : ℕ → List ℕ → List ℕ
 front_of n text = take (line_front n text) text
@@ -93,18 +97,32 @@ began_units s p n = if n == 0 then answered_with s p [] else with_read s p (read
 abbrev pub is_no_initial : List ℕ → ℕ → Bool
 is_no_initial text n = list_any is_control text || nat_lt 1024 (length text) || nat_lt n (length text)
 
+-- whether a read of n units may begin: the handle, an open read and a bad initial text, and the limit, in this order
+abbrev pub initial_checked : State → ℕ → ℕ → List ℕ → Result (Unit {0}) Code
+initial_checked s p n initial =
+    if is_open s.reads p || is_no_initial initial n then Err code.BadArgument
+    else if nat_lt 16384 n then Err code.Limit
+    else Ok tt
+
+abbrev pub read_answer : State → ℕ → ℕ → ℕ → List ℕ → Result (Unit {0}) Code
+read_answer s p h n initial = guarded (guard s p h kind.Input 1) (initial_checked s p n initial)
+
 -- a plain read begins with an empty text and no mask; without line mode, and where a rest answers, both are ignored
 abbrev pub began_read : State → ℕ → ℕ → ℕ → List ℕ → ℕ → Outcome
-began_read s p h n initial mask = on_input s p h 1 (
-    if is_open s.reads p || is_no_initial initial n then refused s code.BadArgument
-    else if nat_lt 16384 n then refused s code.Limit
-    else done (if has_bit s.mode 2 then began_line (history_used s p) p h n initial mask else began_units s p n))
+began_read s p h n initial mask =
+    by_answer s (read_answer s p h n initial) (if has_bit s.mode 2 then began_line (history_used s p) p h n initial mask else began_units s p n)
+
+abbrev pub records_checked : State → ℕ → ℕ → Result (Unit {0}) Code
+records_checked s p n =
+    if is_open s.reads p || (n == 0) then Err code.BadArgument
+    else if nat_lt 1024 n then Err code.Limit
+    else Ok tt
+
+abbrev pub records_answer : State → ℕ → ℕ → ℕ → Result (Unit {0}) Code
+records_answer s p h n = guarded (guard s p h kind.Input 1) (records_checked s p n)
 
 abbrev pub began_read_input : State → ℕ → ℕ → ℕ → Outcome
-began_read_input s p h n = on_input s p h 1 (
-    if is_open s.reads p || (n == 0) then refused s code.BadArgument
-    else if nat_lt 1024 n then refused s code.Limit
-    else done (with_read s p (reads.Records n)))
+began_read_input s p h n = by_answer s (records_answer s p h n) (with_read s p (reads.Records n))
 
 unfoldable pub began : State → ℕ → Wanted → Outcome
 began s p (wanted.Read h n) = began_read s p h n [] 0
