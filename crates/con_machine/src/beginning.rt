@@ -279,7 +279,7 @@ impl Console {
     }
 
     /// The memory of a read of records.
-    pub(crate) fn records_room(
+    pub(crate) fn read_input_room(
         &self,
         p: u8,
         h: u32,
