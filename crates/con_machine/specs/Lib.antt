@@ -27,6 +27,7 @@ pub mod Sights
 -- The code's own words: what holds of every console, and what is promised to fit.
 pub mod Pumping
 pub mod Began
+pub mod Opened
 pub mod Rooms
 pub mod Kept
 pub mod Sound

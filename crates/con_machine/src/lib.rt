@@ -10,9 +10,9 @@
 //! Never promised: that a client that waits is ever answered, and which actor comes first.
 #![tactic(auto)]
 
+mod beginning;
 mod call_room;
 mod calls;
-mod beginning;
 mod cell_calls;
 mod cells;
 mod closing;
@@ -44,6 +44,7 @@ mod serving;
 mod setters;
 mod showing;
 mod sizing;
+mod starting;
 mod terminal;
 mod title;
 mod typing;
