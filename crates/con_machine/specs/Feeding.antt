@@ -1,5 +1,5 @@
 -- Bytes of the terminal, one at a time.
-use Rattle.std.specs.Prelude.{ℕ, ◌+◌, ◌≡◌, List, [], ◌∷◌, fold, length, Option, None, Some, if◌then◌else◌}
+use Rattle.std.specs.Prelude.{ℕ, ◌+◌, List, [], ◌∷◌, fold, length, Option, None, Some, if◌then◌else◌}
 use Rattle.con_units.specs.Split.{next}
 use Rattle.con_records.specs.declared.record.Key.{Key}
 use Rattle.con_vtin.specs.Pieces.{piece_grammar}
@@ -7,7 +7,7 @@ use Rattle.con_machine.specs.State.{State}
 use Rattle.con_mouse.specs.Reports.{report_of}
 use Rattle.con_mouse.specs.declared.report.Report.{Report}
 use Rattle.con_machine.specs.Outcome.{has_bit}
-use Rattle.con_machine.specs.Terminal.{records_of, by_report, piece_taken, fed}
+use Rattle.con_machine.specs.Terminal.{records_of, by_report, piece_taken}
 
 -- the pieces that a byte ends, after those bytes that are held, are taken
 unfoldable pub byte_taken : State → ℕ → State
@@ -26,7 +26,3 @@ told_report (Some bytes) = report_of bytes
 -- a report is taken where reports are asked for
 abbrev pub report_taken_in : State → Option Report → State
 report_taken_in s r = if has_bit s.mode 0x10 then by_report s r else s
-
--- bytes one after the other are all the bytes
-abbrev pub IsFedByBytes : Type 0
-IsFedByBytes = (s : State) (bytes : List ℕ) → fed s bytes ≡ fold byte_taken s bytes

@@ -22,6 +22,7 @@ mod copies;
 mod counting;
 mod echoes;
 mod exits;
+mod feeding;
 mod fronts;
 mod handle_calls;
 mod input_calls;

@@ -1,7 +1,8 @@
 -- What comes from the terminal leaves alone, and bytes one after the other.
-use Rattle.std.proofs.Common.{◌≡◌, ℕ, zero, suc, ◌+◌, ◌*◌, ◌<◌, ◌≤◌, Bool, true, false, not, ◌&&◌, cond, List, [], ◌∷◌, ◌++◌, length, map, drop, get_or, Option, None, Some, refl, sym, ap, ◌∙◌, arith, length-append}
-use Rattle.std.specs.Prelude.{fold, if◌then◌else◌}
-use Rattle.std.proofs.lemmas.List.{length-map}
+use Rattle.std.proofs.Common.{◌≡◌, ℕ, zero, suc, ◌+◌, ◌-◌, ◌*◌, ◌<◌, ◌≤◌, Bool, true, false, not, ◌&&◌, cond, List, [], ◌∷◌, ◌++◌, length, map, drop, get_or, Option, None, Some, refl, sym, ap, ◌∙◌, arith, length-append}
+use Rattle.std.specs.Prelude.{fold, option_to_list, if◌then◌else◌}
+use Rattle.std.proofs.Math.Seq.{drop-cons}
+use Rattle.std.proofs.lemmas.List.{length-map, drop_all}
 use Rattle.std.proofs.lemmas.List.Sums.{fold-append}
 use Rattle.con_units.specs.Split.{Split, next, read_on, split_after, ended as split_ended}
 use Rattle.con_records.specs.declared.record.Key.{Key}
@@ -273,3 +274,91 @@ taken_next s t u keys i a b c k so_far is now spare = record {
       let more = so_far.spare in
       omega (arith, e, f, more, spare);
 }
+
+pub next_of : {A : Type 0} (xs : List A) (i : ℕ) (d : A) → i < length xs → drop i xs ≡ get_or xs i d ∷ drop (i + 1) xs
+next_of xs i d below = let same : suc i ≡ i + 1 = omega arith in drop-cons xs i d below ∙ ap (λ (k : ℕ). get_or xs i d ∷ drop k xs) same
+
+pub none_left : {A : Type 0} (xs : List A) (i : ℕ) → length xs ≤ i → drop i xs ≡ []
+none_left xs i past = drop_all i xs past
+
+-- ---- bytes in their order
+
+pub record AreFed (s t : State) (bytes : List ℕ) (i a : ℕ) : Type 0 where
+  pub state : fold byte_taken t (drop i bytes) ≡ fold byte_taken s bytes
+  pub room : 2 * (length (drop i bytes) + length t.held) ≤ a
+
+pub fed_next : (s t u : State) (bytes : List ℕ) (i a c b : ℕ) → AreFed s t bytes i a → drop i bytes ≡ b ∷ drop (i + 1) bytes → u ≡ byte_taken t b → a + 2 * length u.held ≤ c + 2 * (length t.held + 1) → AreFed s u bytes (i + 1) c
+fed_next s t u bytes i a c b so_far is now spare = record {
+  state = ap (λ (x : State). fold byte_taken x (drop (i + 1) bytes)) now ∙ sym (ap (λ (l : List ℕ). fold byte_taken t l) is) ∙ so_far.state;
+  room =
+      let more = so_far.room in
+      let one : length (drop i bytes) ≡ length (drop (i + 1) bytes) + 1 = ap (λ (l : List ℕ). length l) is ∙ (omega arith) in
+      omega (arith, more, one, spare);
+}
+
+pub fed_fits : (s t : State) (bytes : List ℕ) (i a b : ℕ) → AreFed s t bytes i a → drop i bytes ≡ b ∷ drop (i + 1) bytes → 2 * (length t.held + 1) ≤ a
+fed_fits s t bytes i a b so_far is =
+    let more = so_far.room in
+    let one : length (drop i bytes) ≡ length (drop (i + 1) bytes) + 1 = ap (λ (l : List ℕ). length l) is ∙ (omega arith) in
+    omega (arith, more, one)
+
+-- ---- room for what a byte gives
+
+one_at_most : (r : Option Report) → length (option_to_list r) ≤ 1
+one_at_most None = omega arith
+one_at_most (Some r) = omega arith
+
+pub byte_room : (s : State) (held tail : List ℕ) (b : ℕ) (ks : List Key) (e : Option (List ℕ)) → ks ≡ (next grammar held b).items → tail ≡ (next grammar held b).tail → e ≡ ended_by held b
+    → length ks + length tail ≤ length held + 1 → length (sent ks s.cursor_keys) + length tail ≤ length held + 1
+    → stored_count s ks + length (option_to_list (told_report e)) + 2 * length tail ≤ 2 * (length held + 1)
+byte_room s held tail b ks None is left at few units =
+    let n : ℕ = length held + 1 - length tail in
+    let stored : stored_count s ks ≤ 2 * n = stored_few s ks n (omega (arith, few)) (omega (arith, units)) in
+    omega (arith, stored, few)
+byte_room s held tail b ks (Some bytes) is left at few units =
+    let nothing = ended_nothing held b bytes (sym at) in
+    let none : stored_count s ks ≡ 0 = ap (stored_count s) (is ∙ nothing.0) in
+    let gone : length tail ≡ 0 = ap (λ (l : List ℕ). length l) (left ∙ nothing.1) in
+    let one = one_at_most (report_of bytes) in
+    omega (arith, none, gone, one)
+
+split_from : (items others : List Key) (tail rest : List ℕ) → items ≡ others → tail ≡ rest → ◌≡◌ {A = Split Key} (record { items = items; tail = tail }) (record { items = others; tail = rest })
+split_from items others tail rest d e = rw (d, e) refl
+
+pub byte_state : (s t u : State) (b : ℕ) (ks : List Key) (tail : List ℕ) (e : Option (List ℕ)) → IsReadInPieces → ks ≡ (next grammar s.held b).items → tail ≡ (next grammar s.held b).tail → e ≡ ended_by s.held b
+    → t ≡ fold key_taken (record s { held = tail }) ks → u ≡ report_taken_in t (told_report e) → u ≡ byte_taken s b
+byte_state s t u b ks tail e read is left at keys report =
+    report ∙ ap (λ (x : State). report_taken_in x (told_report e)) keys
+    ∙ sym (byte_is s b (record { items = ks; tail = tail }) e (split_from ks (next grammar s.held b).items tail (next grammar s.held b).tail is left) at read)
+
+-- what a byte gives, and the report that it ends, fit
+pub byte_fits : (s : State) (held tail : List ℕ) (b : ℕ) (ks os old : List Key) (e : Option (List ℕ)) (k l : ℕ) → ks ≡ os → old ≡ [] → os ≡ old ++ (next grammar held b).items → tail ≡ (next grammar held b).tail → e ≡ ended_by held b
+    → length ks ≡ k → l ≡ 0 → k + length tail ≤ l + length held + 1 → length (sent os s.cursor_keys) + length tail ≤ length (sent old s.cursor_keys) + length held + 1
+    → stored_count s ks + length (option_to_list (told_report e)) + 2 * length tail ≤ 2 * (length held + 1)
+byte_fits s held tail b ks os old e k l is none at_keys left at count nothing few units =
+    let keys : ks ≡ (next grammar held b).items = is ∙ at_keys ∙ ap (λ (xs : List Key). xs ++ (next grammar held b).items) none in
+    let sent_none : length (sent old s.cursor_keys) ≡ 0 = ap (λ (xs : List Key). length (sent xs s.cursor_keys)) none in
+    let same : length (sent ks s.cursor_keys) ≡ length (sent os s.cursor_keys) = ap (λ (xs : List Key). length (sent xs s.cursor_keys)) is in
+    byte_room s held tail b ks e keys left at (omega (arith, count, nothing, few)) (omega (arith, same, sent_none, units))
+
+pub first_fits : (s : State) (ks : List Key) (o t n m : ℕ) → stored_count s ks + o + 2 * t ≤ 2 * n → 2 * n ≤ m → stored_count s ks ≤ m
+first_fits s ks o t n m fits room = omega (arith, fits, room)
+
+pub then_fits : (s : State) (ks : List Key) (r q : Option Report) (t n m a : ℕ) → stored_count s ks + length (option_to_list q) + 2 * t ≤ 2 * n → r ≡ q → 2 * n ≤ m → m ≤ a + stored_count s ks → length (option_to_list r) ≤ a
+then_fits s ks r q t n m a fits is room keys =
+    let same : length (option_to_list r) ≡ length (option_to_list q) = ap (λ (o : Option Report). length (option_to_list o)) is in
+    omega (arith, fits, room, keys, same)
+
+pub all_fits : (s : State) (ks : List Key) (r q : Option Report) (held tail : List ℕ) (n m a b : ℕ) → stored_count s ks + length (option_to_list q) + 2 * length tail ≤ 2 * n → r ≡ q → m ≤ a + stored_count s ks → a ≤ b + length (option_to_list r) → held ≡ tail → m + 2 * length held ≤ b + 2 * n
+all_fits s ks r q held tail n m a b fits is keys report left =
+    let same : length (option_to_list r) ≡ length (option_to_list q) = ap (λ (o : Option Report). length (option_to_list o)) is in
+    let long : length held ≡ length tail = ap (λ (xs : List ℕ). length xs) left in
+    omega (arith, fits, keys, report, same, long)
+
+-- the keys of what was held fit
+pub quiet_fits : (s : State) (ks os old : List Key) (k l n m : ℕ) → ks ≡ os → old ≡ [] → length ks ≡ k → l ≡ 0 → k ≤ l + n → length (sent os s.cursor_keys) ≤ length (sent old s.cursor_keys) + n → 2 * n ≤ m → stored_count s ks ≤ m
+quiet_fits s ks os old k l n m is none count nothing few units room =
+    let sent_none : length (sent old s.cursor_keys) ≡ 0 = ap (λ (xs : List Key). length (sent xs s.cursor_keys)) none in
+    let same : length (sent ks s.cursor_keys) ≡ length (sent os s.cursor_keys) = ap (λ (xs : List Key). length (sent xs s.cursor_keys)) is in
+    let stored : stored_count s ks ≤ 2 * n = stored_few s ks n (omega (arith, count, nothing, few)) (omega (arith, same, sent_none, units)) in
+    omega (arith, stored, room)
