@@ -36,4 +36,6 @@ pub mod Held
 pub mod Marks
 -- Bytes of the terminal one at a time.
 pub mod Feeding
+-- The memory of events that are no client's.
+pub mod TerminalRooms
 pub mod CallRooms
