@@ -39,3 +39,4 @@ pub mod Feeding
 -- The memory of events that are no client's.
 pub mod TerminalRooms
 pub mod CallRooms
+pub mod ClientRooms

@@ -15,6 +15,8 @@ mod call_room;
 mod calls;
 mod cell_calls;
 mod cells;
+mod client_room;
+mod clients;
 mod closing;
 mod collecting;
 mod console;
@@ -55,6 +57,7 @@ mod typing;
 mod writing;
 
 pub use call_room::CallRoom;
+pub use client_room::ClientRoom;
 pub use console::Console;
 pub use noted::Noted;
 pub use notes::Notes;

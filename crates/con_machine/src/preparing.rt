@@ -64,7 +64,7 @@ impl Console {
         Ok(CallRoom::Cells(room))
     }
 
-    fn records_room(&mut self, records: &Taken) -> Result<CallRoom, OutOfMemory>
+    fn write_room(&mut self, records: &Taken) -> Result<CallRoom, OutOfMemory>
         ensures state { self.new.state ≡ self.old.state }
         ensures room { IfOk result (λ _. length records.now ≤ 1024 → length records.now ≤ self.new.spare.records) }
     {
@@ -134,7 +134,7 @@ impl Console {
             Call::FillAttrs(_, _, _, _, _) => Ok(CallRoom::Nothing),
             Call::Scroll(_, _, _, _, _, _, _) => Ok(CallRoom::Nothing),
             Call::Peek(h, n) => Ok(CallRoom::Told(self.told_records(p, *h, *n)?)),
-            Call::WriteInput(_, records) => self.records_room(records),
+            Call::WriteInput(_, records) => self.write_room(records),
             Call::Count(h) => Ok(CallRoom::Told(self.told_count(p, *h))),
             Call::Flush(_) => Ok(CallRoom::Nothing),
             Call::HistoryInfo => Ok(CallRoom::Told(self.told_history_info()?)),
