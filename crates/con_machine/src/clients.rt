@@ -47,7 +47,7 @@ impl Console {
         ensures room { IfOk result (λ room. IsRecordsRoom self.new p h n room) }
     {
         self.readers.reserve()?;
-        Ok(ClientRoom::Records(self.records_room(p, h, n)?))
+        Ok(ClientRoom::Records(self.read_input_room(p, h, n)?))
     }
 
     fn begin_room(&mut self, p: u8, wanted: &Wanted) -> Result<ClientRoom, OutOfMemory>
