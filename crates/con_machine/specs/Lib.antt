@@ -40,3 +40,4 @@ pub mod Feeding
 pub mod TerminalRooms
 pub mod CallRooms
 pub mod ClientRooms
+pub mod Fits

@@ -37,9 +37,7 @@ impl Console {
         ensures room { IfOk result (λ room. IsReadRoom self.new p h n initial.now mask room) }
     {
         self.read_places()?;
-        Ok(ClientRoom::Read(
-            self.read_room(p, h, n, initial, mask)?,
-        ))
+        Ok(ClientRoom::Read(self.read_room(p, h, n, initial, mask)?))
     }
 
     fn input_room(&mut self, p: u8, h: u32, n: u32) -> Result<ClientRoom, OutOfMemory>

@@ -1,0 +1,112 @@
+//! An event is entered.
+ghost use Rattle.std.specs.Prelude.{◌≡◌, true, false, IfOk};
+ghost use Rattle.con_procs.specs.Procs.{is_attached};
+ghost use Rattle.con_machine.specs.ClientRooms.{IsClientRoom};
+ghost use Rattle.con_machine.specs.Closing.{closing};
+ghost use Rattle.con_machine.specs.Fits.{Fits, IsOfClient, IsOfTerminal};
+ghost use Rattle.con_machine.specs.Marks.{told, Tells};
+ghost use Rattle.con_machine.specs.Serving.{settled_state};
+ghost use Rattle.con_machine.specs.Step.{is_clients, is_due, effect, finished, step, is_ready};
+ghost use Rattle.con_machine.specs.TerminalRooms.{IsTerminalRoom};
+
+use crate::client_room::ClientRoom;
+use crate::console::Console;
+use crate::room::Room;
+use crate::terminal_room::TerminalRoom;
+use con_events::{Actor, Event, Reply};
+use con_units::{Code, OutOfMemory};
+
+impl Console {
+    // Open reads are served, and then the console may close.
+    fn finish(&mut self)
+        ensures { self.new.state ≡ closing (settled_state self.old.state) }
+    {
+        self.settle();
+        self.close_if_idle();
+    }
+
+    // An event of an attached client.
+    fn enter_client(&mut self, p: u8, event: &Event, room: ClientRoom) -> Reply
+        requires attached { is_attached self.old.state.procs p ≡ true }
+        requires clients { is_clients event.now ≡ true }
+        requires due { is_due self.old.state p event.now ≡ true }
+        requires room { IsClientRoom self.old p event.now room }
+        ensures state { self.new.state ≡ (finished (effect self.old.state p event.now)).after }
+        ensures reply { result ≡ (effect self.old.state p event.now).reply }
+    {
+        let mut room = room;
+        let reply = self.client(p, event, &mut room);
+        self.finish();
+        reply
+    }
+
+    // An event that is no client's.
+    fn enter_terminal(&mut self, event: &Event, room: TerminalRoom) -> Reply
+        requires side { is_clients event.now ≡ false }
+        requires due { is_due self.old.state 0 event.now ≡ true }
+        requires room { IsTerminalRoom self.old event.now room }
+        ensures state { self.new.state ≡ (finished (effect self.old.state 0 event.now)).after }
+        ensures reply { told result ≡ (effect self.old.state 0 event.now).reply }
+        ensures tells { Tells self.old.state event.now result }
+    {
+        let reply = self.terminal(event, room);
+        self.finish();
+        reply
+    }
+
+    /// Takes all memory that an event needs, before it has its effect. The state stays as it was, also where there was no
+    /// memory.
+    #[tactic(auto, unfolding(crate::specs::Fits::Fits))]
+    pub fn prepare(&mut self, actor: Actor, event: &Event) -> Result<Room, OutOfMemory>
+        ensures state { self.new.state ≡ self.old.state }
+        ensures room { IfOk result (λ room. Fits room self.new actor event.now) }
+    {
+        match actor {
+            Actor::Client(p) => {
+                if !self.attached(p) {
+                    return Ok(Room::Outside);
+                }
+                Ok(Room::Client(self.client_room(p, event)?))
+            }
+            Actor::Terminal => Ok(Room::Terminal(self.terminal_room(event)?)),
+            Actor::Painter => Ok(Room::Terminal(self.terminal_room(event)?)),
+        }
+    }
+
+    /// Enters an event of an actor: the console steps, and the event is answered. It takes no memory but its room's, so it
+    /// cannot fail. An event of a client that is not attached is refused (6) and changes nothing. A Paint answers beside
+    /// the view which rows may differ from the view at the last Paint, and whether it is for a terminal of a new size.
+    #[tactic(auto, unfolding(crate::specs::Fits::Fits, crate::specs::Step::is_ready, crate::specs::Step::step))]
+    pub fn apply(&mut self, actor: Actor, event: &Event, room: Room) -> Reply
+        requires ready { is_ready self.old.state actor event.now ≡ true }
+        requires room { Fits room self.old actor event.now }
+        ensures state { self.new.state ≡ (step self.old.state actor event.now).after }
+        ensures client { is_clients event.now ≡ true → result ≡ (step self.old.state actor event.now).reply }
+        ensures other { is_clients event.now ≡ false → told result ≡ (step self.old.state actor event.now).reply }
+        ensures tells { Tells self.old.state event.now result }
+    {
+        match actor {
+            Actor::Client(p) => {
+                if !self.attached(p) {
+                    return Reply::Fail(Code::BadHandle);
+                }
+                let Room::Client(room) = room else {
+                    unreachable!()
+                };
+                self.enter_client(p, event, room)
+            }
+            Actor::Terminal => {
+                let Room::Terminal(room) = room else {
+                    unreachable!()
+                };
+                self.enter_terminal(event, room)
+            }
+            Actor::Painter => {
+                let Room::Terminal(room) = room else {
+                    unreachable!()
+                };
+                self.enter_terminal(event, room)
+            }
+        }
+    }
+}
