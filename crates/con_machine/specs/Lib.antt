@@ -41,3 +41,4 @@ pub mod TerminalRooms
 pub mod CallRooms
 pub mod ClientRooms
 pub mod Fits
+pub mod Numbered
