@@ -24,6 +24,9 @@ pub mod Client
 pub mod Follows
 pub mod Rounds
 pub mod Sights
+pub mod Whole
+pub mod HistoryLaws
+pub mod RoundLaws
 -- The code's own words: what holds of every console, and what is promised to fit.
 pub mod Pumping
 pub mod Began

@@ -71,7 +71,7 @@ ClientTurn true s p c t = ClientTurnBy c.stance s p c t
 
 -- the painter paints where a Paint is ready and the terminal has not failed
 abbrev pub painter_turn : State → Bool → Option Event
-painter_turn s failed = if is_ready s actors.Painter events.Paint && not failed then Some events.Paint else None
+painter_turn s failed = if not failed && is_ready s actors.Painter events.Paint then Some events.Paint else None
 
 -- what client p was after a history
 abbrev pub client_at : Begun → List Entry → ℕ → Client

@@ -28,6 +28,7 @@ mod exits;
 mod feeding;
 mod fronts;
 mod handle_calls;
+pub mod history_laws;
 mod input_calls;
 mod line_calls;
 mod machine;

@@ -1,0 +1,40 @@
+//! What follows from the definitions of histories, for whoever keeps one.
+ghost use Rattle.std.specs.Prelude.{◌≡◌, ℕ, ◌+◌, ◌&&◌, Bool, true, false, List, [], ◌∷◌, ◌++◌, Option};
+ghost use Rattle.con_events.specs.declared.actor.Actor.{Actor};
+ghost use Rattle.con_events.specs.declared.entry.Entry.{Entry};
+ghost use Rattle.con_events.specs.declared.event.Event.{Event};
+ghost use Rattle.con_machine.specs.State.{State};
+ghost use Rattle.con_machine.specs.History.{run, replies_of, is_legal};
+ghost use Rattle.con_machine.specs.Turns.{turns, turn_of, sent, is_client, is_terminal, is_last_sent, has_ended, paints};
+ghost use Rattle.con_machine.specs.Sights.{sights_of};
+ghost use Rattle.con_machine.specs.Rounds.{Begun, AreTurns, IsTurn, AreRounds, entry_of, entries_of, all_entries, all_order, is_nobody};
+
+/// Of two histories, one behind the other: the console after them, the replies, whether each event is ready, what a client
+/// did, what the terminal's side sent, what was shown and how often.
+pub fn histories_are_joined()
+    ensures after { (s : State) (h g : List Entry) → run s (h ++ g) ≡ run (run s h) g }
+    ensures replies { (s : State) (h g : List Entry) → replies_of s (h ++ g) ≡ replies_of s h ++ replies_of (run s h) g }
+    ensures legal { (s : State) (h g : List Entry) → is_legal s (h ++ g) ≡ (is_legal s h && is_legal (run s h) g) }
+    ensures clients { (s : State) (p : ℕ) (h g : List Entry) → turns s p (h ++ g) ≡ turns s p h ++ turns (run s h) p g }
+    ensures side { (h g : List Entry) → sent (h ++ g) ≡ sent h ++ sent g }
+    ensures shown { (s : State) (h g : List Entry) → sights_of s (h ++ g) ≡ sights_of s h ++ sights_of (run s h) g }
+    ensures counted { (h g : List Entry) → paints (h ++ g) ≡ paints h + paints g }
+{}
+
+/// One more entry is a turn of its actor, and of nobody else.
+pub fn an_entry_is_its_actors()
+    ensures own { (s : State) (p : ℕ) (h : List Entry) (x : Entry) → is_client p x.actor ≡ true → turns s p (h ++ x ∷ []) ≡ turns s p h ++ turn_of (run s h) p x ∷ [] }
+    ensures other { (s : State) (p : ℕ) (h : List Entry) (x : Entry) → is_client p x.actor ≡ false → turns s p (h ++ x ∷ []) ≡ turns s p h }
+    ensures sent_own { (h : List Entry) (x : Entry) → is_terminal x.actor ≡ true → sent (h ++ x ∷ []) ≡ sent h ++ x.event ∷ [] }
+    ensures sent_other { (h : List Entry) (x : Entry) → is_terminal x.actor ≡ false → sent (h ++ x ∷ []) ≡ sent h }
+    ensures ended { (b : Bool) (es : List Event) (e : Event) → has_ended b (es ++ e ∷ []) ≡ is_last_sent e }
+{}
+
+/// Rounds go on by one more turn, and by one more round.
+pub fn rounds_go_on()
+    ensures turn { (b : Begun) (h : List Entry) (by : List Actor) (ts : List (Option Event)) (a : Actor) (t : Option Event) → AreTurns false b h by ts → IsTurn b (h ++ entries_of by ts) a t → AreTurns false b h (by ++ a ∷ []) (ts ++ t ∷ []) }
+    ensures entries { (b : Begun) (h : List Entry) (by : List Actor) (ts : List (Option Event)) (a : Actor) (t : Option Event) → AreTurns false b h by ts → entries_of (by ++ a ∷ []) (ts ++ t ∷ []) ≡ entries_of by ts ++ entry_of a t }
+    ensures broken { (b : Begun) (h : List Entry) (by more : List Actor) (ts : List (Option Event)) → AreTurns false b h by ts → AreTurns true b h (by ++ more) ts }
+    ensures round { (b : Begun) (h : List Entry) (rounds : List (List (Option Event))) (one : List (Option Event)) → AreRounds b h rounds → AreTurns false b (h ++ all_entries (all_order b) rounds) (all_order b) one → is_nobody one ≡ false → AreRounds b h (rounds ++ one ∷ []) }
+    ensures all_entries { (by : List Actor) (rounds : List (List (Option Event))) (one : List (Option Event)) → all_entries by (rounds ++ one ∷ []) ≡ all_entries by rounds ++ entries_of by one }
+{}
