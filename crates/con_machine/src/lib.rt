@@ -36,6 +36,7 @@ mod noted;
 mod notes;
 mod paint_room;
 mod painting;
+mod play;
 mod pointing;
 mod preparing;
 mod process_calls;

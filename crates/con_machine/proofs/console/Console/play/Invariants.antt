@@ -1,0 +1,14 @@
+-- What is still to come is ready, and leads to the same console and the same replies.
+use Rattle.std.proofs.Common.{◌≡◌, ◌≤◌, ◌++◌, true, length, map, drop, vec_len, vec_capacity}
+use Rattle.con_machine.specs.History.{run, replies_of, is_legal}
+use Rattle.con_machine.specs.Marks.{told}
+use Rattle.con_machine.proofs.console.Console.play.Given as goal
+
+abbrev pub invariant-loop-entry : goal.invariant-loop-entry
+invariant-loop-entry l = record {
+  legal : is_legal l.self.state (drop l.entry-index l.entries) ≡ true;
+  state : run l.self.state (drop l.entry-index l.entries) ≡ run l.fn.self.state l.entries;
+  told : map told l.replies.items ++ map told (replies_of l.self.state (drop l.entry-index l.entries)) ≡ map told (replies_of l.fn.self.state l.entries);
+  count : vec_len l.replies ≡ l.entry-index;
+  room : length l.entries ≤ vec_capacity l.replies;
+}
