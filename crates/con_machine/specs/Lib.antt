@@ -25,8 +25,10 @@ pub mod Follows
 pub mod Rounds
 pub mod Sights
 pub mod Whole
+pub mod Moves
 pub mod HistoryLaws
 pub mod RoundLaws
+pub mod PictureLaws
 -- The code's own words: what holds of every console, and what is promised to fit.
 pub mod Pumping
 pub mod Began

@@ -2,8 +2,14 @@
 ghost use Rattle.std.specs.Prelude.{◌≡◌, ℕ, ◌+◌, ◌&&◌, Bool, true, false, List, [], ◌∷◌, ◌++◌, Option};
 ghost use Rattle.con_events.specs.declared.actor.Actor.{Actor};
 ghost use Rattle.con_events.specs.declared.entry.Entry.{Entry};
+ghost use Rattle.con_events.specs.declared.actor.Actor.TheVariants as actors;
 ghost use Rattle.con_events.specs.declared.event.Event.{Event};
+ghost use Rattle.con_events.specs.declared.event.Event.TheVariants as events;
+ghost use Rattle.con_events.specs.declared.reply.Reply.TheVariants as replies;
 ghost use Rattle.con_machine.specs.State.{State};
+ghost use Rattle.con_machine.specs.Step.{step, is_ready};
+ghost use Rattle.con_machine.specs.Painting.{view_now};
+ghost use Rattle.con_machine.specs.Moves.{Moves};
 ghost use Rattle.con_machine.specs.History.{run, replies_of, is_legal};
 ghost use Rattle.con_machine.specs.Turns.{turns, turn_of, sent, is_client, is_terminal, is_last_sent, has_ended, paints};
 ghost use Rattle.con_machine.specs.Sights.{sights_of};
@@ -37,4 +43,16 @@ pub fn rounds_go_on()
     ensures broken { (b : Begun) (h : List Entry) (by more : List Actor) (ts : List (Option Event)) → AreTurns false b h by ts → AreTurns true b h (by ++ more) ts }
     ensures round { (b : Begun) (h : List Entry) (rounds : List (List (Option Event))) (one : List (Option Event)) → AreRounds b h rounds → AreTurns false b (h ++ all_entries (all_order b) rounds) (all_order b) one → is_nobody one ≡ false → AreRounds b h (rounds ++ one ∷ []) }
     ensures all_entries { (by : List Actor) (rounds : List (List (Option Event))) (one : List (Option Event)) → all_entries by (rounds ++ one ∷ []) ≡ all_entries by rounds ++ entries_of by one }
+{}
+
+/// An Ask and a Resize stand until the next Paint, which shows what there is; no other event changes what is asked for, whether
+/// the size is a new one, and what was painted last.
+pub fn an_event_moves_the_picture()
+    ensures { (s : State) (a : Actor) (e : Event) → Moves s e (step s a e).after }
+{}
+
+/// What is asked for may be painted, and a Paint answers the view.
+pub fn what_is_asked_for_is_due()
+    ensures due { (s : State) → s.asked ≡ true → is_ready s actors.Painter events.Paint ≡ true }
+    ensures view { (s : State) → (step s actors.Painter events.Paint).reply ≡ replies.View (view_now s) [] false }
 {}
