@@ -7,7 +7,7 @@ use Rattle.con_events.specs.declared.reply.Reply.{Reply}
 use Rattle.con_events.specs.declared.reply.Reply.TheVariants as replies
 use Rattle.con_machine.specs.Fits.{Fits}
 use Rattle.con_machine.specs.Held.{Held}
-use Rattle.con_machine.specs.Marks.{told, Tells}
+use Rattle.con_machine.specs.Marks.{Tells}
 use Rattle.con_machine.specs.State.{State, opening}
 use Rattle.con_machine.specs.Step.{step, is_ready}
 use Rattle.con_machine.specs.declared.room.Room.{Room}
@@ -24,10 +24,9 @@ abbrev pub next_of : State → Option Actor → Event → State
 next_of s None e = s
 next_of s (Some actor) e = (step s actor e).after
 
--- a Paint's without its marks
 abbrev pub answer_of : State → Option Actor → Event → Reply
 answer_of s None e = replies.Done
-answer_of s (Some actor) e = told (step s actor e).reply
+answer_of s (Some actor) e = (step s actor e).reply
 
 abbrev pub ready_of : State → Option Actor → Event → Bool
 ready_of s None e = false

@@ -33,6 +33,7 @@ impl Console {
         requires room { IsClientRoom self.old p event.now room }
         ensures state { self.new.state ≡ (finished (effect self.old.state p event.now)).after }
         ensures reply { result ≡ (effect self.old.state p event.now).reply }
+        ensures plain { told result ≡ (effect self.old.state p event.now).reply }
     {
         let mut room = room;
         let reply = self.client(p, event, &mut room);
@@ -82,7 +83,7 @@ impl Console {
         requires room { Fits room self.old actor event.now }
         ensures state { self.new.state ≡ (step self.old.state actor event.now).after }
         ensures client { is_clients event.now ≡ true → result ≡ (step self.old.state actor event.now).reply }
-        ensures other { is_clients event.now ≡ false → told result ≡ (step self.old.state actor event.now).reply }
+        ensures reply { told result ≡ (step self.old.state actor event.now).reply }
         ensures tells { Tells self.old.state event.now result }
     {
         match actor {

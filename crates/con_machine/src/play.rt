@@ -13,7 +13,7 @@ impl Console {
     pub fn play(&mut self, entries: &[Entry]) -> Result<Vec<Reply>, OutOfMemory>
         requires legal { is_legal self.old.state entries.now ≡ true }
         ensures state { IfOk result (λ _. self.new.state ≡ run self.old.state entries.now) }
-        ensures replies { IfOk result (λ rs. map told rs.items ≡ map told (replies_of self.old.state entries.now)) }
+        ensures replies { IfOk result (λ rs. map told rs.items ≡ replies_of self.old.state entries.now) }
     {
         let Ok(mut replies) = Vec::with_capacity(self.title.allocator(), entries.len()) else {
             return Err(OutOfMemory);

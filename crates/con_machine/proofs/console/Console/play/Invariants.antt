@@ -8,7 +8,7 @@ abbrev pub invariant-loop-entry : goal.invariant-loop-entry
 invariant-loop-entry l = record {
   legal : is_legal l.self.state (drop l.entry-index l.entries) ≡ true;
   state : run l.self.state (drop l.entry-index l.entries) ≡ run l.fn.self.state l.entries;
-  told : map told l.replies.items ++ map told (replies_of l.self.state (drop l.entry-index l.entries)) ≡ map told (replies_of l.fn.self.state l.entries);
+  told : map told l.replies.items ++ replies_of l.self.state (drop l.entry-index l.entries) ≡ replies_of l.fn.self.state l.entries;
   count : vec_len l.replies ≡ l.entry-index;
   room : length l.entries ≤ vec_capacity l.replies;
 }
