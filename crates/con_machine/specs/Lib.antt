@@ -47,3 +47,5 @@ pub mod CallRooms
 pub mod ClientRooms
 pub mod Fits
 pub mod Numbered
+-- What became of each record.
+pub mod Fates

@@ -25,6 +25,7 @@ mod counting;
 mod echoes;
 mod entering;
 mod exits;
+pub mod fates;
 mod feeding;
 mod fronts;
 mod handle_calls;
