@@ -19,7 +19,6 @@ use Rattle.con_handles.specs.declared.handle.Kind.TheVariants as kind
 use Rattle.con_handles.specs.declared.handle.Object.{Object}
 use Rattle.con_handles.specs.declared.handle.Object.TheVariants as object
 use Rattle.con_alias.specs.Aliases.{AliasList, Entry as AliasEntry, alias_at, add_answer, remove_answer}
-use Rattle.con_cooked.specs.declared.cooked.Cooked.{Cooked}
 use Rattle.con_history.specs.Histories.{LineHistories}
 use Rattle.con_procs.specs.Procs.{ids_of, add_answer as add_handler_answer, remove_answer as remove_handler_answer}
 use Rattle.con_mouse.specs.Reports.{report_of}
@@ -37,7 +36,7 @@ use Rattle.con_vtin.specs.Pieces.{Piece as Bytes, Typed, Ended, piece_grammar}
 use Rattle.con_screen.specs.ModeSet.{mode_set}
 use Rattle.con_screens.specs.Buffers.{screen_at, free_id}
 use Rattle.con_machine.specs.State.{State, noted_of, without_noted, rest_in, id_of}
-use Rattle.con_machine.specs.Outcome.{Outcome, refused, answered, done, by_answer, by_result, while_open, guard, guarded, with_object, on_buffer, on_input, buffer_of, checked, has_bit, are_rights}
+use Rattle.con_machine.specs.Outcome.{Outcome, refused, answered, done, by_answer, by_result, while_open, guard, with_object, buffer_of, checked, has_bit, are_rights}
 use Rattle.con_machine.specs.HandleCalls.{opened, opened_at, buffer_made, created_buffer, opened_out, opened_in, closed_handle, duplicated, activated, owned}
 use Rattle.con_machine.specs.ScreenCalls.{with_screen, is_input_mode, mode_changed, told_mode, set_mode, told_info, set_size, set_cursor, told_cursor, set_cursor_info, set_origin, set_attr, told_title, set_title, written_to}
 use Rattle.con_machine.specs.CellCalls.{cells_of, are_cells, rect_answer, run_answer, at_place, read_rect, wrote_rect, read_run_units, read_run_words, wrote_run_units, wrote_run_words, filled_units, filled_words, scrolled_cells}
@@ -45,16 +44,16 @@ use Rattle.con_machine.specs.InputCalls.{peeked, counted}
 use Rattle.con_machine.specs.LineCalls.{told_alias_in, told_history_info, set_history, listed_history, cleared_history, added_alias, removed_alias, told_alias, listed_aliases}
 use Rattle.con_machine.specs.ProcessCalls.{on_place, listed_processes, is_no_signal, sent_signal, set_ignore, added_handler, removed_handler}
 use Rattle.con_machine.specs.Call.{called}
-use Rattle.con_machine.specs.Serving.{settled_state, settled_from, followed, line_shown, line_finished, shows_line}
+use Rattle.con_machine.specs.Serving.{settled_state, followed, line_shown, line_finished, shows_line}
 use Rattle.con_machine.specs.Signals.{signalled_to}
 use Rattle.con_machine.specs.Closing.{closing, hung_up, all_wait}
-use Rattle.con_machine.specs.Reads.{began as read_began, collected, took_ctrl, left, units_told, answer_told, began_read, began_line, began_units, read_answer, records_answer, history_used, is_empty, line_begun, rest_answered}
+use Rattle.con_machine.specs.Reads.{began as read_began, collected, took_ctrl, left, answer_told, began_read, began_line, began_units, read_answer, records_answer, history_used, is_empty, line_begun, rest_answered}
 use Rattle.con_machine.specs.Painting.{painted}
-use Rattle.con_machine.specs.Terminal.{fed, quiet, resized, is_break, records_of, key_taken, piece_taken, by_report, sequence_taken, size_told}
+use Rattle.con_machine.specs.Terminal.{fed, quiet, resized, is_break, records_of, key_taken, piece_taken, by_report}
 use Rattle.con_machine.specs.Step.{effect, step, is_outside, client_of, finished}
 use Rattle.con_machine.specs.History.{run}
 use Rattle.con_machine.specs.declared.noted.Noted.{Noted}
-use Rattle.con_machine.specs.Fates.{reports_in, no_begins, pieces, Taker, Begun, Flushed, Piece, Begins, by_read, served_pieces, records_written, reports_written, call_arrivals, key_arrivals, keys_arrivals, report_arrivals, bytes_arrivals, all_bytes_arrivals, fed_arrivals, size_arrivals, effect_arrivals, step_arrivals, arrived, flushed_pieces, call_pieces, key_pieces, keys_pieces, bytes_pieces, all_bytes_pieces, fed_pieces, effect_pieces, step_pieces, begins_after, pieces_from}
+use Rattle.con_machine.specs.Fates.{reports_in, no_begins, pieces, Piece, Begins, by_read, served_pieces, records_written, reports_written, call_arrivals, keys_arrivals, report_arrivals, bytes_arrivals, all_bytes_arrivals, fed_arrivals, size_arrivals, effect_arrivals, step_arrivals, arrived, flushed_pieces, call_pieces, key_pieces, keys_pieces, bytes_pieces, all_bytes_pieces, fed_pieces, effect_pieces, step_pieces, begins_after, pieces_from}
 
 WholeReads : Type 0
 WholeReads = (al : List AliasList) (os : List Open) (rs : List Record) (hs : LineHistories) → joined (pieces_of al os rs hs) ++ (settled al os rs hs).records ≡ rs
@@ -287,8 +286,8 @@ call_keeps place s p (calls.HandlerRemove k) = same s (removed_handler s p k) (o
 read_keeps : (s : State) (p h n : ℕ) (initial : List ℕ) (mask : ℕ) → (began_read s p h n initial mask).after.records ≡ s.records
 read_keeps s p h n initial mask =
     answer_keeps s (read_answer s p h n initial) _ (alike (has_bit s.mode 2) (began_line (history_used s p) p h n initial mask) (began_units s p n) s.records
-        (alike (n == 0) _ _ s.records refl (alike (is_empty (rest_in s.rests p h)) (line_begun (history_used s p) p h n initial mask) (rest_answered (history_used s p) p h n (rest_in s.rests p h)) s.records refl refl))
-        (alike (n == 0) _ _ s.records refl refl))
+    (alike (n == 0) _ _ s.records refl (alike (is_empty (rest_in s.rests p h)) (line_begun (history_used s p) p h n initial mask) (rest_answered (history_used s p) p h n (rest_in s.rests p h)) s.records refl refl))
+    (alike (n == 0) _ _ s.records refl refl))
 
 begin_keeps : (s : State) (p : ℕ) (w : Wanted) → (read_began s p w).after.records ≡ s.records
 unfolding read_began

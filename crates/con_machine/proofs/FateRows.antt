@@ -1,6 +1,6 @@
 -- Worked histories with the fates of their records, computed on the definitions.
-use Rattle.std.specs.Prelude.{ℕ, ◌≡◌, refl, true, false, List, [], ◌∷◌, ◌++◌, length, map, codes, Option, Some, None}
-use Rattle.std.specs.Prelude.{ℕ, ℤ, pos, negsuc, ◌≡◌, refl, true, false, List, [], ◌∷◌, ◌++◌, replicate, codes, Some, None}
+use Rattle.std.specs.Prelude.{ℕ, ◌≡◌, refl, true, List, [], ◌∷◌, ◌++◌, length, map, codes, Option, Some, None}
+use Rattle.std.specs.Prelude.{ℕ, ◌≡◌, refl, true, List, ◌∷◌, ◌++◌, codes, Some, None}
 use Rattle.con_units.specs.Split.{next, split_after}
 use Rattle.con_units.specs.declared.code.Code.TheVariants as code
 use Rattle.con_events.specs.declared.actor.Actor.TheVariants as actors
@@ -26,7 +26,7 @@ use Rattle.con_procs.specs.Procs.{ids_from}
 use Rattle.con_readers.specs.Reads.{settled}
 use Rattle.con_readers.specs.Serving.{served}
 use Rattle.con_readers.specs.Wants.{units_of, rest_of}
-use Rattle.con_machine.specs.History.{run, replies_of, is_legal}
+use Rattle.con_machine.specs.History.{replies_of}
 use Rattle.con_machine.specs.Step.{step, effect, is_due, is_ready}
 use Rattle.con_machine.specs.Call.{called}
 use Rattle.con_machine.specs.Serving.{settled_state}

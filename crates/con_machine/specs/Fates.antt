@@ -1,8 +1,9 @@
 -- What became of each record of the input: records are taken from the front alone, so who took what is a list of pieces, in order.
 -- What came in and who took it is told beside the run of a history; the console itself counts no records.
-use Rattle.std.specs.Prelude.{ℕ, suc, ◌+◌, ◌-◌, ◌==◌, Bool, true, false, nat_lt, List, [], ◌∷◌, ◌++◌, length, map, Option, None, Some, Result, Ok, Err, if◌then◌else◌}
+use Rattle.std.specs.Prelude.{◌≡◌, ◌⊎◌, ℕ, suc, ◌+◌, ◌-◌, ◌==◌, Bool, true, false, nat_lt, List, [], ◌∷◌, ◌++◌, length, map, Option, None, Some, Result, Ok, Err, if◌then◌else◌}
 use Rattle.con_units.specs.Split.{split_after}
 use Rattle.con_units.specs.declared.code.Code.{Code}
+use Rattle.con_units.specs.declared.code.Code.TheVariants as code
 use Rattle.con_units.specs.declared.place.Size.{Size}
 use Rattle.con_events.specs.declared.call.Call.{Call}
 use Rattle.con_events.specs.declared.call.Call.TheVariants as calls
@@ -12,6 +13,7 @@ use Rattle.con_events.specs.declared.event.Event.TheVariants as events
 use Rattle.con_events.specs.declared.event.Wanted.{Wanted}
 use Rattle.con_events.specs.declared.event.Wanted.TheVariants as wanted
 use Rattle.con_events.specs.declared.reply.Reply.{Reply}
+use Rattle.con_events.specs.declared.reply.Reply.TheVariants as replies
 use Rattle.con_handles.specs.declared.handle.Kind.TheVariants as kind
 use Rattle.con_handles.specs.declared.handle.Object.{Object}
 use Rattle.con_mouse.specs.Presses.{record_of}
@@ -244,3 +246,7 @@ records_with f t k (r ∷ rs) = if is_fate t (f k) then r ∷ records_with f t (
 -- the records whose fate is this one, in order of arrival
 abbrev pub fated : State → List Entry → Taker → List Record
 fated s h t = records_with (fate s h) t 0 (s.records ++ arrived s h)
+
+-- A reply tells these records, or that the console closed before the read had one.
+abbrev pub AnswersRecords : Reply → List Record → Type 0
+AnswersRecords reply rs = (reply ≡ replies.Records rs) ⊎ ((reply ≡ replies.Fail code.Closed) × (rs ≡ []))
