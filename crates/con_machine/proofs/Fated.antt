@@ -1,23 +1,18 @@
 -- A read of records answers what it took, over every history.
-use Rattle.std.proofs.Common.{◌≡◌, ◌==◌, ◌+◌, ◌<◌, ◌≤◌, ◌||◌, ℕ, Bool, true, false, not, List, [], ◌∷◌, ◌++◌, refl, ap, ◌∙◌, sym, subst, append-nil, append_assoc, Option, None, Some, Result, Ok, Err, filter, slice_get, true≢false, arith, ◌⊎◌, inl, inr}
-use Rattle.std.specs.Prelude.{nat_lt, if◌then◌else◌}
+use Rattle.std.proofs.Common.{◌≡◌, ◌==◌, ◌+◌, ◌<◌, ◌≤◌, ℕ, Bool, true, false, List, [], ◌∷◌, ◌++◌, refl, ap, ◌∙◌, sym, subst, append-nil, append_assoc, Option, None, Some, filter, slice_get, true≢false, arith, ◌⊎◌, inl, inr}
+use Rattle.std.specs.Prelude.{if◌then◌else◌}
 use Rattle.std.proofs.lemmas.Bool.{eqb-true, eq-eqb}
 use Rattle.std.proofs.lemmas.Bool.Decides.{nat_tests}
 use Rattle.con_units.specs.declared.code.Code.{Code}
 use Rattle.con_units.specs.declared.code.Code.TheVariants as code
 use Rattle.con_alias.specs.Aliases.{AliasList}
-use Rattle.con_events.specs.declared.actor.Actor.{Actor}
 use Rattle.con_events.specs.declared.actor.Actor.TheVariants as actors
 use Rattle.con_history.specs.Histories.{LineHistories}
 use Rattle.con_events.specs.declared.entry.Entry.{Entry}
-use Rattle.con_events.specs.declared.event.Event.{Event}
 use Rattle.con_events.specs.declared.event.Event.TheVariants as events
 use Rattle.con_events.specs.declared.event.Wanted.{Wanted}
-use Rattle.con_events.specs.declared.event.Wanted.TheVariants as wanted
 use Rattle.con_events.specs.declared.reply.Reply.{Reply}
-use Rattle.con_handles.specs.declared.handle.Kind.TheVariants as kind
-use Rattle.con_handles.specs.declared.handle.Object.{Object}
-use Rattle.con_procs.specs.Procs.{is_attached, program_of}
+use Rattle.con_procs.specs.Procs.{is_attached}
 use Rattle.con_readers.specs.Pieces.{front, pieces_of, joined}
 use Rattle.con_readers.specs.Serving.{is_done, served}
 use Rattle.con_readers.specs.Reads.{settled, begun, is_open, without, answer_in, answer_of, place_of, has_done, done_in}
@@ -27,75 +22,19 @@ use Rattle.con_readers.specs.declared.open.Open.{Open}
 use Rattle.con_readers.specs.declared.open.OpenRead.{OpenRead}
 use Rattle.con_readers.specs.declared.open.OpenRead.TheVariants as reads
 use Rattle.con_records.specs.declared.record.Record.{Record}
-use Rattle.con_machine.specs.State.{State, noted_of, without_noted, rest_in}
-use Rattle.con_machine.specs.Outcome.{Outcome, refused, by_answer, guard, guarded, has_bit}
+use Rattle.con_machine.specs.State.{State, noted_of, without_noted}
+use Rattle.con_machine.specs.Outcome.{Outcome}
 use Rattle.con_machine.specs.Client.{is_fail}
 use Rattle.con_machine.specs.History.{run}
-use Rattle.con_machine.specs.Reads.{began, began_line, began_units, answered_with, rest_answered, line_begun, with_read, front_of, is_empty, history_used, read_answer, records_answer, is_no_initial, collected, answer_told}
+use Rattle.con_machine.specs.Reads.{collected, answer_told}
 use Rattle.con_machine.specs.Step.{effect, step, is_outside, client_of, finished}
-use Rattle.con_machine.specs.Fates.{Taker, Begun, Piece, Begin, Begins, no_begins, begin_at, begin_or, begun_by, begins_after, begins_from, last_begin, read_of, wants_records, is_taker, effect_pieces, served_pieces, step_pieces, pieces_from, pieces, fate, fated, records_with, AnswersRecords}
+use Rattle.con_machine.specs.Fates.{Taker, Begun, Piece, Begin, Begins, no_begins, begin_at, begins_after, begins_from, last_begin, read_of, wants_records, is_taker, served_pieces, step_pieces, pieces_from, pieces, fate, fated, records_with, AnswersRecords}
 use Rattle.con_machine.proofs.FateLists.{taken, taken-append, fated_taken}
 use Rattle.con_machine.proofs.Conserved.{conserved}
-use Rattle.con_machine.proofs.Owned.{Has, Own, Found, AnswersPiece, begun_own, beside_own, found_own}
-use Rattle.con_machine.proofs.Takes.{wants_of, is_flush, Apart, Goes, Misses, goes_on, stays, is_begin, event_goes, ends_goes}
+use Rattle.con_machine.proofs.Owned.{Has, Own, Found, AnswersPiece, begun_own, begun_open, beside_own, found_own, gone_own}
+use Rattle.con_machine.proofs.Takes.{wants_of, is_flush, Apart, Goes, Misses, ends_goes, collected_reads}
 use Rattle.con_machine.specs.declared.noted.Noted.{Noted}
-
--- ---- a Begin
-
--- a read that was not refused goes behind the open ones, its process having had none
-record IsBegun (s : State) (p : ℕ) (wants : Bool) (t : State) : Type 0 where
-  none : is_open s.reads p ≡ false
-  read : OpenRead
-  reads : t.reads ≡ s.reads ++ begun p read ∷ []
-  has : Has wants [] read
-
-BeginsBy : Bool → State → ℕ → Bool → State → Type 0
-BeginsBy true s p wants t = t ≡ s
-BeginsBy false s p wants t = IsBegun s p wants t
-
-begin_by : (s : State) (p : ℕ) (wants : Bool) (r : Result (Unit {0}) Code) (t : State) → ((u : Unit {0}) → r ≡ Ok u → IsBegun s p wants t) → BeginsBy (is_fail (by_answer s r t).reply) s p wants (by_answer s r t).after
-unfolding BeginsBy
-begin_by s p wants (Err why) t h = refl
-begin_by s p wants (Ok u) t h = h u refl
-
-pick : (s : State) (p : ℕ) (wants b : Bool) (x y : State) → IsBegun s p wants x → IsBegun s p wants y → IsBegun s p wants (if b then x else y)
-pick s p wants true x y h g = h
-pick s p wants false x y h g = g
-
-none_of : (g : Result Object Code) (x b c : Bool) (u : Unit {0}) → guarded g (if x || b then Err code.BadArgument else if c then Err code.Limit else Ok tt) ≡ Ok u → x ≡ false
-none_of (Err why) x b c u h = cc
-none_of (Ok o) true b c u h = cc
-none_of (Ok o) false b c u h = refl
-
-units_done : (s t : State) (p : ℕ) (units : List ℕ) → t.reads ≡ s.reads → is_open s.reads p ≡ false → IsBegun s p false (answered_with t p units)
-unfolding Has
-units_done s t p units same none = record { none = none; read = reads.Done (answers.Units units); reads = ap (λ (os : List Open). os ++ begun p (reads.Done (answers.Units units)) ∷ []) same; has = refl }
-
-rest_done : (s t : State) (p h n : ℕ) (rest : List ℕ) → t.reads ≡ s.reads → is_open s.reads p ≡ false → IsBegun s p false (rest_answered t p h n rest)
-unfolding Has
-rest_done s t p h n rest same none = record { none = none; read = reads.Done (answers.Units (front_of n rest)); reads = ap (λ (os : List Open). os ++ begun p (reads.Done (answers.Units (front_of n rest))) ∷ []) same; has = refl }
-
-line_is : (s t : State) (p h n : ℕ) (initial : List ℕ) (mask : ℕ) → t.reads ≡ s.reads → is_open s.reads p ≡ false → IsBegun s p false (line_begun t p h n initial mask)
-unfolding Has
-line_is s t p h n initial mask same none =
-    let read : OpenRead = reads.Line (record { program = program_of t.procs p; insert = has_bit t.mode 0x20; initial = initial; mask = mask; presses = [] }) in
-    record { none = none; read = read; reads = ap (λ (os : List Open). os ++ begun p read ∷ []) same; has = refl }
-
-read_is : (s : State) (p h n : ℕ) (initial : List ℕ) (mask : ℕ) → is_open s.reads p ≡ false → IsBegun s p false (if has_bit s.mode 2 then began_line (history_used s p) p h n initial mask else began_units s p n)
-unfolding Has
-read_is s p h n initial mask none =
-    let t : State = history_used s p in
-    let rest : List ℕ = rest_in s.rests p h in
-    pick s p false (has_bit s.mode 2) (began_line t p h n initial mask) (began_units s p n)
-    (pick s p false (n == 0) (answered_with t p []) (if is_empty rest then line_begun t p h n initial mask else rest_answered t p h n rest) (units_done s t p [] refl none)
-    (pick s p false (is_empty rest) (line_begun t p h n initial mask) (rest_answered t p h n rest) (line_is s t p h n initial mask refl none) (rest_done s t p h n rest refl none)))
-    (pick s p false (n == 0) (answered_with s p []) (with_read s p (reads.Units n)) (units_done s s p [] refl none) (record { none = none; read = reads.Units n; reads = refl; has = refl }))
-
-begin_is : (s : State) (p : ℕ) (w : Wanted) → BeginsBy (is_fail (began s p w).reply) s p (wants_records w) (began s p w).after
-unfolding began Has
-begin_is s p (wanted.Read h n) = begin_by s p false (read_answer s p h n []) _ (λ u e. read_is s p h n [] 0 (none_of (guard s p h kind.Input 1) (is_open s.reads p) (is_no_initial [] n) (nat_lt 16384 n) u e))
-begin_is s p (wanted.ReadWith h n initial mask) = begin_by s p false (read_answer s p h n initial) _ (λ u e. read_is s p h n initial mask (none_of (guard s p h kind.Input 1) (is_open s.reads p) (is_no_initial initial n) (nat_lt 16384 n) u e))
-begin_is s p (wanted.ReadInput h n) = begin_by s p true (records_answer s p h n) _ (λ u e. record { none = none_of (guard s p h kind.Input 1) (is_open s.reads p) (n == 0) (nat_lt 1024 n) u e; read = reads.Records n; reads = refl; has = (refl, refl) })
+use Rattle.con_machine.proofs.Entries.{IsBegun, after_begin, now_same, begin_of, EntryGoes, Cases, each_entry}
 
 -- ---- what is known of the open reads and what they took
 
@@ -119,17 +58,6 @@ known_then now place ps qs s t sure below own fresh goes = record {
   own = λ p. (let r : Taker = read_of p (now p) in subst (λ (x : List Record). Own p (wants_of (now p)) x t.reads) (sym (taken-append r ps qs)) (goes.own p (taken r ps) (own p)));
   fresh = λ n le. (let less : place ≤ n = omega (arith, le) in taken-append (Begun n) ps qs ∙ ap (λ (x : List Record). x ++ taken (Begun n) qs) (fresh n less) ∙ goes.miss (Begun n) (λ q. above n (place + 1) q (now q) (below q) le) refl);
 }
-
-after_begin : Option Begin → ℕ → Begins → Begins
-after_begin m c begins p = if p == c then begin_or m (begins p) else begins p
-
-same_begins : (begins : Begins) (c p : ℕ) (b : Bool) → (if b then begin_or None (begins p) else begins p) ≡ begins p
-same_begins begins c p true = refl
-same_begins begins c p false = refl
-
-now_same : (begins : Begins) (c p : ℕ) → after_begin None c begins p ≡ begins p
-unfolding after_begin
-now_same begins c p = same_begins begins c p (p == c)
 
 known_apart : (begins : Begins) (c place : ℕ) (ps : List Piece) (s : State) → Known begins place ps s → Apart (after_begin None c begins)
 known_apart begins c place ps s k = record { apart = λ p q b d hb hd e. k.sure.apart p q b d (sym (now_same begins c p) ∙ hb) (sym (now_same begins c q) ∙ hd) e }
@@ -174,9 +102,6 @@ new_own begins c place w ps s t p false ex k is =
     other false e = refl
     other true e = absurd (true≢false (sym (eq-eqb p c (sym (eqb-true c p e))) ∙ ex))
 
-begin_of : ℕ → Wanted → Begin
-begin_of place w = record { place = place; wanted = w }
-
 known_apart_new : (begins : Begins) (c place : ℕ) (w : Wanted) (ps : List Piece) (s : State) → Known begins place ps s → Apart (after_begin (Some (begin_of place w)) c begins)
 unfolding after_begin begin_of
 known_apart_new begins c place w ps s k = record { apart = λ p q b d hb hd e. new_apart begins c place (record { place = place; wanted = w }) b d p q (p == c) (q == c) refl k.sure k.below refl refl hb hd e }
@@ -189,110 +114,51 @@ known_begun begins c place w ps qs s t u k is goes =
     (λ p b h. new_below begins c place (record { place = place; wanted = w }) b p (p == c) refl k.below h)
     (λ p. new_own begins c place w ps s t p (p == c) refl k is) k.fresh goes
 
--- ---- one event
+-- ---- one entry
 
-Steps : Begins → ℕ → List Piece → State → Entry → Option Begin → Type 0
-Steps begins place ps s x m = Known (after_begin m (client_of x.actor) begins) (place + 1) (ps ++ step_pieces (after_begin m (client_of x.actor) begins) place s x) (step s x.actor x.event).after
+After : Begins → ℕ → List Piece → State → Entry → Option Begin → Type 0
+After begins place ps s x m = Known (after_begin m (client_of x.actor) begins) (place + 1) (ps ++ step_pieces (after_begin m (client_of x.actor) begins) place s x) (step s x.actor x.event).after
 
-outside_steps : (begins : Begins) (place : ℕ) (ps : List Piece) (s : State) (x : Entry) → Known begins place ps s → is_outside s x.actor x.event ≡ true → Steps begins place ps s x None
-unfolding Steps step step_pieces
-outside_steps begins place ps s x k out = rw out (known_same begins (client_of x.actor) place ps [] s s k (stays (after_begin None (client_of x.actor) begins) s s refl))
-
-inside_steps : (begins : Begins) (place : ℕ) (ps : List Piece) (s : State) (x : Entry) (m : Option Begin) → is_outside s x.actor x.event ≡ false
-    → (let now : Begins = after_begin m (client_of x.actor) begins in let o : Outcome = effect s (client_of x.actor) x.event in Known now (place + 1) (ps ++ (effect_pieces now place s (client_of x.actor) x.event ++ served_pieces now o.after)) (finished o).after) → Steps begins place ps s x m
-unfolding Steps step step_pieces
-inside_steps begins place ps s x m out k = rw out k
-
-quiet_steps : AnswersPiece → (begins : Begins) (place : ℕ) (ps : List Piece) (s : State) (x : Entry) → Known begins place ps s → is_outside s x.actor x.event ≡ false → is_begin x.event ≡ false → Steps begins place ps s x None
-quiet_steps w begins place ps s x k out none =
+known_cases : (begins : Begins) (place : ℕ) (ps : List Piece) (s : State) (x : Entry) → Known begins place ps s → Cases begins place s x (After begins place ps s x)
+unfolding After EntryGoes
+known_cases begins place ps s x k =
     let c : ℕ = client_of x.actor in
-    let now : Begins = after_begin None c begins in
-    let o : Outcome = effect s c x.event in
-    let sure : Apart now = known_apart begins c place ps s k in
-    inside_steps begins place ps s x None out (known_same begins c place ps (effect_pieces now place s c x.event ++ served_pieces now o.after) s (finished o).after k
-    (goes_on now s o.after (finished o).after (effect_pieces now place s c x.event) (served_pieces now o.after) (event_goes w now sure place s c x.event none) (ends_goes w now sure o)))
-
--- what a Begin leaves known, by whether it was refused
-begin_steps : AnswersPiece → (begins : Begins) (place : ℕ) (ps : List Piece) (s : State) (c : ℕ) (wanted : Wanted) (fail : Bool) → Known begins place ps s → BeginsBy fail s c (wants_records wanted) (began s c wanted).after
-    → (let now : Begins = after_begin (if fail then None else Some (begin_of place wanted)) c begins in let o : Outcome = began s c wanted in Known now (place + 1) (ps ++ served_pieces now o.after) (finished o).after)
-unfolding BeginsBy
-begin_steps w begins place ps s c wanted true k same =
-    let now : Begins = after_begin None c begins in
-    let o : Outcome = began s c wanted in
-    let sure : Apart now = known_apart begins c place ps s k in
-    known_same begins c place ps (served_pieces now o.after) s (finished o).after k (goes_on now s o.after (finished o).after [] (served_pieces now o.after) (stays now s o.after (ap (λ (t : State). t.reads) same)) (ends_goes w now sure o))
-begin_steps w begins place ps s c wanted false k is =
-    let now : Begins = after_begin (Some (begin_of place wanted)) c begins in
-    let o : Outcome = began s c wanted in
-    known_begun begins c place wanted ps (served_pieces now o.after) s o.after (finished o).after k is (ends_goes w now (known_apart_new begins c place wanted ps s k) o)
-
-outside_none : (place : ℕ) (s : State) (x : Entry) → is_outside s x.actor x.event ≡ true → begun_by place x (step s x.actor x.event).reply ≡ None
-unfolding step
-outside_none place s x out = rw out refl
-
-inside_reply : (s : State) (x : Entry) → is_outside s x.actor x.event ≡ false → (step s x.actor x.event).reply ≡ (effect s (client_of x.actor) x.event).reply
-unfolding step
-inside_reply s x out = rw out refl
-
-fails : (b : Bool) (o : Option Begin) → o ≡ None → (if b then None else o) ≡ None
-fails true o h = refl
-fails false o h = h
-
-entry : Actor → Event → Entry
-entry a e = record { actor = a; event = e }
-
-quiet_known : AnswersPiece → (begins : Begins) (place : ℕ) (ps : List Piece) (s : State) (x : Entry) → Known begins place ps s → is_outside s x.actor x.event ≡ false → is_begin x.event ≡ false → begin_at place x.event ≡ None
-    → Steps begins place ps s x (begun_by place x (step s x.actor x.event).reply)
-quiet_known w begins place ps s x k out none at =
-    subst (Steps begins place ps s x) (sym (fails (is_fail (step s x.actor x.event).reply) (begin_at place x.event) at)) (quiet_steps w begins place ps s x k out none)
-
-begin_known : AnswersPiece → (begins : Begins) (place : ℕ) (ps : List Piece) (s : State) (a : Actor) (wanted : Wanted) → Known begins place ps s → is_outside s a (events.Begin wanted) ≡ false
-    → Steps begins place ps s (entry a (events.Begin wanted)) (begun_by place (entry a (events.Begin wanted)) (effect s (client_of a) (events.Begin wanted)).reply)
-unfolding effect entry begin_of
-begin_known w begins place ps s a wanted k out =
-    let c : ℕ = client_of a in
-    let fail : Bool = is_fail (began s c wanted).reply in
-    inside_steps begins place ps s (entry a (events.Begin wanted)) (if fail then None else Some (begin_of place wanted)) out (begin_steps w begins place ps s c wanted fail k (begin_is s c wanted))
-
-event_known : AnswersPiece → (begins : Begins) (place : ℕ) (ps : List Piece) (s : State) (a : Actor) (e : Event) → Known begins place ps s → is_outside s a e ≡ false → Steps begins place ps s (entry a e) (begun_by place (entry a e) (step s a e).reply)
-unfolding entry is_begin
-event_known w begins place ps s a (events.Begin wanted) k out =
-    subst (λ (r : Reply). Steps begins place ps s (entry a (events.Begin wanted)) (begun_by place (entry a (events.Begin wanted)) r)) (sym (inside_reply s (entry a (events.Begin wanted)) out)) (begin_known w begins place ps s a wanted k out)
-event_known w begins place ps s a (events.Call c) k out = quiet_known w begins place ps s (entry a (events.Call c)) k out refl refl
-event_known w begins place ps s a events.Collect k out = quiet_known w begins place ps s (entry a events.Collect) k out refl refl
-event_known w begins place ps s a events.TakeCtrl k out = quiet_known w begins place ps s (entry a events.TakeCtrl) k out refl refl
-event_known w begins place ps s a (events.Exit status) k out = quiet_known w begins place ps s (entry a (events.Exit status)) k out refl refl
-event_known w begins place ps s a (events.Feed bytes) k out = quiet_known w begins place ps s (entry a (events.Feed bytes)) k out refl refl
-event_known w begins place ps s a events.Quiet k out = quiet_known w begins place ps s (entry a events.Quiet) k out refl refl
-event_known w begins place ps s a (events.Resize size) k out = quiet_known w begins place ps s (entry a (events.Resize size)) k out refl refl
-event_known w begins place ps s a events.Ask k out = quiet_known w begins place ps s (entry a events.Ask) k out refl refl
-event_known w begins place ps s a events.Hangup k out = quiet_known w begins place ps s (entry a events.Hangup) k out refl refl
-event_known w begins place ps s a events.Drained k out = quiet_known w begins place ps s (entry a events.Drained) k out refl refl
-event_known w begins place ps s a events.Paint k out = quiet_known w begins place ps s (entry a events.Paint) k out refl refl
-
-step_by : AnswersPiece → (begins : Begins) (place : ℕ) (ps : List Piece) (s : State) (x : Entry) (out : Bool) → is_outside s x.actor x.event ≡ out → Known begins place ps s → Steps begins place ps s x (begun_by place x (step s x.actor x.event).reply)
-unfolding entry
-step_by w begins place ps s x true out k = subst (Steps begins place ps s x) (sym (outside_none place s x out)) (outside_steps begins place ps s x k out)
-step_by w begins place ps s x false out k = event_known w begins place ps s x.actor x.event k out
+    record {
+      sure = known_apart begins c place ps s k;
+      sure_new = λ w. known_apart_new begins c place w ps s k;
+      none = λ goes. known_same begins c place ps (step_pieces (after_begin None c begins) place s x) s (step s x.actor x.event).after k goes;
+      new = λ w t is goes. known_begun begins c place w ps (step_pieces (after_begin (Some (begin_of place w)) c begins) place s x) s t (step s x.actor x.event).after k is goes;
+    }
 
 step_known : AnswersPiece → (begins : Begins) (place : ℕ) (ps : List Piece) (s : State) (x : Entry) → Known begins place ps s
     → Known (begins_after begins place s x) (place + 1) (ps ++ step_pieces (begins_after begins place s x) place s x) (step s x.actor x.event).after
-unfolding Steps after_begin
-step_known w begins place ps s x k = step_by w begins place ps s x (is_outside s x.actor x.event) refl k
+unfolding After after_begin
+step_known w begins place ps s x k = each_entry w begins place s x (After begins place ps s x) (known_cases begins place ps s x k)
 
 -- ---- a history
 
+place_after : ℕ → List Entry → ℕ
+place_after place [] = place
+place_after place (x ∷ xs) = place_after (place + 1) xs
+
 known_all : AnswersPiece → (h : List Entry) (begins : Begins) (place : ℕ) (ps : List Piece) (s : State) → Known begins place ps s
-    → (n : ℕ) × Known (begins_from begins place s h) n (ps ++ pieces_from begins place s h) (run s h)
-known_all w [] begins place ps s k = (place, subst (λ (xs : List Piece). Known begins place xs s) (sym (append-nil ps)) k)
+    → Known (begins_from begins place s h) (place_after place h) (ps ++ pieces_from begins place s h) (run s h)
+unfolding place_after
+known_all w [] begins place ps s k = subst (λ (xs : List Piece). Known begins place xs s) (sym (append-nil ps)) k
 known_all w (x ∷ xs) begins place ps s k =
     let now : Begins = begins_after begins place s x in
     let t : State = (step s x.actor x.event).after in
-    let r = known_all w xs now (place + 1) (ps ++ step_pieces now place s x) t (step_known w begins place ps s x k) in
-    (r.0, subst (λ (ys : List Piece). Known (begins_from now (place + 1) t xs) r.0 ys (run t xs)) (append_assoc ps (step_pieces now place s x) (pieces_from now (place + 1) t xs)) r.1)
+    subst (λ (ys : List Piece). Known (begins_from now (place + 1) t xs) (place_after (place + 1) xs) ys (run t xs)) (append_assoc ps (step_pieces now place s x) (pieces_from now (place + 1) t xs))
+    (known_all w xs now (place + 1) (ps ++ step_pieces now place s x) t (step_known w begins place ps s x k))
 
-none_begun : (p : ℕ) → no_begins p ≡ None
-none_begun p = refl
+pieces-append : (h g : List Entry) (begins : Begins) (place : ℕ) (s : State) → pieces_from begins place s (h ++ g) ≡ pieces_from begins place s h ++ pieces_from (begins_from begins place s h) (place_after place h) (run s h) g
+unfolding place_after
+pieces-append [] g begins place s = refl
+pieces-append (x ∷ xs) g begins place s =
+    let now : Begins = begins_after begins place s x in
+    let t : State = (step s x.actor x.event).after in
+    ap (λ (ps : List Piece). step_pieces now place s x ++ ps) (pieces-append xs g now (place + 1) t)
+    ∙ sym (append_assoc (step_pieces now place s x) (pieces_from now (place + 1) t xs) (pieces_from (begins_from now (place + 1) t xs) (place_after (place + 1) xs) (run t xs) g))
 
 known_first : (s : State) → s.reads ≡ [] → Known no_begins 0 [] s
 unfolding Own taken joined
@@ -302,6 +168,90 @@ known_first s none = record {
   own = λ p. subst (λ (os : List Open). Own p (wants_of (no_begins p)) (taken (read_of p (no_begins p)) []) os) (sym none) tt;
   fresh = λ n le. refl;
 }
+
+-- ---- a read that is gone takes no more
+
+-- of the Begin at place B, by process p: it is p's last one, and p has no open read; or it is nobody's last one
+Gone : Begins → ℕ → ℕ → State → Type 0
+Gone begins B p s = ((b : Begin) × ((begins p ≡ Some b) × (b.place ≡ B) × (is_open s.reads p ≡ false))) ⊎ Misses begins (Begun B)
+
+-- after an entry it is so, and that entry took nothing for it
+Rests : Begins → ℕ → State → Entry → ℕ → ℕ → Option Begin → Type 0
+Rests begins place s x B p m = (let now : Begins = after_begin m (client_of x.actor) begins in Gone now B p (step s x.actor x.event).after × (taken (Begun B) (step_pieces now place s x) ≡ []))
+
+none_rests : (begins : Begins) (c B p : ℕ) (qs : List Piece) (s t : State) → Gone begins B p s → Goes (after_begin None c begins) s qs t → Gone (after_begin None c begins) B p t × (taken (Begun B) qs ≡ [])
+unfolding Gone Misses is_flush
+none_rests begins c B p qs s t (inl g) goes =
+    let now : Begins = after_begin None c begins in
+    let last : now p ≡ Some g.0 = now_same begins c p ∙ g.1.0 in
+    let r = goes.none p g.1.2 in
+    let mine : read_of p (now p) ≡ Begun B = ap (read_of p) last ∙ ap (λ (n : ℕ). Begun n) g.1.1 in
+    (inl (g.0, (last, g.1.1, r.0)), ap (λ (u : Taker). taken u qs) (sym mine) ∙ r.1)
+none_rests begins c B p qs s t (inr g) goes =
+    let misses : (q : ℕ) → is_taker (Begun B) (read_of q (after_begin None c begins q)) ≡ false = λ q. ap (λ (o : Option Begin). is_taker (Begun B) (read_of q o)) (now_same begins c q) ∙ g q in
+    (inr misses, goes.miss (Begun B) misses refl)
+
+new_misses : (begins : Begins) (c place B q : ℕ) (w : Wanted) (x : Bool) → (q == c) ≡ x → B < place → (x ≡ false → is_taker (Begun B) (read_of q (begins q)) ≡ false) → is_taker (Begun B) (read_of q (if x then Some (begin_of place w) else begins q)) ≡ false
+unfolding begin_of
+new_misses begins c place B q w true e lt old = grind (arith, nat_tests)
+new_misses begins c place B q w false e lt old = old refl
+
+-- another process's last Begin stands elsewhere
+old_misses : (begins : Begins) (B p q : ℕ) (b : Begin) (o : Option Begin) → Apart begins → begins p ≡ Some b → b.place ≡ B → begins q ≡ o → (q == p) ≡ false → is_taker (Begun B) (read_of q o) ≡ false
+old_misses begins B p q b None sure last at is other = refl
+old_misses begins B p q b (Some d) sure last at is other = by (d.place == B) refl
+  where
+    by : (t : Bool) → (d.place == B) ≡ t → t ≡ false
+    by false e = refl
+    by true e = absurd (true≢false (sym (eq-eqb q p (sure.apart p q b d last is (eq-eqb d.place b.place (eqb-true d.place B e ∙ sym at)))) ∙ other))
+
+new_rests : (begins : Begins) (c place B p : ℕ) (w : Wanted) (qs : List Piece) (s t u : State) (x : Bool) → (p == c) ≡ x → Apart begins → B < place → Gone begins B p s → IsBegun s c (wants_records w) t → Goes (after_begin (Some (begin_of place w)) c begins) t qs u
+    → Gone (after_begin (Some (begin_of place w)) c begins) B p u × (taken (Begun B) qs ≡ [])
+unfolding Gone Misses is_flush after_begin
+new_rests begins c place B p w qs s t u x e sure lt (inr g) is goes =
+    let misses : (q : ℕ) → is_taker (Begun B) (read_of q (after_begin (Some (begin_of place w)) c begins q)) ≡ false = λ q. new_misses begins c place B q w (q == c) refl lt (λ n. g q) in
+    (inr misses, goes.miss (Begun B) misses refl)
+new_rests begins c place B p w qs s t u true e sure lt (inl g) is goes =
+    let misses : (q : ℕ) → is_taker (Begun B) (read_of q (after_begin (Some (begin_of place w)) c begins q)) ≡ false =
+    λ q. new_misses begins c place B q w (q == c) refl lt (λ n. old_misses begins B p q g.0 (begins q) sure g.1.0 g.1.1 refl (ap (λ (k : ℕ). q == k) (eqb-true p c e) ∙ n)) in
+    (inr misses, goes.miss (Begun B) misses refl)
+new_rests begins c place B p w qs s t u false e sure lt (inl g) is goes =
+    let now : Begins = after_begin (Some (begin_of place w)) c begins in
+    let last : now p ≡ Some g.0 = ap (λ (b : Bool). if b then Some (begin_of place w) else begins p) e ∙ g.1.0 in
+    let without_one : is_open t.reads p ≡ false = ap (λ (os : List Open). is_open os p) is.reads ∙ begun_open s.reads p c is.read (turned (c == p) refl) g.1.2 in
+    let r = goes.none p without_one in
+    let mine : read_of p (now p) ≡ Begun B = ap (read_of p) last ∙ ap (λ (n : ℕ). Begun n) g.1.1 in
+    (inl (g.0, (last, g.1.1, r.0)), ap (λ (v : Taker). taken v qs) (sym mine) ∙ r.1)
+  where
+    turned : (b : Bool) → (c == p) ≡ b → b ≡ false
+    turned false h = refl
+    turned true h = absurd (true≢false (sym (eq-eqb p c (sym (eqb-true c p h))) ∙ e))
+
+rest_cases : (begins : Begins) (place : ℕ) (ps : List Piece) (s : State) (x : Entry) (B p : ℕ) → Known begins place ps s → B < place → Gone begins B p s → Cases begins place s x (Rests begins place s x B p)
+unfolding Rests EntryGoes
+rest_cases begins place ps s x B p k lt gone =
+    let c : ℕ = client_of x.actor in
+    record {
+      sure = known_apart begins c place ps s k;
+      sure_new = λ w. known_apart_new begins c place w ps s k;
+      none = λ goes. none_rests begins c B p (step_pieces (after_begin None c begins) place s x) s (step s x.actor x.event).after gone goes;
+      new = λ w t is goes. new_rests begins c place B p w (step_pieces (after_begin (Some (begin_of place w)) c begins) place s x) s t (step s x.actor x.event).after (p == c) refl k.sure lt gone is goes;
+    }
+
+step_rests : AnswersPiece → (begins : Begins) (place : ℕ) (ps : List Piece) (s : State) (x : Entry) (B p : ℕ) → Known begins place ps s → B < place → Gone begins B p s
+    → Gone (begins_after begins place s x) B p (step s x.actor x.event).after × (taken (Begun B) (step_pieces (begins_after begins place s x) place s x) ≡ [])
+unfolding Rests after_begin
+step_rests w begins place ps s x B p k lt gone = each_entry w begins place s x (Rests begins place s x B p) (rest_cases begins place ps s x B p k lt gone)
+
+none_more : AnswersPiece → (h : List Entry) (begins : Begins) (place : ℕ) (ps : List Piece) (s : State) (B p : ℕ) → Known begins place ps s → B < place → Gone begins B p s → taken (Begun B) (pieces_from begins place s h) ≡ []
+unfolding taken joined
+none_more w [] begins place ps s B p k lt gone = refl
+none_more w (x ∷ xs) begins place ps s B p k lt gone =
+    let now : Begins = begins_after begins place s x in
+    let t : State = (step s x.actor x.event).after in
+    let r = step_rests w begins place ps s x B p k lt gone in
+    let later : taken (Begun B) (pieces_from now (place + 1) t xs) ≡ [] = none_more w xs now (place + 1) (ps ++ step_pieces now place s x) t B p (step_known w begins place ps s x k) (omega (arith, lt)) r.0 in
+    taken-append (Begun B) (step_pieces now place s x) (pieces_from now (place + 1) t xs) ∙ ap (λ (rs : List Record). rs ++ taken (Begun B) (pieces_from now (place + 1) t xs)) r.1 ∙ later
 
 -- ---- what is collected
 
@@ -354,20 +304,75 @@ fated_is : WholeReads → (s : State) (h : List Entry) (t : Taker) → fated s h
 unfolding WholeReads
 fated_is w s h t = ap (λ (rs : List Record). records_with (fate s h) t 0 rs) (conserved w s h) ∙ fated_taken t (pieces s h) (run s h).records
 
-all_answered : WholeReads → AnswersPiece → (s : State) (h : List Entry) (p : ℕ) (b : Begin) → s.reads ≡ [] → last_begin s h p ≡ Some b → wants_records b.wanted ≡ true → is_attached (run s h).procs p ≡ true → has_done (run s h).reads p ≡ true
-    → AnswersRecords (step (run s h) (actors.Client p) events.Collect).reply (fated s h (Begun b.place))
-all_answered whole w s h p b none last records attached done =
+collect_by : ℕ → Entry
+collect_by p = record { actor = actors.Client p; event = events.Collect }
+
+collect_pieces : (now : Begins) (place : ℕ) (s : State) (p : ℕ) → is_attached s.procs p ≡ true → step_pieces now place s (collect_by p) ≡ served_pieces now (collected s p).after
+unfolding step_pieces effect collect_by
+collect_pieces now place s p h = rw (attached_inside s p h) refl
+
+collect_after : (s : State) (p : ℕ) → is_attached s.procs p ≡ true → (step s (actors.Client p) events.Collect).after ≡ (finished (collected s p)).after
+unfolding step effect
+collect_after s p h = rw (attached_inside s p h) refl
+
+no_begin : (place p : ℕ) (b : Bool) → (if b then None else begin_at place events.Collect) ≡ None
+no_begin place p true = refl
+no_begin place p false = refl
+
+-- once it is collected it is gone
+collect_rests : AnswersPiece → (begins : Begins) (place : ℕ) (ps : List Piece) (s : State) (p : ℕ) (b : Begin) → Known begins place ps s → begins p ≡ Some b → is_attached s.procs p ≡ true → Rests begins place s (collect_by p) b.place p None
+unfolding Rests Gone collect_by
+collect_rests w begins place ps s p b k last attached =
+    let now : Begins = after_begin None p begins in
+    let o : Outcome = collected s p in
+    let goes = ends_goes w now (known_apart begins p place ps s k) o in
+    let is : now p ≡ Some b = now_same begins p p ∙ last in
+    let r = goes.none p (ap (λ (os : List Open). is_open os p) (collected_reads s p) ∙ gone_own s.reads p (wants_of (begins p)) (taken (read_of p (begins p)) ps) (k.own p)) in
+    let without_one : is_open (step s (actors.Client p) events.Collect).after.reads p ≡ false = ap (λ (t : State). is_open t.reads p) (collect_after s p attached) ∙ r.0 in
+    (inl (b, (is, refl, without_one)), ap (taken (Begun b.place)) (collect_pieces now place s p attached) ∙ ap (λ (u : Taker). taken u (served_pieces now o.after)) (sym (ap (read_of p) is)) ∙ r.1)
+
+collect_gone : AnswersPiece → (begins : Begins) (place : ℕ) (ps : List Piece) (s : State) (p : ℕ) (b : Begin) → Known begins place ps s → begins p ≡ Some b → is_attached s.procs p ≡ true
+    → (let x : Entry = collect_by p in Gone (begins_after begins place s x) b.place p (step s x.actor x.event).after × (taken (Begun b.place) (step_pieces (begins_after begins place s x) place s x) ≡ []))
+unfolding Rests after_begin collect_by
+collect_gone w begins place ps s p b k last attached =
+    subst (Rests begins place s (collect_by p) b.place p) (sym (no_begin place p (is_fail (step s (actors.Client p) events.Collect).reply))) (collect_rests w begins place ps s p b k last attached)
+
+-- so all that it took, it took before
+none_later : AnswersPiece → (begins : Begins) (place : ℕ) (ps : List Piece) (s : State) (later : List Entry) (p : ℕ) (b : Begin) → Known begins place ps s → begins p ≡ Some b → is_attached s.procs p ≡ true → taken (Begun b.place) (pieces_from begins place s (collect_by p ∷ later)) ≡ []
+none_later w begins place ps s later p b k last attached =
+    let x : Entry = collect_by p in
+    let now : Begins = begins_after begins place s x in
+    let t : State = (step s x.actor x.event).after in
+    let lt : b.place < place = k.below p b last in
+    let r = collect_gone w begins place ps s p b k last attached in
+    taken-append (Begun b.place) (step_pieces now place s x) (pieces_from now (place + 1) t later)
+    ∙ ap (λ (rs : List Record). rs ++ taken (Begun b.place) (pieces_from now (place + 1) t later)) r.1
+    ∙ none_more w later now (place + 1) (ps ++ step_pieces now place s x) t b.place p (step_known w begins place ps s x k) (omega (arith, lt)) r.0
+
+fated_before : WholeReads → AnswersPiece → (s : State) (h later : List Entry) (p : ℕ) (b : Begin) → s.reads ≡ [] → last_begin s h p ≡ Some b → is_attached (run s h).procs p ≡ true → fated s (h ++ collect_by p ∷ later) (Begun b.place) ≡ taken (Begun b.place) (pieces s h)
+fated_before whole w s h later p b none last attached =
     let k = known_all w h no_begins 0 [] s (known_first s none) in
-    let own : Own p true (taken (Begun b.place) (pieces s h)) (run s h).reads = own_of p (last_begin s h p) b (pieces s h) (run s h).reads last records (k.1.own p) in
-    subst (λ (r : Reply). AnswersRecords r (fated s h (Begun b.place))) (sym (collect_reply (run s h) p attached))
-    (subst (λ (rs : List Record). AnswersRecords (collected (run s h) p).reply rs) (sym (fated_is whole s h (Begun b.place))) (collected_records (run s h) p (taken (Begun b.place) (pieces s h)) own done))
+    let rest : List Piece = pieces_from (begins_from no_begins 0 s h) (place_after 0 h) (run s h) (collect_by p ∷ later) in
+    fated_is whole s (h ++ collect_by p ∷ later) (Begun b.place)
+    ∙ ap (taken (Begun b.place)) (pieces-append h (collect_by p ∷ later) no_begins 0 s)
+    ∙ taken-append (Begun b.place) (pieces s h) rest
+    ∙ ap (λ (rs : List Record). taken (Begun b.place) (pieces s h) ++ rs) (none_later w (begins_from no_begins 0 s h) (place_after 0 h) (pieces s h) (run s h) later p b k last attached)
+    ∙ append-nil (taken (Begun b.place) (pieces s h))
+
+all_answered : WholeReads → AnswersPiece → (s : State) (h later : List Entry) (p : ℕ) (b : Begin) → s.reads ≡ [] → last_begin s h p ≡ Some b → wants_records b.wanted ≡ true → is_attached (run s h).procs p ≡ true → has_done (run s h).reads p ≡ true
+    → AnswersRecords (step (run s h) (actors.Client p) events.Collect).reply (fated s (h ++ collect_by p ∷ later) (Begun b.place))
+all_answered whole w s h later p b none last records attached done =
+    let k = known_all w h no_begins 0 [] s (known_first s none) in
+    let own : Own p true (taken (Begun b.place) (pieces s h)) (run s h).reads = own_of p (last_begin s h p) b (pieces s h) (run s h).reads last records (k.own p) in
+    subst (λ (r : Reply). AnswersRecords r (fated s (h ++ collect_by p ∷ later) (Begun b.place))) (sym (collect_reply (run s h) p attached))
+    (subst (λ (rs : List Record). AnswersRecords (collected (run s h) p).reply rs) (sym (fated_before whole w s h later p b none last attached)) (collected_records (run s h) p (taken (Begun b.place) (pieces s h)) own done))
 
 pub answered : ((al : List AliasList) (os : List Open) (rs : List Record) (hs : LineHistories) → joined (pieces_of al os rs hs) ++ (settled al os rs hs).records ≡ rs)
     → ((p n : ℕ) (al : List AliasList) (r : Record) (rs : List Record) (hs : LineHistories) → (served p al (reads.Records n) (r ∷ rs) hs).read ≡ reads.Done (answers.Records (front (r ∷ rs) (served p al (reads.Records n) (r ∷ rs) hs).records)))
-    → (s : State) (h : List Entry) (p : ℕ) (b : Begin) → s.reads ≡ [] → last_begin s h p ≡ Some b → wants_records b.wanted ≡ true → is_attached (run s h).procs p ≡ true → has_done (run s h).reads p ≡ true
-    → AnswersRecords (step (run s h) (actors.Client p) events.Collect).reply (fated s h (Begun b.place))
-unfolding WholeReads AnswersPiece
-answered whole w s h p b none last records attached done = all_answered whole w s h p b none last records attached done
+    → (s : State) (h later : List Entry) (p : ℕ) (b : Begin) → s.reads ≡ [] → last_begin s h p ≡ Some b → wants_records b.wanted ≡ true → is_attached (run s h).procs p ≡ true → has_done (run s h).reads p ≡ true
+    → (let x : Entry = record { actor = actors.Client p; event = events.Collect } in AnswersRecords (step (run s h) x.actor x.event).reply (fated s (h ++ x ∷ later) (Begun b.place)))
+unfolding WholeReads AnswersPiece collect_by
+answered whole w s h later p b none last records attached done = all_answered whole w s h later p b none last records attached done
 
 pub fates_are : ((al : List AliasList) (os : List Open) (rs : List Record) (hs : LineHistories) → joined (pieces_of al os rs hs) ++ (settled al os rs hs).records ≡ rs)
     → (s : State) (h : List Entry) (t : Taker) → fated s h t ≡ joined (filter (λ p. is_taker t p.0) (pieces s h))

@@ -267,7 +267,7 @@ unfolding Own Choose
 begun_own [] p read wants t none has = rw (eq-eqb p p refl) (has, refl)
 begun_own (o ∷ os) p read wants t none has = let parts = or_parts (o.process == p) (is_open os p) none in rw parts.0 (begun_own os p read wants t parts.1 has)
 
-begun_open : (os : List Open) (p q : ℕ) (read : OpenRead) → (q == p) ≡ false → is_open os p ≡ false → is_open (os ++ begun q read ∷ []) p ≡ false
+pub begun_open : (os : List Open) (p q : ℕ) (read : OpenRead) → (q == p) ≡ false → is_open os p ≡ false → is_open (os ++ begun q read ∷ []) p ≡ false
 begun_open [] p q read other none = rw other refl
 begun_open (o ∷ os) p q read other none = let parts = or_parts (o.process == p) (is_open os p) none in rw parts.0 (begun_open os p q read other parts.1)
 

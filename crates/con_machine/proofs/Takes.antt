@@ -370,9 +370,12 @@ told_reads s n (answers.Fail why) = refl
 gone_goes : (begins : Begins) (s t : State) (p : ℕ) → t.reads ≡ without s.reads p → Goes begins s [] t
 gone_goes begins s t p same = moves begins s t (λ q wants acc own. subst (λ (os : List Open). Own q wants acc os) (sym same) (removed_own s.reads (place_of s.reads p) q wants acc own)) (λ q none. ap (λ (os : List Open). is_open os q) same ∙ removed_open s.reads (place_of s.reads p) q none)
 
-collect_goes : (begins : Begins) (s : State) (p : ℕ) → Goes begins s [] (collected s p).after
+pub collected_reads : (s : State) (p : ℕ) → (collected s p).after.reads ≡ without s.reads p
 unfolding collected
-collect_goes begins s p = gone_goes begins s (collected s p).after p (told_reads (record s { reads = without s.reads p; noted = without_noted s.noted p }) (noted_of s.noted p) (answer_in (slice_get s.reads (place_of s.reads p))))
+collected_reads s p = told_reads (record s { reads = without s.reads p; noted = without_noted s.noted p }) (noted_of s.noted p) (answer_in (slice_get s.reads (place_of s.reads p)))
+
+collect_goes : (begins : Begins) (s : State) (p : ℕ) → Goes begins s [] (collected s p).after
+collect_goes begins s p = gone_goes begins s (collected s p).after p (collected_reads s p)
 
 ctrl_goes : (begins : Begins) (s : State) (p : ℕ) → Goes begins s [] (took_ctrl s p).after
 unfolding took_ctrl

@@ -2,7 +2,7 @@
 //!
 //! `arrived` are the records that came in, in order, and `fate` says of each who took it: the read of a `Begin`, or a flush,
 //! named by its place in the history; or nobody, and then it is there. What a read takes and drops is taken by it.
-ghost use Rattle.std.specs.Prelude.{◌≡◌, ◌++◌, ℕ, true, List, [], Some, filter};
+ghost use Rattle.std.specs.Prelude.{◌≡◌, ◌++◌, ℕ, true, List, [], ◌∷◌, Some, filter};
 ghost use Rattle.con_events.specs.declared.actor.Actor.TheVariants as actors;
 ghost use Rattle.con_events.specs.declared.entry.Entry.{Entry};
 ghost use Rattle.con_events.specs.declared.event.Event.TheVariants as events;
@@ -25,12 +25,13 @@ pub fn no_record_is_lost()
     serving_loses_nothing();
 }
 
-/// After a history that began with no open read, a `Collect` of an attached client whose last `Begin` is of a read of records
-/// answers exactly the records whose fate is that `Begin`, in order of arrival. Where the console closed before there was one
-/// it answers that, and no record has that fate.
+/// In a history that began with no open read, a `Collect` of an attached client whose last `Begin` before it is of a read of
+/// records answers exactly the records whose fate is that `Begin`, in order of arrival, whatever happens later. Where the console
+/// closed before there was one it answers that, and no record has that fate.
 pub fn a_read_answers_the_records_of_its_fate()
-    ensures { (s : State) (h : List Entry) (p : ℕ) (b : Begin) → s.reads ≡ [] → last_begin s h p ≡ Some b → wants_records b.wanted ≡ true
-        → is_attached (run s h).procs p ≡ true → has_done (run s h).reads p ≡ true → AnswersRecords (step (run s h) (actors.Client p) events.Collect).reply (fated s h (Begun b.place)) }
+    ensures { (s : State) (h later : List Entry) (p : ℕ) (b : Begin) → s.reads ≡ [] → last_begin s h p ≡ Some b → wants_records b.wanted ≡ true
+        → is_attached (run s h).procs p ≡ true → has_done (run s h).reads p ≡ true
+        → (let x : Entry = record { actor = actors.Client p; event = events.Collect } in AnswersRecords (step (run s h) x.actor x.event).reply (fated s (h ++ x ∷ later) (Begun b.place))) }
 {
     serving_loses_nothing();
     a_read_answers_its_piece();
