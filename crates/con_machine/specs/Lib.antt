@@ -28,6 +28,8 @@ pub mod Whole
 pub mod Moves
 pub mod HistoryLaws
 pub mod RoundLaws
+pub mod Sizes
+pub mod SizeLaws
 pub mod PictureLaws
 -- The code's own words: what holds of every console, and what is promised to fit.
 pub mod Pumping

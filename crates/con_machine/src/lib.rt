@@ -61,6 +61,7 @@ mod terminal_events;
 mod terminal_room;
 mod title;
 mod typing;
+pub mod view_laws;
 mod writing;
 
 pub use call_room::CallRoom;
