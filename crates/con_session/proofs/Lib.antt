@@ -1,0 +1,12 @@
+pub mod Replying
+pub mod RanLaws
+pub mod WorkerLaws
+pub mod StepLaws
+pub mod HandsLaws
+pub mod SenderLaws
+pub mod LinkLaws
+pub mod RunLaws
+pub mod StreamLaws
+pub mod PaintingLaws
+pub mod CanvasLaws
+pub mod PaintTurns

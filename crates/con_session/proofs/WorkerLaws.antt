@@ -1,0 +1,333 @@
+-- What a worker may enter, and what that makes of it.
+use Rattle.std.proofs.Common.{◌≡◌, ◌⊎◌, ℕ, Bool, true, false, List, [], ◌∷◌, ◌++◌, Option, Some, None, refl, sym, ap, ◌∙◌, subst, inl, inr, eq-eqb, Result, Ok, Err}
+use Rattle.std.specs.Prelude.{◌==◌, ◌&&◌, if◌then◌else◌, not, ◌||◌}
+use Rattle.con_events.specs.declared.actor.Actor.TheVariants as actors
+use Rattle.con_events.specs.declared.entry.Entry.{Entry}
+use Rattle.con_events.specs.declared.event.Event.{Event}
+use Rattle.con_events.specs.declared.event.Event.TheVariants as events
+use Rattle.con_events.specs.declared.reply.Reply.{Reply}
+use Rattle.con_events.specs.declared.reply.Reply.TheVariants as replies
+use Rattle.con_events.specs.declared.script.Step.{Step}
+use Rattle.con_units.specs.declared.code.OutOfMemory.{OutOfMemory}
+use Rattle.con_handlers.specs.Delivery.{Memory}
+use Rattle.con_procs.specs.Procs.{is_attached}
+use Rattle.con_readers.specs.Reads.{is_open, has_done}
+use Rattle.con_machine.specs.Along.{after}
+use Rattle.con_machine.specs.Chain.{Handler, delivered_to, is_handled}
+use Rattle.con_machine.specs.Client.{Client, Stance, GoesOn, MayLeave, MustLeave, Gone, MayBy, MayGoOn, entered, took, verdict, due, next_event, ctrl_exit, client_after, starting, moved_on}
+use Rattle.con_machine.specs.Follows.{steps_of, kinds_of}
+use Rattle.con_machine.specs.History.{run}
+use Rattle.con_machine.specs.HistoryLaws.{after-append, turns-own}
+use Rattle.con_machine.specs.Rounds.{Begun, IsTurn, ClientTurnBy, client_turn, client_at}
+use Rattle.con_machine.specs.State.{State}
+use Rattle.con_machine.specs.Step.{step, is_ready, is_due}
+use Rattle.con_machine.specs.Turns.{Turn, turns, turn_of, is_client, is_pending}
+use Rattle.con_session.specs.Desk.{Enters, Rests, brief_of, entry}
+use Rattle.con_session.specs.Standing.{is_here}
+use Rattle.con_session.specs.Worker.{IsStance, HandsAre, IsWorker, ClientIs, Keeps, Acts, ClientTurn, HandsTurn}
+use Rattle.con_session.specs.declared.desk.Brief.{Brief}
+use Rattle.con_session.specs.declared.desk.Brief.TheVariants as briefs
+use Rattle.con_session.specs.declared.worker.Worker.{Worker}
+
+-- ---- when a client's events are ready
+
+or_true : (b : Bool) → (b || true) ≡ true
+or_true true = refl
+or_true false = refl
+
+pub exit_ready : (s : State) (p status : ℕ) → is_ready s (actors.Client p) (events.Exit status) ≡ true
+unfolding is_ready is_due
+exit_ready s p status = or_true (not (is_attached s.procs p))
+
+pub begin_ready : (s : State) (p : ℕ) (w : Rattle.con_events.specs.declared.event.Wanted.Wanted) → is_ready s (actors.Client p) (events.Begin w) ≡ true
+unfolding is_ready is_due
+begin_ready s p w = or_true (not (is_attached s.procs p))
+
+pub call_ready : (s : State) (p : ℕ) (c : Rattle.con_events.specs.declared.call.Call.Call) → is_ready s (actors.Client p) (events.Call c) ≡ true
+unfolding is_ready is_due
+call_ready s p c = or_true (not (is_attached s.procs p))
+
+outside_none : (a x : Bool) → a ≡ true → (not a || x) ≡ x
+outside_none true x e = refl
+outside_none false x e = absurd (cc)
+
+take_ready : (s : State) (p : ℕ) → is_attached s.procs p ≡ true → is_ready s (actors.Client p) events.TakeCtrl ≡ is_pending s p
+unfolding is_ready is_due
+take_ready s p a = outside_none (is_attached s.procs p) (is_pending s p) a
+
+collect_ready : (s : State) (p : ℕ) → is_attached s.procs p ≡ true → is_ready s (actors.Client p) events.Collect ≡ has_done s.reads p
+unfolding is_ready is_due
+collect_ready s p a = outside_none (is_attached s.procs p) (has_done s.reads p) a
+
+-- ---- the turn of a client that is there
+
+turn_there : (c : Client) (s : State) (p : ℕ) (a : Bool) (t : Option Event) → a ≡ true → ClientTurnBy c.stance s p c t → Rattle.con_machine.specs.Rounds.ClientTurn a s p c t
+turn_there c s p true t e k = k
+turn_there c s p false t e k = absurd (cc)
+
+goes_turn : (s : State) (p : ℕ) (c : Client) (t : Option Event) (st : Stance) (gone : Bool) → IsStance st false gone → gone ≡ false → t ≡ client_turn s p c → ClientTurnBy st s p c t
+goes_turn s p c t GoesOn gone i n e = e
+goes_turn s p c t MayLeave gone i n e = inr e
+goes_turn s p c t MustLeave gone i n e = absurd (cc)
+goes_turn s p c t Gone gone i n e = absurd (cc)
+
+leaves_turn : (s : State) (p : ℕ) (c : Client) (st : Stance) (gone : Bool) → IsStance st true gone → gone ≡ false → ClientTurnBy st s p c (Some (events.Exit ctrl_exit))
+leaves_turn s p c GoesOn gone i n = absurd (cc)
+leaves_turn s p c MayLeave gone i n = inl refl
+leaves_turn s p c MustLeave gone i n = refl
+leaves_turn s p c Gone gone i n = absurd (cc)
+
+none_turn : (s : State) (p : ℕ) (c : Client) (a : Bool) → a ≡ false → Rattle.con_machine.specs.Rounds.ClientTurn a s p c None
+none_turn s p c true e = absurd (cc)
+none_turn s p c false e = refl
+
+taken_by : (s : State) (p : ℕ) (c : Client) (b : Bool) → b ≡ true → Some events.TakeCtrl ≡ (if b then Some events.TakeCtrl else if is_open s.reads p then (if has_done s.reads p then Some events.Collect else None) else Some (next_event c.left))
+taken_by s p c true e = refl
+taken_by s p c false e = absurd (cc)
+
+collected_by : (c : Client) (b o d : Bool) → b ≡ false → o ≡ true → d ≡ true → Some events.Collect ≡ (if b then Some events.TakeCtrl else if o then (if d then Some events.Collect else None) else Some (next_event c.left))
+collected_by c b o d e f g = rw (e, f, g) refl
+
+waited_by : (c : Client) (b o d : Bool) → b ≡ false → o ≡ true → d ≡ false → None ≡ (if b then Some events.TakeCtrl else if o then (if d then Some events.Collect else None) else Some (next_event c.left))
+waited_by c b o d e f g = rw (e, f, g) refl
+
+stepped_by : (c : Client) (b o d : Bool) (ev : Event) → b ≡ false → o ≡ false → ev ≡ next_event c.left → Some ev ≡ (if b then Some events.TakeCtrl else if o then (if d then Some events.Collect else None) else Some (next_event c.left))
+stepped_by c b o d ev e f g = rw (e, f, g) refl
+
+-- the client's own record is moved by its own entry
+client_own : (b : Begun) (h : List Entry) (x : Entry) (p : ℕ) → is_client p x.actor ≡ true → client_at b (h ++ x ∷ []) p ≡ moved_on (client_at b h p) (turn_of (run b.state h) p x)
+client_own b h x p n = ap (client_after (steps_of b.session p) (kinds_of b.racks p)) (turns-own b.state p h x n)
+    ∙ after-append moved_on (starting (steps_of b.session p) (kinds_of b.racks p)) (turns b.state p h) (turn_of (run b.state h) p x ∷ [])
+
+-- the client after an entry of its own, as a desk gives it
+pub own_is : (b : Begun) (p : ℕ) (s t : State) (h g : List Entry) (rs qs : List Reply) (e : Event) → s ≡ run b.state h → Enters s t h g rs qs (actors.Client p) e
+    → client_at b g p ≡ record (entered (client_at b h p) e (step s (actors.Client p) e).reply) { pending = is_pending ((step s (actors.Client p) e).after) p }
+own_is b p s t h g rs qs e i n =
+    let n' = eq-eqb p p refl in
+    let P : State → Type 0 = λ z. client_at b g p ≡ record (entered (client_at b h p) e (step z (actors.Client p) e).reply) { pending = is_pending ((step z (actors.Client p) e).after) p } in
+    subst P (sym i) (ap (λ k. client_at b k p) n.entries ∙ client_own b h (entry (actors.Client p) e) p n')
+
+-- a client that must leave, or may
+may_leave : (c : Client) (s : Stance) (gone : Bool) → IsStance s true gone → gone ≡ false → MayBy s c (events.Exit ctrl_exit)
+may_leave c GoesOn gone i n = absurd (cc)
+may_leave c MayLeave gone i n = inl refl
+may_leave c MustLeave gone i n = refl
+may_leave c Gone gone i n = absurd (cc)
+
+pub leaving_may : (c : Client) (steps : List Step) (w : Worker) → IsWorker c steps w → w.leaving ≡ true → w.gone ≡ false → MayBy c.stance c (events.Exit ctrl_exit)
+leaving_may c steps w k l n = let P : Bool → Type 0 = λ x. IsStance c.stance x w.gone in may_leave c c.stance w.gone (subst P l k.stance) n
+
+-- a client that need not leave goes on
+goes_by : (c : Client) (e : Event) (s : Stance) (gone : Bool) → IsStance s false gone → gone ≡ false → MayGoOn c.pending c e → MayBy s c e
+goes_by c e GoesOn gone i n m = m
+goes_by c e MayLeave gone i n m = inr m
+goes_by c e MustLeave gone i n m = absurd (cc)
+goes_by c e Gone gone i n m = absurd (cc)
+
+pub going_may : (c : Client) (steps : List Step) (w : Worker) (e : Event) → IsWorker c steps w → w.leaving ≡ false → w.gone ≡ false → MayGoOn c.pending c e → MayBy c.stance c e
+going_may c steps w e k l n m = let P : Bool → Type 0 = λ x. IsStance c.stance x w.gone in goes_by c e c.stance w.gone (subst P l k.stance) n m
+
+take_by : (c : Client) (b : Bool) → MayGoOn b c events.TakeCtrl
+take_by c true = refl
+take_by c false = inl refl
+
+pub taking_may : (c : Client) → MayGoOn c.pending c events.TakeCtrl
+taking_may c = take_by c c.pending
+
+due_by : (c : Client) (b : Bool) (e : Event) → b ≡ false → e ≡ due c → MayGoOn b c e
+due_by c true e n d = absurd (cc)
+due_by c false e n d = inr d
+
+pub due_may : (c : Client) (e : Event) → c.pending ≡ false → e ≡ due c → MayGoOn c.pending c e
+due_may c e n d = due_by c c.pending e n d
+
+-- a client that is not gone is there
+here_by : (s : Stance) (leaving gone : Bool) → IsStance s leaving gone → gone ≡ false → is_here s ≡ true
+here_by GoesOn leaving gone i n = refl
+here_by MayLeave leaving gone i n = refl
+here_by MustLeave leaving gone i n = refl
+here_by Gone leaving gone i n = absurd (cc)
+
+pub is_there : (b : Begun) (p : ℕ) (s : State) (h : List Entry) (steps : List Step) (w : Worker) → ClientIs b p s h steps w → w.gone ≡ false → is_attached s.procs p ≡ true
+is_there b p s h steps w k n = ap (λ z. is_attached z.procs p) k.state ∙ (k.stands.here ∙ here_by (client_at b h p).stance w.leaving w.gone k.worker.stance n)
+
+-- one that is gone is not
+gone_by : (s : Stance) (leaving gone : Bool) → IsStance s leaving gone → gone ≡ true → is_here s ≡ false
+gone_by GoesOn leaving gone i n = absurd (cc)
+gone_by MayLeave leaving gone i n = absurd (cc)
+gone_by MustLeave leaving gone i n = absurd (cc)
+gone_by Gone leaving gone i n = refl
+
+pub gone_idles : (b : Begun) (p : ℕ) (s : State) (h : List Entry) (steps : List Step) (w : Worker) → ClientIs b p s h steps w → w.gone ≡ true → IsTurn b h (actors.Client p) None
+gone_idles b p s h steps w k n = none_turn (run b.state h) p (client_at b h p) (is_attached (run b.state h).procs p) (k.stands.here ∙ gone_by (client_at b h p).stance w.leaving w.gone k.worker.stance n)
+
+-- the turn of a client that goes on is the first thing that there is to do
+pub going_turn : (b : Begun) (p : ℕ) (s : State) (h : List Entry) (steps : List Step) (w : Worker) (t : Option Event) → ClientIs b p s h steps w → w.gone ≡ false → w.leaving ≡ false → t ≡ client_turn s p (client_at b h p) → IsTurn b h (actors.Client p) t
+going_turn b p s h steps w t k n l e =
+    let c = client_at b h p in
+    let P : State → Type 0 = λ z. is_attached z.procs p ≡ true in
+    let Q : State → Type 0 = λ z. t ≡ client_turn z p c in
+    let R : Bool → Type 0 = λ x. IsStance c.stance x w.gone in
+    turn_there c (run b.state h) p (is_attached (run b.state h).procs p) t (subst P k.state (is_there b p s h steps w k n)) (goes_turn (run b.state h) p c t c.stance w.gone (subst R l k.worker.stance) n (subst Q k.state e))
+
+-- and that of one that leaves is the exit
+pub leaving_turn : (b : Begun) (p : ℕ) (s : State) (h : List Entry) (steps : List Step) (w : Worker) → ClientIs b p s h steps w → w.gone ≡ false → w.leaving ≡ true → IsTurn b h (actors.Client p) (Some (events.Exit ctrl_exit))
+leaving_turn b p s h steps w k n l =
+    let c = client_at b h p in
+    let P : State → Type 0 = λ z. is_attached z.procs p ≡ true in
+    let R : Bool → Type 0 = λ x. IsStance c.stance x w.gone in
+    turn_there c (run b.state h) p (is_attached (run b.state h).procs p) (Some (events.Exit ctrl_exit)) (subst P k.state (is_there b p s h steps w k n)) (leaves_turn (run b.state h) p c c.stance w.gone (subst R l k.worker.stance) n)
+
+-- no TakeCtrl is ready for a client that is there, so nothing was pending at its last entry
+contra : (x y : Bool) → (x ≡ true → y ≡ true) → y ≡ false → x ≡ false
+contra true y f n = absurd (let e = f refl in cc)
+contra false y f n = refl
+
+pub none_pending : (b : Begun) (p : ℕ) (s : State) (h : List Entry) (steps : List Step) (w : Worker) → ClientIs b p s h steps w → w.gone ≡ false → is_ready s (actors.Client p) events.TakeCtrl ≡ false
+    → (is_pending s p ≡ false) × ((client_at b h p).pending ≡ false)
+none_pending b p s h steps w k n r =
+    let a = is_there b p s h steps w k n in
+    let q = sym (take_ready s p a) ∙ r in
+    (q, contra (client_at b h p).pending (is_pending s p) (λ x. ap (λ z. is_pending z p) k.state ∙ k.stands.pending x) q)
+
+-- the console has an open read of a client that is there where its worker has
+open_is : (b : Begun) (p : ℕ) (s : State) (h : List Entry) (steps : List Step) (w : Worker) → ClientIs b p s h steps w → w.gone ≡ false → is_open s.reads p ≡ w.reading
+open_is b p s h steps w k n =
+    let P : State → Type 0 = λ z. is_attached z.procs p ≡ true in
+    ap (λ (z : State). is_open z.reads p) k.state ∙ (k.stands.reading (subst P k.state (is_there b p s h steps w k n)) ∙ k.worker.reading)
+
+pub waiting_idles : (b : Begun) (p : ℕ) (s : State) (h : List Entry) (steps : List Step) (w : Worker) → ClientIs b p s h steps w → w.gone ≡ false → w.leaving ≡ false → w.reading ≡ true
+    → is_ready s (actors.Client p) events.TakeCtrl ≡ false → is_ready s (actors.Client p) events.Collect ≡ false → IsTurn b h (actors.Client p) None
+waiting_idles b p s h steps w k n l r t u =
+    going_turn b p s h steps w None k n l (waited_by (client_at b h p) (is_pending s p) (is_open s.reads p) (has_done s.reads p) (none_pending b p s h steps w k n t).0 (open_is b p s h steps w k n ∙ r) (sym (collect_ready s p (is_there b p s h steps w k n)) ∙ u))
+
+pub step_turn : (b : Begun) (p : ℕ) (s : State) (h : List Entry) (steps : List Step) (w : Worker) (ev : Event) → ClientIs b p s h steps w → w.gone ≡ false → w.leaving ≡ false → w.reading ≡ false
+    → is_ready s (actors.Client p) events.TakeCtrl ≡ false → ev ≡ next_event (client_at b h p).left → IsTurn b h (actors.Client p) (Some ev)
+step_turn b p s h steps w ev k n l r t e =
+    going_turn b p s h steps w (Some ev) k n l (stepped_by (client_at b h p) (is_pending s p) (is_open s.reads p) (has_done s.reads p) ev (none_pending b p s h steps w k n t).0 (open_is b p s h steps w k n ∙ r) e)
+
+-- how a worker stands after its entries
+
+pub acts : (b : Begun) (p : ℕ) (s t : State) (h g : List Entry) (rs qs : List Reply) (e : Event) → s ≡ run b.state h → Enters s t h g rs qs (actors.Client p) e → is_ready s (actors.Client p) e ≡ true → MayBy (client_at b h p).stance (client_at b h p) e → IsTurn b h (actors.Client p) (Some e) → Acts b p s t h g rs qs
+acts b p s t h g rs qs e i n r m u = record { event = e; enters = n; ready = r; may = m; turn = u }
+
+-- the exit
+pub left_turn : (b : Begun) (p : ℕ) (s t : State) (h g : List Entry) (rs qs : List Reply) (steps : List Step) (w : Worker) (status : ℕ) → ClientIs b p s h steps w
+    → Enters s t h g rs qs (actors.Client p) (events.Exit status) → MayBy (client_at b h p).stance (client_at b h p) (events.Exit status) → IsTurn b h (actors.Client p) (Some (events.Exit status))
+    → ClientTurn (Ok true) b p s t h g rs qs steps (record w { gone = true })
+left_turn b p s t h g rs qs steps w status k n m u =
+    let e = own_is b p s t h g rs qs (events.Exit status) k.state n in (
+      acts b p s t h g rs qs (events.Exit status) k.state n (exit_ready s p status) m u,
+      record { left = ap (λ c. c.left) e ∙ k.worker.left; reading = ap (λ c. c.reading) e ∙ k.worker.reading; stance = let P : Client → Type 0 = λ c. IsStance c.stance w.leaving true in subst P (sym e) refl },
+      record { chain = ap (λ c. c.chain) e; doubtful = ap (λ c. c.doubtful) e },
+    )
+
+-- the answer of a read
+pub collected_turn : (b : Begun) (p : ℕ) (s t : State) (h g : List Entry) (rs qs : List Reply) (steps : List Step) (w : Worker) → ClientIs b p s h steps w → w.gone ≡ false → w.leaving ≡ false → w.reading ≡ true
+    → is_ready s (actors.Client p) events.TakeCtrl ≡ false → is_ready s (actors.Client p) events.Collect ≡ true
+    → Enters s t h g rs qs (actors.Client p) events.Collect
+    → ClientTurn (Ok true) b p s t h g rs qs steps (record w { reading = false })
+collected_turn b p s t h g rs qs steps w k n l r q u en =
+    let e = own_is b p s t h g rs qs events.Collect k.state en in
+    let c = client_at b h p in
+    let d : events.Collect ≡ due c = let P : Bool → Type 0 = λ x. events.Collect ≡ (if x then events.Collect else next_event c.left) in subst P (sym (k.worker.reading ∙ r)) refl in (
+      acts b p s t h g rs qs events.Collect k.state en u (going_may c steps w events.Collect k.worker l n (due_may c events.Collect (none_pending b p s h steps w k n q).1 d))
+          (going_turn b p s h steps w (Some events.Collect) k n l (collected_by c (is_pending s p) (is_open s.reads p) (has_done s.reads p) (none_pending b p s h steps w k n q).0 (open_is b p s h steps w k n ∙ r) (sym (collect_ready s p (is_there b p s h steps w k n)) ∙ u))),
+      record { left = ap (λ x. x.left) e ∙ k.worker.left; reading = ap (λ x. x.reading) e; stance = let P : Client → Type 0 = λ x. IsStance x.stance w.leaving w.gone in subst P (sym e) (l, n) },
+      record { chain = ap (λ x. x.chain) e; doubtful = ap (λ x. x.doubtful) e },
+    )
+
+-- refusals
+pub rests_turn : (b : Begun) (p : ℕ) (s t : State) (h g : List Entry) (rs qs : List Reply) (steps : List Step) (w : Worker) (err : OutOfMemory) → Rests s t h g rs qs → ClientTurn (Err err) b p s t h g rs qs steps w
+rests_turn b p s t h g rs qs steps w err r = inl r
+
+hands_keep : (c d : Client) (places : List ℕ) (ms : List Memory) → Keeps c d → HandsAre c.chain c.doubtful places ms → HandsAre d.chain d.doubtful places ms
+hands_keep c d places ms k a = let P : List Handler → Bool → Type 0 = λ x y. HandsAre x y places ms in
+    let one : HandsAre d.chain c.doubtful places ms = subst (λ (x : List Handler). HandsAre x c.doubtful places ms) (sym k.chain) a in
+    subst (λ (y : Bool). HandsAre d.chain y places ms) (sym k.doubtful) one
+
+-- a turn that leaves the handlers alone
+pub with_hands : (r : Result Bool OutOfMemory) (b : Begun) (p : ℕ) (s t : State) (h g : List Entry) (rs qs : List Reply) (steps : List Step) (w : Worker) (places : List ℕ) (ms : List Memory)
+    → HandsAre (client_at b h p).chain (client_at b h p).doubtful places ms → ClientTurn r b p s t h g rs qs steps w → HandsTurn r b p s t h g rs qs steps w places ms
+with_hands (Ok true) b p s t h g rs qs steps w places ms a k = (k.0, k.1, hands_keep (client_at b h p) (client_at b g p) places ms k.2 a)
+with_hands (Ok false) b p s t h g rs qs steps w places ms a k = (k.0, k.1, k.2, a)
+with_hands (Err e) b p s t h g rs qs steps w places ms a k = k
+
+-- an event was taken
+verdict_by : (two d f handled : Bool) → (d ≡ false → handled ≡ f) → IsStance (if two then MustLeave else if d then MayLeave else if f then GoesOn else MustLeave) (two || not handled) false
+verdict_by true d f handled i = (refl, refl)
+verdict_by false true f handled i = refl
+verdict_by false false true handled i = let e = i refl in (rw e refl, refl)
+verdict_by false false false handled i = let e = i refl in (rw e refl, refl)
+
+ctrl_is : (r : Reply) (event : ℕ) → brief_of r ≡ briefs.Ctrl event → r ≡ replies.Ctrl event
+ctrl_is (replies.Ctrl n) event e = cc
+ctrl_is replies.Done event e = absurd (cc)
+ctrl_is (replies.Fail code) event e = absurd (cc)
+ctrl_is (replies.Number n) event e = absurd (cc)
+ctrl_is (replies.Units us) event e = absurd (cc)
+ctrl_is (replies.View v marks fresh) event e = absurd (cc)
+ctrl_is (replies.Numbers ns) event e = absurd (cc)
+ctrl_is (replies.Records rs) event e = absurd (cc)
+ctrl_is (replies.Cells rect cells) event e = absurd (cc)
+ctrl_is (replies.Lines ls) event e = absurd (cc)
+
+pub took_turn : (b : Begun) (p : ℕ) (s t : State) (h g : List Entry) (rs qs : List Reply) (steps : List Step) (w : Worker) (event : ℕ) (handled : Bool) (places : List ℕ) (ms : List Memory) → ClientIs b p s h steps w → w.gone ≡ false → w.leaving ≡ false
+    → is_ready s (actors.Client p) events.TakeCtrl ≡ true → Enters s t h g rs qs (actors.Client p) events.TakeCtrl → brief_of (step s (actors.Client p) events.TakeCtrl).reply ≡ briefs.Ctrl event
+    → ((client_at b h p).doubtful ≡ false → handled ≡ is_handled (client_at b h p).chain event) → HandsAre (delivered_to (client_at b h p).chain event) (client_at b h p).doubtful places ms
+    → HandsTurn (Ok true) b p s t h g rs qs steps (record w { leaving = (event == 2) || not handled }) places ms
+took_turn b p s t h g rs qs steps w event handled places ms k n l u en br ha are =
+    let c = client_at b h p in
+    let r = (step s (actors.Client p) events.TakeCtrl).reply in
+    let e = own_is b p s t h g rs qs events.TakeCtrl k.state en in
+    let P : Reply → Type 0 = λ z. client_at b g p ≡ record (took c z) { pending = is_pending ((step s (actors.Client p) events.TakeCtrl).after) p } in
+    let f = subst P (ctrl_is r event br) e in (
+      acts b p s t h g rs qs events.TakeCtrl k.state en u (going_may c steps w events.TakeCtrl k.worker l n (taking_may c))
+          (going_turn b p s h steps w (Some events.TakeCtrl) k n l (taken_by s p c (is_pending s p) (sym (take_ready s p (is_there b p s h steps w k n)) ∙ u))),
+      record {
+        left = ap (λ x. x.left) f ∙ k.worker.left;
+        reading = ap (λ x. x.reading) f ∙ k.worker.reading;
+        stance = let Q : Client → Type 0 = λ x. IsStance x.stance ((event == 2) || not handled) w.gone in subst Q (sym f) (let R : Bool → Type 0 = λ x. IsStance (verdict c event) ((event == 2) || not handled) x in subst R (sym n) (verdict_by (event == 2) c.doubtful (is_handled c.chain event) handled ha));
+      },
+      let S : Client → Type 0 = λ x. HandsAre x.chain x.doubtful places ms in subst S (sym f) are,
+    )
+
+-- a reply to a TakeCtrl that gives no event
+abbrev pub IsEvent : Brief → Bool
+IsEvent (briefs.Ctrl event) = true
+IsEvent briefs.Fine = false
+IsEvent briefs.Refused = false
+
+took_none : (c : Client) (r : Reply) → IsEvent (brief_of r) ≡ false → took c r ≡ c
+took_none c (replies.Ctrl n) e = absurd (cc)
+took_none c replies.Done e = refl
+took_none c (replies.Fail code) e = refl
+took_none c (replies.Number n) e = refl
+took_none c (replies.Units us) e = refl
+took_none c (replies.View v marks fresh) e = refl
+took_none c (replies.Numbers ns) e = refl
+took_none c (replies.Records rs) e = refl
+took_none c (replies.Cells rect cells) e = refl
+took_none c (replies.Lines ls) e = refl
+
+pub took_none_turn : (b : Begun) (p : ℕ) (s t : State) (h g : List Entry) (rs qs : List Reply) (steps : List Step) (w : Worker) (places : List ℕ) (ms : List Memory) (brief : Brief) → ClientIs b p s h steps w → w.gone ≡ false → w.leaving ≡ false
+    → is_ready s (actors.Client p) events.TakeCtrl ≡ true → Enters s t h g rs qs (actors.Client p) events.TakeCtrl → brief ≡ brief_of (step s (actors.Client p) events.TakeCtrl).reply → IsEvent brief ≡ false
+    → HandsAre (client_at b h p).chain (client_at b h p).doubtful places ms
+    → HandsTurn (Ok true) b p s t h g rs qs steps w places ms
+took_none_turn b p s t h g rs qs steps w places ms brief k n l u en br ev are =
+    let c = client_at b h p in
+    let r = (step s (actors.Client p) events.TakeCtrl).reply in
+    let e : client_at b g p ≡ record c { pending = is_pending ((step s (actors.Client p) events.TakeCtrl).after) p } = own_is b p s t h g rs qs events.TakeCtrl k.state en ∙ ap (λ (x : Client). record x { pending = is_pending ((step s (actors.Client p) events.TakeCtrl).after) p }) (took_none c r (ap IsEvent (sym br) ∙ ev)) in (
+      acts b p s t h g rs qs events.TakeCtrl k.state en u (going_may c steps w events.TakeCtrl k.worker l n (taking_may c))
+          (going_turn b p s h steps w (Some events.TakeCtrl) k n l (taken_by s p c (is_pending s p) (sym (take_ready s p (is_there b p s h steps w k n)) ∙ u))),
+      record { left = ap (λ x. x.left) e ∙ k.worker.left; reading = ap (λ x. x.reading) e ∙ k.worker.reading; stance = let Q : Client → Type 0 = λ x. IsStance x.stance w.leaving w.gone in subst Q (sym e) k.worker.stance },
+      let S : Client → Type 0 = λ x. HandsAre x.chain x.doubtful places ms in subst S (sym e) are,
+    )
+
+pub took_turn_is : (b : Begun) (p : ℕ) (s t : State) (h g : List Entry) (rs qs : List Reply) (steps : List Step) (w : Worker) (event : ℕ) (handled leaving : Bool) (places : List ℕ) (ms : List Memory) → leaving ≡ ((event == 2) || not handled) → ClientIs b p s h steps w → w.gone ≡ false → w.leaving ≡ false
+    → is_ready s (actors.Client p) events.TakeCtrl ≡ true → Enters s t h g rs qs (actors.Client p) events.TakeCtrl → brief_of (step s (actors.Client p) events.TakeCtrl).reply ≡ briefs.Ctrl event
+    → ((client_at b h p).doubtful ≡ false → handled ≡ is_handled (client_at b h p).chain event) → HandsAre (delivered_to (client_at b h p).chain event) (client_at b h p).doubtful places ms
+    → HandsTurn (Ok true) b p s t h g rs qs steps (record w { leaving = leaving }) places ms
+took_turn_is b p s t h g rs qs steps w event handled leaving places ms i k n l u en br ha are =
+    let P : Bool → Type 0 = λ x. HandsTurn (Ok true) b p s t h g rs qs steps (record w { leaving = x }) places ms in
+    subst P (sym i) (took_turn b p s t h g rs qs steps w event handled places ms k n l u en br ha are)

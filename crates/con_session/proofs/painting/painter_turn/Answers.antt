@@ -1,0 +1,63 @@
+use Rattle.std.proofs.Common.{sym, ap, ◌∙◌, inl, inr, ◌++◌, ◌∷◌, [], List, ℕ, ◌+◌}
+use Rattle.con_session.proofs.CanvasLaws.{canvas_ok, canvas_failed, canvas_ends, canvas_none, paint_err}
+use Rattle.con_session.proofs.PaintTurns.{tied_count, tied_size, tied_rows, paints_now, failed_rests, unready_rests}
+use Rattle.con_session.proofs.painting.painter_turn.Goals as goal
+
+pub frame-requires-clause-marks : goal.frame-requires-clause-marks
+frame-requires-clause-marks g c = tied_count _ _ _ _ c.in_ok-picture.ensures.pictures c.in_ok-picture.ensures.marks
+
+pub frame-requires-clause-size : goal.frame-requires-clause-size
+frame-requires-clause-size g c = λ f. tied_size _ _ _ _ c.requires c.in_ok-picture.ensures.pictures f
+
+pub frame-requires-clause-marked : goal.frame-requires-clause-marked
+frame-requires-clause-marked g c = λ f y l n. tied_rows _ _ _ _ _ c.requires c.in_ok-picture.ensures.pictures c.in_ok-picture.ensures.marks f y l n
+
+pub returns-then-canvas-clause-acts : goal.returns-then-canvas-clause-acts
+returns-then-canvas-clause-acts g c = λ b i f. failed_rests b _ _ f c.if-canvas.true
+
+pub returns-then-not-ready-clause-acts : goal.returns-then-not-ready-clause-acts
+returns-then-not-ready-clause-acts g c = λ b i f. unready_rests b _ _ i (sym c.if-not-ready.ensures)
+
+pub returns-in_err-frame-clause-turn : goal.returns-in_err-frame-clause-turn
+returns-in_err-frame-clause-turn g c = λ b size before ps i k. paint_err b _ _ _ _ _ _ _ _ _ _ _ _ _ _ _ c.from_residual-in_err-frame.ensures.0
+    (inr (record { enters = c.in_ok-picture.ensures.entered; ready = sym c.if-not-ready.ensures })) _ c.reserve.ensures.items (canvas_none b _ _ _ _ _ _ _ _ _ _ c.in_ok-picture.ensures.entered.entries k)
+
+pub returns-in_err-end-clause-turn : goal.returns-in_err-end-clause-turn
+returns-in_err-end-clause-turn g c = λ b size before ps i k. paint_err b _ _ _ _ _ _ _ _ _ _ _ _ _ _ _ c.from_residual-in_err-end.ensures.0
+    (inr (record { enters = c.in_ok-picture.ensures.entered; ready = sym c.if-not-ready.ensures })) _ c.reserve.ensures.items (canvas_none b _ _ _ _ _ _ _ _ _ _ c.in_ok-picture.ensures.entered.entries k)
+
+pub returns-in-Ok : goal.returns-in-Ok
+returns-in-Ok g c = record {
+  acts = λ b i f. paints_now b _ _ _ i f c.if-canvas.false (sym c.if-not-ready.ensures);
+  turn = λ b size before ps i k. (
+    record { enters = c.in_ok-picture.ensures.entered; ready = sym c.if-not-ready.ensures },
+    (
+      c.frame.new.out.items,
+      canvas_ok b size before _ _ _ _ ps _ _ _ c.in_ok-picture.picture.view c.in_ok-picture.picture.fresh _ c.frame.new.out.items _ _ _ _ _ c.if-canvas.false i c.in_ok-picture.ensures.entered.entries c.in_ok-picture.ensures.pictures
+          c.in_ok-frame.ensures.paints c.in_ok-frame.ensures.shown c.in_ok-frame.ensures.size c.as_slice.ensures.value c.in-Ok.ensures.whole (c.in_ok-end.ensures ∙ ap (λ (n : ℕ). c.args.canvas.now.end + n) c.length_of.ensures) k
+          (c.push_reserved.ensures.items ∙ ap (λ (x : List ℕ). x ++ c.in_ok-end.end ∷ []) c.reserve.ensures.items),
+    ),
+  );
+}
+
+pub returns-in-Err-Failed : goal.returns-in-Err-Failed
+returns-in-Err-Failed g c = record {
+  acts = λ b i f. paints_now b _ _ _ i f c.if-canvas.false (sym c.if-not-ready.ensures);
+  turn = λ b size before ps i k. (
+    record { enters = c.in_ok-picture.ensures.entered; ready = sym c.if-not-ready.ensures },
+    (
+      c.frame.new.out.items,
+      canvas_failed b size before _ _ _ _ ps _ _ _ c.in_ok-picture.picture.view c.in_ok-picture.picture.fresh _ c.frame.new.out.items _ _ _ _ _ c.if-canvas.false i c.in_ok-picture.ensures.entered.entries c.in_ok-picture.ensures.pictures
+          c.in_ok-frame.ensures.paints c.in_ok-frame.ensures.shown c.in_ok-frame.ensures.size c.as_slice.ensures.value c.write_whole.ensures.front (c.in_ok-end.ensures ∙ ap (λ (n : ℕ). c.args.canvas.now.end + n) c.length_of.ensures) k
+          (c.push_reserved.ensures.items ∙ ap (λ (x : List ℕ). x ++ c.in_ok-end.end ∷ []) c.reserve.ensures.items),
+    ),
+  );
+}
+
+pub returns-clause-turn : goal.returns-clause-turn
+returns-clause-turn g c = λ b size before ps i k. (
+  inr (record { enters = c.in_ok-picture.ensures.entered; ready = sym c.if-not-ready.ensures }),
+  canvas_ends b _ size _ _ _ _ before _ _ (canvas_failed b size before _ _ _ _ ps _ _ _ c.in_ok-picture.picture.view c.in_ok-picture.picture.fresh _ c.frame.new.out.items _ _ _ _ _ c.if-canvas.false i c.in_ok-picture.ensures.entered.entries c.in_ok-picture.ensures.pictures
+      c.in_ok-frame.ensures.paints c.in_ok-frame.ensures.shown c.in_ok-frame.ensures.size c.as_slice.ensures.value c.write_whole.ensures.front (c.in_ok-end.ensures ∙ ap (λ (n : ℕ). c.args.canvas.now.end + n) c.length_of.ensures) k
+      (c.push_reserved.ensures.items ∙ ap (λ (x : List ℕ). x ++ c.in_ok-end.end ∷ []) c.reserve.ensures.items)),
+)

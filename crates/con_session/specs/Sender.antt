@@ -1,0 +1,67 @@
+-- The terminal's side behind a history.
+use Rattle.std.specs.Prelude.{◌≡◌, ◌⊎◌, ℕ, Bool, true, false, List, [], ◌∷◌, ◌++◌, Option, Some, None, Result, Ok, Err, flat_map, length, ◌≤◌}
+use Rattle.con_units.specs.declared.code.OutOfMemory.{OutOfMemory}
+use Rattle.con_units.specs.declared.view.Frame.{Frame}
+use Rattle.con_outside.specs.Outside.{then_left}
+use Rattle.con_link.specs.Frames.{spelling, Answers, IsEnd, ends_link}
+use Rattle.con_link.specs.declared.fault.LinkFault.{LinkFault}
+use Rattle.con_link.specs.declared.fault.LinkFault.TheVariants as faults
+use Rattle.con_events.specs.declared.actor.Actor.TheVariants as actors
+use Rattle.con_events.specs.declared.end.End.{End}
+use Rattle.con_events.specs.declared.end.End.TheVariants as ends
+use Rattle.con_events.specs.declared.entry.Entry.{Entry}
+use Rattle.con_events.specs.declared.event.Event.{Event}
+use Rattle.con_events.specs.declared.reply.Reply.{Reply}
+use Rattle.con_machine.specs.Along.{after}
+use Rattle.con_machine.specs.Follows.{FollowsLink, sent_one, is_cut}
+use Rattle.con_machine.specs.Rounds.{Begun, IsTurn, is_failed}
+use Rattle.con_machine.specs.State.{State}
+use Rattle.con_machine.specs.Step.{is_ready}
+use Rattle.con_machine.specs.Turns.{sent, has_ended, paints}
+use Rattle.con_session.specs.Desk.{Enters, Rests}
+use Rattle.con_session.specs.declared.terminal.Side.{Side}
+
+-- how a session ends where no frame was read
+abbrev pub end_for : LinkFault → End
+end_for faults.Failed = ends.Link
+end_for faults.TooLong = ends.TooLong
+end_for (faults.Bad place kind) = ends.Bad place kind
+end_for faults.OutOfMemory = ends.Memory
+
+-- after so many Paints the terminal counts as failed from the last of them on, or not yet
+abbrev pub FailsBy : Bool → Option ℕ → ℕ → Type 0
+FailsBy false f painted = is_failed f painted ≡ false
+FailsBy true f painted = f ≡ Some painted
+
+-- the terminal's side sent these frames, whatever comes behind them; and perhaps a Hangup that is none
+pub record SideStands (h : List Entry) (coming : List Frame) (cut ended : Bool) : Type 0 where
+  pub follows : (c : Bool) → (cut ≡ true → c ≡ true) → (more : List Frame) → FollowsLink c (coming ++ more) (sent h)
+  pub after' : ended ≡ false → (more : List Frame) → after sent_one (record { coming = coming ++ more; ended = false }) (sent h) ≡ record { coming = more; ended = false }
+  pub ended' : has_ended false (sent h) ≡ ended
+
+-- what was read of the link, and why no more is
+pub record LinkIs (h : List Entry) (side : Side) (failed : Bool) (before now : Option (List ℕ)) (taken : ℕ) : Type 0 where
+  pub frames : List Frame
+  pub extra : List ℕ
+  pub cut : Bool
+  pub stands : SideStands h frames cut side.ended
+  pub read : before ≡ then_left (flat_map spelling frames ++ extra) now
+  pub place : side.ended ≡ false → (extra ≡ []) × (taken ≡ length (flat_map spelling frames)) × (cut ≡ false) × (taken ≤ 16777216) × (is_cut side.end ≡ false)
+  pub why : cut ≡ true → (failed ≡ true) ⊎ (is_cut side.end ≡ true)
+  -- a fault that shows behind the frames
+  pub fault : is_cut side.end ≡ true → (f : LinkFault) × (side.end ≡ end_for f) × Answers (Err f) (length (flat_map spelling frames)) extra now
+  -- the last frame ends the link
+  pub whole : cut ≡ false → side.ended ≡ true → (front : List Frame) × (last : Frame) × (frames ≡ front ++ last ∷ []) × (ends_link last ≡ true) × IsEnd last now × (extra ≡ [])
+
+-- an event of the terminal's side was entered
+pub record Sends (b : Begun) (s t : State) (h g : List Entry) (rs qs : List Reply) : Type 0 where
+  pub event : Event
+  pub enters : Enters s t h g rs qs actors.Terminal event
+  pub ready : is_ready s actors.Terminal event ≡ true
+  pub turn : IsTurn b h actors.Terminal (Some event)
+
+-- a turn of the terminal's side: false where it has ended; where there is no memory nothing was entered
+abbrev pub SenderTurn : Result Bool OutOfMemory → Begun → State → State → List Entry → List Entry → List Reply → List Reply → Type 0
+SenderTurn (Ok true) b s t h g rs qs = Sends b s t h g rs qs
+SenderTurn (Ok false) b s t h g rs qs = Rests s t h g rs qs × IsTurn b h actors.Terminal None
+SenderTurn (Err e) b s t h g rs qs = Rests s t h g rs qs

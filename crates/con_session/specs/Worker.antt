@@ -1,0 +1,77 @@
+-- A client's worker, and what a turn of it is.
+use Rattle.std.specs.Prelude.{◌≡◌, ◌⊎◌, ℕ, Bool, true, false, List, drop, map, Some, None, Result, Ok, Err, nat_lt}
+use Rattle.std.specs.List.{list_all}
+use Rattle.con_units.specs.declared.code.OutOfMemory.{OutOfMemory}
+use Rattle.con_events.specs.declared.actor.Actor.TheVariants as actors
+use Rattle.con_events.specs.declared.call.Call.{Call}
+use Rattle.con_events.specs.declared.call.Call.TheVariants as calls
+use Rattle.con_events.specs.declared.entry.Entry.{Entry}
+use Rattle.con_events.specs.declared.event.Event.{Event}
+use Rattle.con_events.specs.declared.reply.Reply.{Reply}
+use Rattle.con_events.specs.declared.script.Step.{Step}
+use Rattle.con_handlers.specs.Delivery.{Memory}
+use Rattle.con_machine.specs.Chain.{Handler}
+use Rattle.con_machine.specs.Client.{Client, Stance, GoesOn, MayLeave, MustLeave, Gone, MayBy}
+use Rattle.con_machine.specs.History.{run}
+use Rattle.con_machine.specs.Rounds.{Begun, IsTurn, client_at}
+use Rattle.con_machine.specs.State.{State}
+use Rattle.con_machine.specs.Step.{is_ready}
+use Rattle.con_session.specs.Desk.{Enters, Rests}
+use Rattle.con_session.specs.Standing.{ClientStands}
+use Rattle.con_session.specs.declared.worker.Worker.{Worker}
+
+abbrev pub IsStance : Stance → Bool → Bool → Type 0
+IsStance GoesOn leaving gone = (leaving ≡ false) × (gone ≡ false)
+IsStance MayLeave leaving gone = gone ≡ false
+IsStance MustLeave leaving gone = (leaving ≡ true) × (gone ≡ false)
+IsStance Gone leaving gone = gone ≡ true
+
+-- a call that adds or removes a handler
+abbrev pub is_handlers : Call → Bool
+is_handlers (calls.HandlerAdd place) = true
+is_handlers (calls.HandlerRemove place) = true
+is_handlers _ = false
+
+-- the handlers are those of the chain, unless one of them told nothing of its answers
+pub record HandsAre (hs : List Handler) (doubtful : Bool) (places : List ℕ) (ms : List Memory) : Type 0 where
+  pub places' : doubtful ≡ false → map (λ h. h.place) hs ≡ places
+  pub kinds : doubtful ≡ false → map (λ h. h.kind) hs ≡ map (λ m. m.kind) ms
+  pub asked : doubtful ≡ false → map (λ h. h.asked) hs ≡ map (λ m. m.asked) ms
+  pub known : doubtful ≡ false → list_all (λ m. nat_lt 0 m.kind) ms ≡ true
+
+-- a client as its worker keeps it
+pub record IsWorker (c : Client) (steps : List Step) (w : Worker) : Type 0 where
+  pub left : c.left ≡ drop w.at steps
+  pub reading : c.reading ≡ w.reading
+  pub stance : IsStance c.stance w.leaving w.gone
+
+-- a client, its worker and the console behind a history
+pub record ClientIs (b : Begun) (p : ℕ) (s : State) (h : List Entry) (steps : List Step) (w : Worker) : Type 0 where
+  pub state : s ≡ run b.state h
+  pub stands : ClientStands b h p
+  pub worker : IsWorker (client_at b h p) steps w
+
+-- the chain is as before
+pub record Keeps (c d : Client) : Type 0 where
+  pub chain : d.chain ≡ c.chain
+  pub doubtful : d.doubtful ≡ c.doubtful
+
+-- the client entered the event of its turn, which it may enter
+pub record Acts (b : Begun) (p : ℕ) (s t : State) (h g : List Entry) (rs qs : List Reply) : Type 0 where
+  pub event : Event
+  pub enters : Enters s t h g rs qs (actors.Client p) event
+  pub ready : is_ready s (actors.Client p) event ≡ true
+  pub may : MayBy (client_at b h p).stance (client_at b h p) event
+  pub turn : IsTurn b h (actors.Client p) (Some event)
+
+-- a turn of a client: false where it has nothing to do; where there is no memory, it may have entered its event
+abbrev pub ClientTurn : Result Bool OutOfMemory → Begun → ℕ → State → State → List Entry → List Entry → List Reply → List Reply → List Step → Worker → Type 0
+ClientTurn (Ok true) b p s t h g rs qs steps w = Acts b p s t h g rs qs × IsWorker (client_at b g p) steps w × Keeps (client_at b h p) (client_at b g p)
+ClientTurn (Ok false) b p s t h g rs qs steps w = Rests s t h g rs qs × IsTurn b h (actors.Client p) None × IsWorker (client_at b h p) steps w
+ClientTurn (Err e) b p s t h g rs qs steps w = Rests s t h g rs qs ⊎ Acts b p s t h g rs qs
+
+-- a turn of a client with its handlers
+abbrev pub HandsTurn : Result Bool OutOfMemory → Begun → ℕ → State → State → List Entry → List Entry → List Reply → List Reply → List Step → Worker → List ℕ → List Memory → Type 0
+HandsTurn (Ok true) b p s t h g rs qs steps w places ms = Acts b p s t h g rs qs × IsWorker (client_at b g p) steps w × HandsAre (client_at b g p).chain (client_at b g p).doubtful places ms
+HandsTurn (Ok false) b p s t h g rs qs steps w places ms = Rests s t h g rs qs × IsTurn b h (actors.Client p) None × IsWorker (client_at b h p) steps w × HandsAre (client_at b h p).chain (client_at b h p).doubtful places ms
+HandsTurn (Err e) b p s t h g rs qs steps w places ms = Rests s t h g rs qs ⊎ Acts b p s t h g rs qs

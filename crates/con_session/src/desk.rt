@@ -1,0 +1,115 @@
+//! A console with its history.
+ghost use Rattle.std.specs.Prelude.{◌≡◌, true, false, IfOk, OnErr};
+ghost use Rattle.con_units.specs.Limits.{IsWindow};
+ghost use Rattle.con_units.specs.View.{IsWhole};
+ghost use Rattle.con_machine.specs.Marks.{AreMarks};
+ghost use Rattle.con_machine.specs.Step.{is_ready, step};
+ghost use Rattle.con_session.specs.Desk.{brief_of, listed, is_painter, Enters, Rests, Ran};
+ghost use Rattle.con_session.specs.Painting.{Pictures};
+
+use con_events::{Actor, Entry, Event, Reply};
+use con_machine::Console;
+use con_units::{Marks, OutOfMemory, View};
+
+/// A console, and what was entered and answered so far. A Paint counts as answered by Done.
+#[derive(Drop)]
+pub struct Desk {
+    pub console: Console,
+    pub entries: Vec<Entry>,
+    pub replies: Vec<Reply>,
+}
+
+/// What a client looks at in a reply.
+#[derive(Clone, Copy, PartialEq, Eq, Debug)]
+pub enum Brief {
+    /// An answer.
+    Fine,
+    /// A refusal.
+    Refused,
+    /// A control event was taken.
+    Ctrl(u32),
+}
+
+/// What a painter is to paint.
+#[derive(Drop)]
+pub struct Picture {
+    pub view: View,
+    /// The rows that may differ from the view at the Paint before.
+    pub marks: Marks,
+    /// Nothing was painted on a terminal of this size.
+    pub fresh: bool,
+}
+
+fn brief_for(reply: &Reply) -> Brief
+    ensures { result ≡ brief_of reply.now }
+{
+    match reply {
+        Reply::Fail(_) => Brief::Refused,
+        Reply::Ctrl(event) => Brief::Ctrl(*event),
+        _ => Brief::Fine,
+    }
+}
+
+fn as_listed(reply: Reply) -> Reply
+    ensures { result ≡ listed reply }
+{
+    match reply {
+        Reply::View(_, _, _) => Reply::Done,
+        other => other,
+    }
+}
+
+impl Desk {
+    /// Enters an event of a client or of the terminal's side. Where there is no memory nothing was entered.
+    pub fn enter(&mut self, actor: Actor, event: Event) -> Result<Brief, OutOfMemory>
+        requires ready { is_ready self.old.console.state actor event ≡ true }
+        requires other { is_painter actor ≡ false }
+        ensures ran { Ran self.old.console.state self.new.console.state self.old.entries.items self.new.entries.items }
+        ensures entered { IfOk result (λ brief. Enters self.old.console.state self.new.console.state self.old.entries.items self.new.entries.items self.old.replies.items self.new.replies.items actor event) }
+        ensures brief { IfOk result (λ brief. brief ≡ brief_of (step self.old.console.state actor event).reply) }
+        ensures same { OnErr result (Rests self.old.console.state self.new.console.state self.old.entries.items self.new.entries.items self.old.replies.items self.new.replies.items) }
+    {
+        if self.entries.reserve(1).is_err() {
+            return Err(OutOfMemory);
+        }
+        if self.replies.reserve(1).is_err() {
+            return Err(OutOfMemory);
+        }
+        let room = self.console.prepare(actor, &event)?;
+        let reply = self.console.apply(actor, &event, room);
+        let brief = brief_for(&reply);
+        self.entries.push_reserved(Entry { actor, event });
+        self.replies.push_reserved(as_listed(reply));
+        Ok(brief)
+    }
+
+    /// Enters a Paint. Where there is no memory nothing was entered.
+    pub fn paint(&mut self) -> Result<Picture, OutOfMemory>
+        requires { is_ready self.old.console.state Actor.Painter Event.Paint ≡ true }
+        ensures entered { IfOk result (λ picture. Enters self.old.console.state self.new.console.state self.old.entries.items self.new.entries.items self.old.replies.items self.new.replies.items Actor.Painter Event.Paint) }
+        ensures pictures { IfOk result (λ picture. Pictures picture.view picture.fresh self.old.console.state) }
+        ensures whole { IfOk result (λ picture. IsWhole picture.view) }
+        ensures window { IfOk result (λ picture. IsWindow picture.view.size.w picture.view.size.h) }
+        ensures marks { IfOk result (λ picture. AreMarks self.old.console.state picture.marks) }
+        ensures same { OnErr result (Rests self.old.console.state self.new.console.state self.old.entries.items self.new.entries.items self.old.replies.items self.new.replies.items) }
+    {
+        if self.entries.reserve(1).is_err() {
+            return Err(OutOfMemory);
+        }
+        if self.replies.reserve(1).is_err() {
+            return Err(OutOfMemory);
+        }
+        let actor = Actor::Painter;
+        let event = Event::Paint;
+        let room = self.console.prepare(actor, &event)?;
+        self.console.view_is_whole();
+        match self.console.apply(actor, &event, room) {
+            Reply::View(view, marks, fresh) => {
+                self.entries.push_reserved(Entry { actor, event });
+                self.replies.push_reserved(Reply::Done);
+                Ok(Picture { view, marks, fresh })
+            }
+            _ => unreachable!(),
+        }
+    }
+}

@@ -1,0 +1,115 @@
+//! The painter's turn: a Paint, its frame, and the frame's bytes to the terminal.
+ghost use Rattle.std.specs.Prelude.{◌≡◌, ℕ, ◌+◌, ◌<◌, true, false, Bool, List, length, slice_index_or, IfOk, Option, if◌then◌else◌};
+ghost use Rattle.con_units.specs.Limits.{IsWindow};
+ghost use Rattle.con_units.specs.View.{IsWhole, row_of};
+ghost use Rattle.con_units.specs.declared.place.Size.{Size};
+ghost use Rattle.con_term.specs.Terminal.{Terminal};
+ghost use Rattle.con_paint.specs.Painter.{Allows, IsShown, Paints, unpainted};
+ghost use Rattle.con_machine.specs.History.{run};
+ghost use Rattle.con_machine.specs.Rounds.{Begun};
+ghost use Rattle.con_machine.specs.Turns.{paints};
+ghost use Rattle.con_session.specs.Painting.{CanvasIs, IsTied, PainterActs, PaintTurn};
+ghost use Rattle.con_session.specs.Sender.{FailsBy};
+
+use crate::desk::{Desk, Picture};
+use con_events::{Actor, Event};
+use con_outside::{Fault, Sink, write_whole};
+use con_paint::{Painter, room_for};
+use con_units::{OutOfMemory, Size};
+
+/// The painter, its frame's bytes, and where each frame ends in the stream.
+#[derive(Drop)]
+pub struct Canvas {
+    pub painter: Painter,
+    pub out: Vec<u8>,
+    pub ends: Vec<u64>,
+    /// How many bytes the frames have.
+    pub end: u64,
+    /// The terminal has failed.
+    pub failed: bool,
+}
+
+// A painter that knows nothing, where nothing is known of the terminal.
+fn ready_for(painter: &mut Painter, size: Size, fresh: bool) -> Result<(), OutOfMemory>
+    requires { IsWindow size.w size.h }
+    ensures { IfOk result (λ _. painter.new ≡ (if fresh then unpainted size.w size.h else painter.old)) }
+{
+    if fresh {
+        painter.resize(size)?;
+        return Ok(());
+    }
+    Ok(())
+}
+
+// A frame of the picture.
+fn frame(painter: &mut Painter, out: &mut Vec<u8>, picture: &Picture) -> Result<(), OutOfMemory>
+    requires whole { IsWhole picture.now.view }
+    requires window { IsWindow picture.now.view.size.w picture.now.view.size.h }
+    requires marks { length picture.now.marks ≡ picture.now.view.size.h }
+    requires size { picture.now.fresh ≡ false → (picture.now.view.size.w ≡ painter.old.w) × (picture.now.view.size.h ≡ painter.old.h) }
+    requires marked { picture.now.fresh ≡ false → (y : ℕ) → y < painter.old.h → slice_index_or picture.now.marks y false ≡ false → row_of painter.old.w picture.now.view.rows y ≡ row_of painter.old.w painter.old.cells y }
+    ensures paints { IfOk result (λ _. (t : Terminal) → Allows (if picture.now.fresh then unpainted picture.now.view.size.w picture.now.view.size.h else painter.old) t
+        → Paints (if picture.now.fresh then unpainted picture.now.view.size.w picture.now.view.size.h else painter.old) painter.new picture.now.view out.new.items t) }
+    ensures shown { IfOk result (λ _. IsShown painter.new picture.now.view) }
+    ensures size { IfOk result (λ _. (painter.new.w ≡ picture.now.view.size.w) × (painter.new.h ≡ picture.now.view.size.h)) }
+{
+    let size = picture.view.size;
+    out.clear();
+    if out.reserve(room_for(size)).is_err() {
+        return Err(OutOfMemory);
+    }
+    ready_for(painter, size, picture.fresh)?;
+    painter.paint(&picture.view, &picture.marks, out);
+    Ok(())
+}
+
+fn length_of(out: &Vec<u8>) -> usize
+    ensures { result ≡ length out.now.items }
+{
+    out.as_slice().len()
+}
+
+fn and_after(end: u64, more: usize) -> Result<u64, OutOfMemory>
+    ensures { IfOk result (λ n. n ≡ end + more) }
+{
+    match end.checked_add(more as u64) {
+        Some(n) => Ok(n),
+        None => Err(OutOfMemory),
+    }
+}
+
+/// A turn of the painter: a Paint with its frame, where one is ready and the terminal has not failed. False: none was entered.
+pub fn painter_turn<O: Sink>(
+    desk: &mut Desk,
+    canvas: &mut Canvas,
+    term: &mut O,
+) -> Result<bool, OutOfMemory>
+    requires { IsTied desk.old.console.state canvas.old.painter }
+    ensures acts { (b : Begun) → desk.old.console.state ≡ run b.state desk.old.entries.items → FailsBy canvas.old.failed b.failed (paints desk.old.entries.items) → PainterActs result b desk.old.entries.items }
+    ensures turn { (b : Begun) (size : Size) (before : Option (List ℕ)) (ps : List (List ℕ)) → desk.old.console.state ≡ run b.state desk.old.entries.items
+        → CanvasIs b desk.old.entries.items size canvas.old.painter ps canvas.old.ends.items canvas.old.end before (O.written term.old) canvas.old.failed
+        → PaintTurn result b desk.old.console.state desk.new.console.state desk.old.entries.items desk.new.entries.items desk.old.replies.items desk.new.replies.items size canvas.new.painter ps canvas.new.ends.items canvas.new.end before (O.written term.new) canvas.new.failed }
+{
+    if canvas.failed {
+        return Ok(false);
+    }
+    if !desk.console.ready(Actor::Painter, &Event::Paint) {
+        return Ok(false);
+    }
+    if canvas.ends.reserve(1).is_err() {
+        return Err(OutOfMemory);
+    }
+    let picture = desk.paint()?;
+    frame(&mut canvas.painter, &mut canvas.out, &picture)?;
+    let end = and_after(canvas.end, length_of(&canvas.out))?;
+    canvas.end = end;
+    canvas.ends.push_reserved(end);
+    match write_whole(term, canvas.out.as_slice()) {
+        Ok(()) => Ok(true),
+        Err(Fault::Failed) => {
+            canvas.failed = true;
+            Ok(true)
+        }
+        Err(Fault::OutOfMemory) => Err(OutOfMemory),
+    }
+}

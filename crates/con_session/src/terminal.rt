@@ -1,0 +1,96 @@
+//! The terminal's side: one frame a turn.
+ghost use Rattle.std.specs.Prelude.{◌≡◌, ◌⊎◌, ℕ, Bool, true, false, List, ◌≤◌, Option, Err, IfOk, OnErr};
+ghost use Rattle.con_outside.specs.Outside.{Rose, then_left};
+ghost use Rattle.con_link.specs.Frames.{ends_link};
+ghost use Rattle.con_machine.specs.Follows.{sent_by};
+ghost use Rattle.con_machine.specs.Rounds.{Begun};
+ghost use Rattle.con_machine.specs.Turns.{has_ended, paints, sent};
+ghost use Rattle.con_session.specs.Desk.{Ran};
+ghost use Rattle.con_session.specs.Sender.{end_for, FailsBy, LinkIs, SenderTurn};
+
+use crate::desk::Desk;
+use con_events::{Actor, End, Event};
+use con_link::{LinkFault, LinkReader};
+use con_outside::Source;
+use con_units::{Frame, OutOfMemory};
+
+/// The terminal's side: whether it has ended, and how the session ends where a fault of the link ended it.
+#[derive(Clone, Copy, PartialEq, Eq, Debug)]
+pub struct Side {
+    pub ended: bool,
+    pub end: End,
+}
+
+fn ends(frame: &Frame) -> bool
+    ensures { result ≡ ends_link frame.now }
+{
+    matches!(frame, Frame::End | Frame::Hangup)
+}
+
+fn event_for(frame: Frame) -> Event
+    ensures { result ≡ sent_by frame }
+{
+    match frame {
+        Frame::Bytes(bytes) => Event::Feed(bytes),
+        Frame::Quiet => Event::Quiet,
+        Frame::Resize(size) => Event::Resize(size),
+        Frame::Ask => Event::Ask,
+        Frame::Hangup => Event::Hangup,
+        Frame::End => Event::Drained,
+    }
+}
+
+/// How a session ends where no frame was read.
+fn end_by(fault: LinkFault) -> End
+    ensures { result ≡ end_for fault }
+{
+    match fault {
+        LinkFault::Failed => End::Link,
+        LinkFault::TooLong => End::TooLong,
+        LinkFault::Bad { place, kind } => End::Bad { place, kind },
+        LinkFault::OutOfMemory => End::Memory,
+    }
+}
+
+/// One turn of the terminal's side: the event of a frame, or a hangup where the terminal has failed and where a frame is
+/// not read. False: it had ended.
+pub fn terminal_turn<I: Source>(
+    desk: &mut Desk,
+    reader: &mut LinkReader,
+    link: &mut I,
+    side: &mut Side,
+    failed: bool,
+) -> Result<bool, OutOfMemory>
+    requires few { side.old.ended ≡ false → reader.old ≤ 16777216 }
+    requires answered { (desk.old.console.state.asked ≡ false) ⊎ (failed ≡ true) }
+    ensures ran { Ran desk.old.console.state desk.new.console.state desk.old.entries.items desk.new.entries.items }
+    ensures turn { (b : Begun) → FailsBy failed b.failed (paints desk.old.entries.items) → has_ended false (sent desk.old.entries.items) ≡ side.old.ended
+        → SenderTurn result b desk.old.console.state desk.new.console.state desk.old.entries.items desk.new.entries.items desk.old.replies.items desk.new.replies.items }
+    ensures link { IfOk result (λ _. (before : Option (List ℕ)) → LinkIs desk.old.entries.items side.old failed before (I.left link.old) reader.old → LinkIs desk.new.entries.items side.new failed before (I.left link.new) reader.new) }
+    ensures failed { side.new.end ≡ End.Link → (side.old.end ≡ End.Link) ⊎ Rose (I.faults link.old) (I.faults link.new) }
+    ensures never_falls { I.faults link.old ≤ I.faults link.new }
+{
+    if side.ended {
+        return Ok(false);
+    }
+    if failed {
+        desk.enter(Actor::Terminal, Event::Hangup)?;
+        side.ended = true;
+        return Ok(true);
+    }
+    match reader.next(link) {
+        Ok(frame) => {
+            let ends = ends(&frame);
+            desk.enter(Actor::Terminal, event_for(frame))?;
+            side.ended = ends;
+            Ok(true)
+        }
+        Err(LinkFault::OutOfMemory) => Err(OutOfMemory),
+        Err(fault) => {
+            desk.enter(Actor::Terminal, Event::Hangup)?;
+            side.ended = true;
+            side.end = end_by(fault);
+            Ok(true)
+        }
+    }
+}
