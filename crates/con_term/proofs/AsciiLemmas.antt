@@ -7,7 +7,8 @@ use Rattle.std.proofs.lemmas.Bool.Decides.{nat_tests}
 use Rattle.con_units.specs.Split.{split, with_items, split_after}
 use Rattle.con_units.specs.ReadLaws.{read_so}
 use Rattle.con_units.specs.Utf8.{utf8, is_cut_character}
-use Rattle.con_vtgram.specs.Plain.{is_plain, PlainIsPrinted}
+use Rattle.con_units.specs.Plain.{is_plain}
+use Rattle.con_vtgram.specs.Plain.{PlainIsPrinted}
 use Rattle.con_vtgram.specs.declared.item.Item.TheVariants.{Print}
 use Rattle.con_term.specs.Page.{Page}
 use Rattle.con_term.specs.Effect.{effect}

@@ -2,7 +2,7 @@
 ghost use Rattle.std.specs.Prelude.{IfOk, ◌≡◌, ◌+◌, ◌-◌, ◌<◌, ◌≤◌, ◌++◌, length, take, drop, map, replicate, slice_set, true};
 ghost use Rattle.std.specs.List.{list_all};
 ghost use Rattle.con_units.specs.Glyph.{cell_of};
-ghost use Rattle.con_vtgram.specs.Plain.{is_plain};
+ghost use Rattle.con_units.specs.Plain.{is_plain};
 ghost use Rattle.con_term.specs.Page.{filled};
 ghost use Rattle.con_term.specs.Run.{pasted};
 

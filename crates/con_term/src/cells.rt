@@ -1,7 +1,7 @@
 //! Cells in a row.
 ghost use Rattle.std.specs.Prelude.{◌≡◌, ◌+◌, ◌≤◌, ◌<◌, ◌++◌, length, take, drop, map, replicate, [], true, vec_capacity};
 ghost use Rattle.con_units.specs.Glyph.{cell_of};
-ghost use Rattle.con_vtgram.specs.Plain.{is_plain as is_plain_unit};
+ghost use Rattle.con_units.specs.Plain.{is_plain as is_plain_unit};
 ghost use Rattle.std.specs.List.{list_all};
 ghost use Rattle.con_term.specs.Page.{filled};
 ghost use Rattle.con_term.specs.Run.{pasted};

@@ -2,7 +2,7 @@
 ghost use Rattle.std.specs.Prelude.{IfOk, ◌≡◌, ℕ, ◌≤◌, ◌<◌, ◌*◌, ◌^◌, length, [], vec_capacity, true, take, fold, option_to_list, min, ◌+◌, ◌-◌, ◌==◌};
 ghost use Rattle.con_term.specs.Terminal.{view_of};
 ghost use Rattle.con_term.specs.Run.{all_printed};
-ghost use Rattle.con_vtgram.specs.Plain.{is_plain};
+ghost use Rattle.con_units.specs.Plain.{is_plain};
 ghost use Rattle.con_vtgram.specs.State.{item_of};
 ghost use Rattle.con_vtgram.specs.declared.item.Item.TheVariants as Item;
 ghost use Rattle.std.specs.List.{list_all};

@@ -8,7 +8,8 @@ use Rattle.con_units.specs.Split.{split, split_after, with_items}
 use Rattle.con_units.specs.ReadLaws.{read_so}
 use Rattle.con_vtgram.specs.Text.{grammar, is_front, whole, is_acting}
 use Rattle.con_vtgram.specs.Spoken.{spoken}
-use Rattle.con_vtgram.specs.Plain.{is_plain, spoken_print, PlainIsPrinted}
+use Rattle.con_units.specs.Plain.{is_plain}
+use Rattle.con_vtgram.specs.Plain.{spoken_print, PlainIsPrinted}
 use Rattle.con_vtgram.specs.declared.item.Item.TheVariants.{Print}
 
 no_escape : (u : ℕ) → is_plain u ≡ true → (u == 0x1B) ≡ false

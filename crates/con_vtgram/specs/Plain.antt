@@ -1,15 +1,11 @@
 -- Printable ASCII.
-use Rattle.std.specs.Prelude.{◌≡◌, ℕ, Bool, true, List, [], map}
-use Rattle.std.specs.Int.{is_in_range}
+use Rattle.std.specs.Prelude.{◌≡◌, ℕ, true, List, [], map}
 use Rattle.std.specs.List.{list_all}
+use Rattle.con_units.specs.Plain.{is_plain}
 use Rattle.con_units.specs.Split.{split}
 use Rattle.con_vtgram.specs.Text.{grammar}
 use Rattle.con_vtgram.specs.Spoken.{Spoken, spoken}
 use Rattle.con_vtgram.specs.declared.item.Item.TheVariants as items
-
--- SPACE to ~
-abbrev pub is_plain : ℕ → Bool
-is_plain u = is_in_range 0x20 0x7E u
 
 abbrev pub spoken_print : ℕ → Spoken
 spoken_print u = record { item = items.Print u; title = [] }

@@ -1,7 +1,8 @@
 //! Runs of printable ASCII.
 ghost use Rattle.std.specs.Prelude.{◌≡◌, ◌<◌, ◌≤◌, true, false, take, length, slice_index};
 ghost use Rattle.std.specs.List.{list_all};
-ghost use Rattle.con_vtgram.specs.Plain.{is_plain as is_plain_unit, PlainIsPrinted};
+ghost use Rattle.con_units.specs.Plain.{is_plain as is_plain_unit};
+ghost use Rattle.con_vtgram.specs.Plain.{PlainIsPrinted};
 
 /// Whether the unit is printable ASCII, SPACE to `~`.
 pub fn is_plain(unit: u16) -> bool

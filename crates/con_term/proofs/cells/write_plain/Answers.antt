@@ -1,7 +1,7 @@
 -- One more cell.
 use Rattle.std.proofs.Common.{arith, refl, sym, ◌∙◌}
 use Rattle.con_units.specs.Glyph.{cell_of}
-use Rattle.con_vtgram.specs.Plain.{is_plain}
+use Rattle.con_units.specs.Plain.{is_plain}
 use Rattle.con_term.proofs.FillLemmas.{written_more, written_none, all_more}
 use Rattle.con_term.proofs.cells.write_plain.Goals as goal
 

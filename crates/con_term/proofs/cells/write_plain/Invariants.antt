@@ -2,7 +2,7 @@
 use Rattle.std.proofs.Common.{◌≡◌, ◌≤◌, ◌-◌, true, take, map}
 use Rattle.std.specs.List.{list_all}
 use Rattle.con_units.specs.Glyph.{cell_of}
-use Rattle.con_vtgram.specs.Plain.{is_plain}
+use Rattle.con_units.specs.Plain.{is_plain}
 use Rattle.con_term.specs.Run.{pasted}
 use Rattle.con_term.proofs.cells.write_plain.Given as goal
 
