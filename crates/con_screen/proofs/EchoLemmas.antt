@@ -15,7 +15,8 @@ use Rattle.con_units.specs.Natural.{natural}
 use Rattle.con_grid.specs.Picture.{filled, units_put, written_over, glyphs_of, lifted, part_lifted}
 use Rattle.con_screen.specs.Page.{Page, IsPage, attr, blank, shown}
 use Rattle.con_screen.specs.Alternate.{sides}
-use Rattle.con_screen.specs.Echo.{origin_in, origin_after, cursor_at, rows_above, rows_past, scrolled, fallen, ruled, drawn_by, first_difference, texts_rule, part_rule, changed, echoed, part_echoed, ended}
+use Rattle.con_units.specs.Units.{first_difference}
+use Rattle.con_screen.specs.Echo.{origin_in, origin_after, cursor_at, rows_above, rows_past, scrolled, fallen, ruled, drawn_by, texts_rule, part_rule, changed, echoed, part_echoed, ended}
 use Rattle.con_screen.proofs.SidesLemmas.{down_in_sides}
 use Rattle.con_screen.specs.Screen.{Screen}
 use Rattle.con_screen.specs.declared.origin.Origin.{Origin}

@@ -21,7 +21,8 @@ use Rattle.con_screen.specs.Done.{Done, DoneSome}
 use Rattle.con_screen.specs.Parts.{has_sequences}
 use Rattle.con_screen.specs.Screen.{Screen}
 use Rattle.con_screen.specs.Written.{spoken_alone, split_in, Heard, heard, Stage, written, any_switch, switches}
-use Rattle.con_screen.specs.Run.{is_printable, CanRun, run_cells, ran}
+use Rattle.con_units.specs.Plain.{is_plain}
+use Rattle.con_screen.specs.Run.{CanRun, run_cells, ran}
 use Rattle.con_screen.specs.declared.mode.Mode.{Mode}
 use Rattle.con_screen.proofs.WriteLemmas.{split_after-append, written-append, switches-append, Stands, MoreSome}
 
@@ -30,38 +31,38 @@ both true b h = (refl, h)
 both false b h = cc
 
 -- one printable unit
-not_acting : (u : ℕ) → is_printable u ≡ true → is_acting u ≡ false
+not_acting : (u : ℕ) → is_plain u ≡ true → is_acting u ≡ false
 not_acting u h = grind (arith, nat_tests)
 
-not_control : (u : ℕ) → is_printable u ≡ true → is_control u ≡ false
+not_control : (u : ℕ) → is_plain u ≡ true → is_control u ≡ false
 not_control u h = grind (arith, nat_tests)
 
-not_escape : (u : ℕ) → is_printable u ≡ true → (u == 0x1B) ≡ false
+not_escape : (u : ℕ) → is_plain u ≡ true → (u == 0x1B) ≡ false
 not_escape u h = grind (arith, nat_tests)
 
 abbrev printing : ℕ → Spoken
 printing u = spoken_by [] (items.Print u)
 
-next_printable : (u : ℕ) → is_printable u ≡ true → next spoken [] u ≡ record { items = printing u ∷ []; tail = [] }
+next_printable : (u : ℕ) → is_plain u ≡ true → next spoken [] u ≡ record { items = printing u ∷ []; tail = [] }
 unfolding next is_front whole
 next_printable u h = rw (not_escape u h, not_acting u h, not_control u h) refl
 
-split_after_printable : (us : List ℕ) → list_all is_printable us ≡ true → split_after spoken [] us ≡ record { items = map printing us; tail = [] }
+split_after_printable : (us : List ℕ) → list_all is_plain us ≡ true → split_after spoken [] us ≡ record { items = map printing us; tail = [] }
 unfolding split_after
 split_after_printable [] h = refl
-split_after_printable (u ∷ us) h = let k = both (is_printable u) (list_all is_printable us) h in
+split_after_printable (u ∷ us) h = let k = both (is_plain u) (list_all is_plain us) h in
     split_after-append [] (u ∷ []) us ∙ rw (next_printable u k.0, split_after_printable us k.1) refl
 
-alone_printable : (m : Mode) (us : List ℕ) → list_all is_printable us ≡ true → map (spoken_alone m) us ≡ map printing us
+alone_printable : (m : Mode) (us : List ℕ) → list_all is_plain us ≡ true → map (spoken_alone m) us ≡ map printing us
 alone_printable m [] h = refl
-alone_printable m (u ∷ us) h = let k = both (is_printable u) (list_all is_printable us) h in
+alone_printable m (u ∷ us) h = let k = both (is_plain u) (list_all is_plain us) h in
     let e : spoken_alone m u ≡ printing u = rw (not_acting u k.0) (plain m.processed) in rw (e, alone_printable m us k.1) refl
   where
     plain : (b : Bool) → spoken_by [] (cond (b && false) (items.Control u) (items.Print u)) ≡ printing u
     plain true = refl
     plain false = refl
 
-split_printable : (m : Mode) (us : List ℕ) → list_all is_printable us ≡ true → split_in m [] us ≡ record { items = map printing us; tail = [] }
+split_printable : (m : Mode) (us : List ℕ) → list_all is_plain us ≡ true → split_in m [] us ≡ record { items = map printing us; tail = [] }
 unfolding split_in
 split_printable m us h = by_mode (has_sequences m)
   where
@@ -135,11 +136,11 @@ unfolding is_switch
 no_switch [] = refl
 no_switch (u ∷ us) = no_switch us
 
-pub run_written : (s : Screen) (t : Told) (us : List ℕ) → s.text ≡ [] → CanRun s.page (length us) → list_all is_printable us ≡ true → written s t us ≡ record { screen = record { page = ran s.page us; text = [] }; told = t }
+pub run_written : (s : Screen) (t : Told) (us : List ℕ) → s.text ≡ [] → CanRun s.page (length us) → list_all is_plain us ≡ true → written s t us ≡ record { screen = record { page = ran s.page us; text = [] }; told = t }
 unfolding written
 run_written s t us none can all = rw (none, split_printable s.page.mode us all, run_heard s.page t us can) refl
 
-pub run_switches : (s : Screen) (us : List ℕ) → s.text ≡ [] → list_all is_printable us ≡ true → switches s us ≡ false
+pub run_switches : (s : Screen) (us : List ℕ) → s.text ≡ [] → list_all is_plain us ≡ true → switches s us ≡ false
 unfolding switches
 run_switches s us none all = rw (none, split_printable s.page.mode us all) (no_switch us)
 
@@ -167,7 +168,7 @@ unfolding ran
 ran_put p us at a ok can at_is a_is = rw (at_is, a_is, run_cells_put p.grid.cells (place p) (attr p) us (run_inside p (length us) ok can)) refl
 
 -- several units, as code has them
-pub run_done : (s : Screen) (a b : Answered) (us : List ℕ) (page : Page) → s.text ≡ [] → CanRun s.page (length us) → list_all is_printable us ≡ true → page ≡ ran s.page us → b ≡ record a { room = a.room - length us } → DoneSome s a us page s.text b false
+pub run_done : (s : Screen) (a b : Answered) (us : List ℕ) (page : Page) → s.text ≡ [] → CanRun s.page (length us) → list_all is_plain us ≡ true → page ≡ ran s.page us → b ≡ record a { room = a.room - length us } → DoneSome s a us page s.text b false
 run_done s a b us page none can all page_is told_is = let e = run_written s a.told us none can all in record {
   page_is = page_is ∙ sym (ap (λ (g : Stage). g.screen.page) e);
   tail_is = none ∙ sym (ap (λ (g : Stage). g.screen.text) e);
@@ -212,7 +213,7 @@ pub take_one : (us : List ℕ) → 0 < length us → take 1 us ≡ get_or us 0 0
 take_one [] h = absurd (omega arith)
 take_one (u ∷ us) h = refl
 
-pub run_some : (s : Screen) (a b : Answered) (units : List ℕ) (n : ℕ) (page : Page) → n ≤ length units → CanRun s.page n × (s.text ≡ []) → list_all is_printable (take n units) ≡ true → page ≡ ran s.page (take n units) → b ≡ record a { room = a.room - n }
+pub run_some : (s : Screen) (a b : Answered) (units : List ℕ) (n : ℕ) (page : Page) → n ≤ length units → CanRun s.page n × (s.text ≡ []) → list_all is_plain (take n units) ≡ true → page ≡ ran s.page (take n units) → b ≡ record a { room = a.room - n }
     → DoneSome s a (take n units) page s.text b false
 run_some s a b units n page le can all page_is told_is =
     let long : length (take n units) ≡ n = length-take-le n units le in

@@ -6,7 +6,7 @@ use Rattle.std.proofs.lemmas.Bool.{and_parts}
 use Rattle.std.proofs.lemmas.Bool.Decides.{nat_tests}
 use Rattle.std.proofs.lemmas.List.{take-take, take_all, length-take}
 use Rattle.std.proofs.lemmas.List.Folds.{list_all_more, list_all-append}
-use Rattle.con_screen.specs.Run.{is_printable}
+use Rattle.con_units.specs.Plain.{is_plain}
 
 wider : (us : List ℕ) (a b c d : ℕ) → c ≤ a → b ≤ d → list_all (is_in_range a b) us ≡ true → list_all (is_in_range c d) us ≡ true
 wider [] a b c d low high h = refl
@@ -23,20 +23,20 @@ between_more us i least most lt h =
     let last : is_in_range (min least u) (max most u) u ≡ true = grind (arith, nat_tests) in
     list_all_more (is_in_range (min least u) (max most u)) us i 0 lt ∙ rw (wider (take i us) least most (min least u) (max most u) (omega arith) (omega arith) h, last) refl
 
-pub between_printable : (us : List ℕ) (i least most : ℕ) → length us ≤ i → 0x20 ≤ least → nat_le most 0x7E ≡ true → list_all (is_in_range least most) (take i us) ≡ true → list_all is_printable us ≡ true
+pub between_printable : (us : List ℕ) (i least most : ℕ) → length us ≤ i → 0x20 ≤ least → nat_le most 0x7E ≡ true → list_all (is_in_range least most) (take i us) ≡ true → list_all is_plain us ≡ true
 between_printable us i least most whole low high h =
     let le : most ≤ 0x7E = grind (arith, nat_tests) in
     wider us least most 0x20 0x7E low le (ap (list_all (is_in_range least most)) (sym (take_all i us whole)) ∙ h)
 
 -- a part of the units that begins where others end
-pub printable_first : (us : List ℕ) (n m : ℕ) → n ≤ length (take m us) → list_all is_printable (take n (take m us)) ≡ true → list_all is_printable (take n us) ≡ true
-printable_first us n m le h = ap (list_all is_printable) (sym (take-take n m us (omega (arith, le, length-take m us)))) ∙ h
+pub printable_first : (us : List ℕ) (n m : ℕ) → n ≤ length (take m us) → list_all is_plain (take n (take m us)) ≡ true → list_all is_plain (take n us) ≡ true
+printable_first us n m le h = ap (list_all is_plain) (sym (take-take n m us (omega (arith, le, length-take m us)))) ∙ h
 
-pub printable_part : (us : List ℕ) (i n m : ℕ) → n ≤ length (take m (drop i us)) → list_all is_printable (take i us) ≡ true → list_all is_printable (take n (take m (drop i us))) ≡ true → list_all is_printable (take (i + n) us) ≡ true
+pub printable_part : (us : List ℕ) (i n m : ℕ) → n ≤ length (take m (drop i us)) → list_all is_plain (take i us) ≡ true → list_all is_plain (take n (take m (drop i us))) ≡ true → list_all is_plain (take (i + n) us) ≡ true
 printable_part us i n m le h k =
-    ap (list_all is_printable) (take-add i n us) ∙ list_all-append is_printable (take i us) (take n (drop i us)) ∙ rw (h, printable_first (drop i us) n m le k) refl
+    ap (list_all is_plain) (take-add i n us) ∙ list_all-append is_plain (take i us) (take n (drop i us)) ∙ rw (h, printable_first (drop i us) n m le k) refl
 
-pub printable_next : (us : List ℕ) (i n m : ℕ) → m ≡ n → i + n ≤ length us → list_all is_printable (take i us) ≡ true → list_all is_printable (take m (drop i us)) ≡ true → (i + n ≤ length us) × (list_all is_printable (take (i + n) us) ≡ true)
+pub printable_next : (us : List ℕ) (i n m : ℕ) → m ≡ n → i + n ≤ length us → list_all is_plain (take i us) ≡ true → list_all is_plain (take m (drop i us)) ≡ true → (i + n ≤ length us) × (list_all is_plain (take (i + n) us) ≡ true)
 printable_next us i n m e inside h k =
-    let part : list_all is_printable (take n (drop i us)) ≡ true = ap (λ j. list_all is_printable (take j (drop i us))) (sym e) ∙ k in
-    (inside, ap (list_all is_printable) (take-add i n us) ∙ list_all-append is_printable (take i us) (take n (drop i us)) ∙ rw (h, part) refl)
+    let part : list_all is_plain (take n (drop i us)) ≡ true = ap (λ j. list_all is_plain (take j (drop i us))) (sym e) ∙ k in
+    (inside, ap (list_all is_plain) (take-add i n us) ∙ list_all-append is_plain (take i us) (take n (drop i us)) ∙ rw (h, part) refl)

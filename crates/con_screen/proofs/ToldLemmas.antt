@@ -1,6 +1,6 @@
 -- What a text tells is within bounds.
 use Rattle.std.proofs.Common.{◌≡◌, ℕ, ◌+◌, ◌*◌, ◌≤◌, Bool, true, false, cond, ◌==◌, nat_lt, List, [], ◌∷◌, ◌++◌, map, length, refl, arith, length-append}
-use Rattle.std.specs.Prelude.{fold}
+use Rattle.std.specs.Prelude.{fold, ◌/◌, ◌%◌, if◌then◌else◌}
 use Rattle.std.proofs.lemmas.List.{length-map}
 use Rattle.con_vtgram.specs.declared.item.Csi.{Csi}
 use Rattle.con_vtgram.specs.declared.item.Item.{Item}
@@ -10,7 +10,8 @@ use Rattle.con_vtgram.specs.Spoken.{Spoken, spoken_by}
 use Rattle.con_units.specs.Split.{Split}
 use Rattle.con_screen.specs.Page.{Page}
 use Rattle.con_screen.specs.Effect.{first}
-use Rattle.con_screen.specs.Told.{Told, decimal, cursor_report, device_report, report_row, report_column, reported, plain_told, private_told, is_reset, csi_told, told_by, told_after, HasShortTitle}
+use Rattle.con_units.specs.Decimal.{decimal}
+use Rattle.con_screen.specs.Told.{Told, cursor_report, device_report, report_row, report_column, reported, plain_told, private_told, is_reset, csi_told, told_by, told_after, HasShortTitle}
 use Rattle.con_screen.specs.Parts.{has_sequences, item_alone}
 use Rattle.con_screen.specs.Written.{spoken_alone, split_in, split_on, Heard, heard, written}
 use Rattle.con_screen.specs.Laws.{IsToldWithin}
@@ -34,13 +35,15 @@ within_then m n t u v h k = record { reports = let a = h.reports in let b = k.re
 
 -- ---- an item
 
-short_if : (b : Bool) (n : ℕ) (x y : List ℕ) → length x ≤ n → length y ≤ n → length (cond b x y) ≤ n
-short_if true n x y h k = h
-short_if false n x y h k = k
+digits_short : (a b : Bool) (x y z : ℕ) → length ((if a then [] else x ∷ []) ++ (if b then [] else y ∷ []) ++ z ∷ []) ≤ 3
+digits_short true true x y z = omega arith
+digits_short true false x y z = omega arith
+digits_short false true x y z = omega arith
+digits_short false false x y z = omega arith
 
 decimal_short : (n : ℕ) → length (decimal n) ≤ 3
 unfolding decimal
-decimal_short n = short_if (nat_lt n 10) 3 _ _ (omega arith) (short_if (nat_lt n 100) 3 _ _ (omega arith) (omega arith))
+decimal_short n = digits_short (nat_lt n 100) (nat_lt n 10) (0x30 + n / 100) (0x30 + n / 10 % 10) (0x30 + n % 10)
 
 cursor_short : (row column : ℕ) → length (cursor_report row column) ≤ 10
 unfolding cursor_report

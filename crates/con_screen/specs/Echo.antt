@@ -1,8 +1,9 @@
 -- What a changed line does to the screen that it is typed on.
-use Rattle.std.specs.Prelude.{ℕ, ℤ, pos, negsuc, ◌≡◌, ◌+◌, ◌-◌, ◌+ℤ◌, ◌-ℤ◌, ◌*ℤ◌, ◌<ℤ◌, ◌↔◌, ◌<◌, ◌≤◌, ◌*◌, ◌/◌, ◌%◌, false, nat_eq, nat_lt, List, length, map, take, drop, slice_index, slice_index_or, None, if◌then◌else◌}
-use Rattle.std.specs.List.{range_with_len, common_prefix_len}
+use Rattle.std.specs.Prelude.{ℕ, ℤ, pos, negsuc, ◌≡◌, ◌+◌, ◌-◌, ◌+ℤ◌, ◌-ℤ◌, ◌*ℤ◌, ◌<ℤ◌, ◌↔◌, ◌<◌, ◌≤◌, ◌*◌, ◌/◌, ◌%◌, false, nat_lt, List, length, map, take, drop, slice_index, slice_index_or, None, if◌then◌else◌}
+use Rattle.std.specs.List.{range_with_len}
 use Rattle.con_units.specs.Natural.{natural}
 use Rattle.con_units.specs.Glyph.{Glyph, cell_of}
+use Rattle.con_units.specs.Units.{first_difference}
 use Rattle.con_screen.specs.Page.{Page, attr, blank, with_cells, rows_up, down_in, shown}
 use Rattle.con_screen.specs.Fit.{within}
 use Rattle.con_screen.specs.Screen.{Screen}
@@ -59,10 +60,6 @@ ruled p o rule i was =
 -- each cell of the buffer by a rule
 unfoldable pub drawn_by : Page → Origin → (ℕ → Glyph → Glyph) → Page
 drawn_by p o rule = with_cells p (map (λ i. ruled p o rule i (slice_index_or p.grid.cells i (blank p))) (range_with_len 0 (length p.grid.cells)))
-
--- the first place at which two texts differ
-abbrev pub first_difference : List ℕ → List ℕ → ℕ
-first_difference = common_prefix_len nat_eq
 
 -- The places from the first difference to the new length show the new units, those from there to the old length are
 -- blank, and the others stay.

@@ -1,6 +1,7 @@
 //! What a write tells beside the screen.
 ghost use Rattle.std.specs.Prelude.{◌≡◌, ℕ, ◌+◌, ◌-◌, ◌*◌, ◌<◌, ◌≤◌, ◌++◌, ◌∷◌, [], Some, None, IsSome, IsTrue, ◌↔◌, IfOk, OnOk, OnErr, max, vec_len, vec_capacity, length};
-ghost use Rattle.con_screen.specs.Told.{Told, Answered, nothing_told, decimal, cursor_report, device_report, reported};
+ghost use Rattle.con_units.specs.Decimal.{decimal};
+ghost use Rattle.con_screen.specs.Told.{Told, Answered, nothing_told, cursor_report, device_report, reported};
 
 use con_units::OutOfMemory;
 use std::alloc::Global;
@@ -18,7 +19,8 @@ pub struct Answers {
 }
 
 impl Model for Answers {
-    ghost use Rattle.con_screen.specs.Told.{Answered};
+    ghost use Rattle.con_units.specs.Decimal.{decimal};
+ghost use Rattle.con_screen.specs.Told.{Answered};
 
     ghost Value = { Answered };
 
@@ -29,7 +31,7 @@ impl Model for Answers {
     ghost invariant = { HaveRoom };
 }
 
-#[tactic(auto, unfolding(crate::specs::Told::decimal))]
+#[tactic(auto, unfolding(con_units::specs::Decimal::decimal))]
 fn put_number(out: &mut Vec<u16>, n: u16)
     requires small { n < 1000 }
     requires room { vec_len out.old + 3 ≤ vec_capacity out.old }

@@ -10,7 +10,8 @@ ghost use Rattle.con_screen.specs.Parts as parts;
 ghost use Rattle.con_screen.specs.Page.{IsPage};
 ghost use Rattle.con_screen.specs.Done.{Done, DoneSome};
 ghost use Rattle.con_screen.specs.Completed.{effect_if, told_if, switch_if};
-ghost use Rattle.con_screen.specs.Run.{is_printable, CanRun};
+ghost use Rattle.con_units.specs.Plain.{is_plain};
+ghost use Rattle.con_screen.specs.Run.{CanRun};
 ghost use Rattle.con_screen.specs.Effect.{effect};
 
 use crate::answers::Answers;
@@ -38,7 +39,7 @@ fn greater(a: u16, b: u16) -> u16
 
 // Whether all units are printable. The least and the greatest of them are found many units at a time.
 fn are_printable(units: &[u16]) -> bool
-    ensures { result ≡ true → list_all is_printable units.now ≡ true }
+    ensures { result ≡ true → list_all is_plain units.now ≡ true }
 {
     let mut least = 0xFFFF;
     let mut most = 0;
@@ -52,7 +53,7 @@ fn are_printable(units: &[u16]) -> bool
 // How many units at the front are printable, in whole blocks.
 fn printable_blocks(units: &[u16]) -> usize
     ensures count { result ≤ length units.now }
-    ensures all { list_all is_printable (take result units.now) ≡ true }
+    ensures all { list_all is_plain (take result units.now) ≡ true }
 {
     let mut at = 0;
     while at + BLOCK <= units.len() {
@@ -68,7 +69,7 @@ fn printable_blocks(units: &[u16]) -> usize
 pub(crate) fn printable_front(units: &[u16], limit: usize) -> usize
     ensures count { result ≤ length units.now }
     ensures limit { result ≤ limit }
-    ensures all { list_all is_printable (take result units.now) ≡ true }
+    ensures all { list_all is_plain (take result units.now) ≡ true }
 {
     let limit = limit.min(units.len());
     let near = plain_count(&units[..limit.min(SHORT)]);
@@ -276,7 +277,7 @@ pub(crate) fn run_length(page: &Page, text: &Splitter, units: &[u16]) -> usize
     requires some { 0 < length units.now }
     ensures count { result ≤ length units.now }
     ensures run { 0 < result → CanRun page.now result × (text.now.tail ≡ []) }
-    ensures all { list_all is_printable (take result units.now) ≡ true }
+    ensures all { list_all is_plain (take result units.now) ≡ true }
 {
     if text.is_clear() && is_plain(units[0]) {
         printable_front(units, page.run_room())

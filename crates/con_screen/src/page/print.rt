@@ -3,7 +3,8 @@ ghost use Rattle.std.specs.Prelude.{◌≡◌, ℕ, ◌<◌, ◌≤◌, length, 
 ghost use Rattle.std.specs.List.{list_all};
 ghost use Rattle.con_screen.specs.Page.{IsPage};
 ghost use Rattle.con_screen.specs.Print.{drawn, line_of as line_unit, wrapped, put, advanced, printed};
-ghost use Rattle.con_screen.specs.Run.{is_printable, CanRun, ran};
+ghost use Rattle.con_units.specs.Plain.{is_plain};
+ghost use Rattle.con_screen.specs.Run.{CanRun, ran};
 
 use super::Page;
 use con_units::Cell;
@@ -109,7 +110,7 @@ impl Page {
     pub(crate) fn write_run(&mut self, units: &[u16])
         requires page { IsPage self.old }
         requires given { CanRun self.old (length units.now) }
-        requires printable { list_all is_printable units.now ≡ true }
+        requires printable { list_all is_plain units.now ≡ true }
         ensures effect { self.new ≡ ran self.old units.now }
         ensures page { IsPage self.new }
     {
