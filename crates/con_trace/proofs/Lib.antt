@@ -1,3 +1,4 @@
+pub mod Ended
 pub mod Plain
 pub mod Puts
 pub mod Names

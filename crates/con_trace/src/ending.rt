@@ -1,12 +1,12 @@
 //! The last line of a report.
 
-ghost use Rattle.std.specs.Prelude.{string_bytes, ◌≡◌, ◌≤◌, List, [], ◌∷◌, ◌++◌, IfOk, OnOk, length, take, Option};
+ghost use Rattle.std.specs.Prelude.{string_bytes, ◌≡◌, ◌≤◌, List, [], ◌∷◌, ◌++◌, IfOk, OnOk, OnErr, length, take, Option};
 ghost use Rattle.std.specs.Char.Utf16.{utf16_lossy_chars};
 ghost use Rattle.std.specs.Str.{encode_utf8_all};
 ghost use Rattle.json.specs.Print.{escape};
 ghost use Rattle.serde_json.specs.Data.{string};
 ghost use Rattle.serde_json.specs.Written.{compact_text};
-ghost use Rattle.con_outside.specs.Outside.{Rose, then_written, WroteFront};
+ghost use Rattle.con_outside.specs.Outside.{Rose, then_written, WroteFront, WrotePart};
 ghost use Rattle.con_trace.specs.Ending.{alone as alone_ending, worded as worded_ending, at_frame as frame_ending, kind_text, ending_of, ending_data, ending_text};
 ghost use Rattle.con_trace.specs.Line.{ended};
 ghost use Rattle.con_trace.specs.Writing.{put};
@@ -144,10 +144,12 @@ fn ended_line(alloc: Global, end: &EndLine) -> Result<Line, OutOfMemory>
     Ok(line)
 }
 
-/// Writes the last line, with its line feed. After a refusal a front of the line was written.
+/// Writes the last line, with its line feed. After a refusal a front of the line was written, and never all of it.
+#[tactic(auto, using(crate::proofs::Ended::nothing_yet))]
 pub fn write_end<R: Sink>(alloc: Global, out: &mut R, end: &EndLine) -> Result<(), Fault>
     ensures front { WroteFront (ended (ending_text (ending_of end.now))) (R.written out.old) (R.written out.new) }
     ensures whole { OnOk result (R.written out.new ≡ then_written (R.written out.old) (ended (ending_text (ending_of end.now)))) }
+    ensures part { OnErr result (WrotePart (ended (ending_text (ending_of end.now))) (R.written out.old) (R.written out.new)) }
     ensures failed { result ≡ Err Fault.Failed → Rose (R.faults out.old) (R.faults out.new) }
     ensures never_falls { R.faults out.old ≤ R.faults out.new }
 {
