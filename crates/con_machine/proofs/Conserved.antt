@@ -1,6 +1,7 @@
 -- No record is lost: what was there and what came in are the pieces that were taken, in order, and what is there.
-use Rattle.std.proofs.Common.{◌≡◌, ℕ, Bool, List, [], ◌∷◌, ◌++◌, true, false, refl, ap, ◌∙◌, sym, length, append_assoc, append-nil, Result, Ok, Err, Option, Some, None, map}
+use Rattle.std.proofs.Common.{◌≡◌, ℕ, Bool, List, [], ◌∷◌, ◌++◌, true, false, refl, ap, ◌∙◌, sym, length, append_assoc, append-nil, Result, Ok, Err, Option, Some, None}
 use Rattle.std.specs.Prelude.{◌+◌, ◌==◌, ◌&&◌, nat_lt, nat_le, fold, slice_get, if◌then◌else◌}
+use Rattle.std.specs.List.{find}
 use Rattle.con_units.specs.Split.{split_after}
 use Rattle.con_units.specs.declared.code.Code.{Code}
 use Rattle.con_units.specs.declared.code.Code.TheVariants as code
@@ -24,8 +25,9 @@ use Rattle.con_procs.specs.Procs.{ids_of, add_answer as add_handler_answer, remo
 use Rattle.con_mouse.specs.Reports.{report_of}
 use Rattle.con_mouse.specs.declared.report.Report.{Report}
 use Rattle.con_readers.specs.Act.{Act, began, typed, passed, ended, woke}
-use Rattle.con_readers.specs.Pieces.{pieces_of, joined}
-use Rattle.con_readers.specs.Reads.{settled, answer_in, without, place_of}
+use Rattle.con_readers.specs.Pieces.{front, pieces_of, joined}
+use Rattle.con_readers.specs.Reads.{settled, answer_in, is_open_line, without, place_of}
+use Rattle.con_readers.specs.Serving.{is_done, served}
 use Rattle.con_readers.specs.declared.answer.Answer.{Answer}
 use Rattle.con_readers.specs.declared.answer.Answer.TheVariants as answers
 use Rattle.con_readers.specs.declared.open.Open.{Open}
@@ -53,9 +55,9 @@ use Rattle.con_machine.specs.Terminal.{fed, quiet, resized, is_break, records_of
 use Rattle.con_machine.specs.Step.{effect, step, is_outside, client_of, finished}
 use Rattle.con_machine.specs.History.{run}
 use Rattle.con_machine.specs.declared.noted.Noted.{Noted}
-use Rattle.con_machine.specs.Fates.{reports_in, no_begins, pieces, Piece, Begins, by_read, served_pieces, records_written, reports_written, call_arrivals, keys_arrivals, report_arrivals, bytes_arrivals, all_bytes_arrivals, fed_arrivals, size_arrivals, effect_arrivals, step_arrivals, arrived, flushed_pieces, call_pieces, key_pieces, keys_pieces, bytes_pieces, all_bytes_pieces, fed_pieces, effect_pieces, step_pieces, begins_after, pieces_from}
+use Rattle.con_machine.specs.Fates.{reports_in, no_begins, pieces, Piece, Served, CutOff, Begins, by_read, taken_by, interrupted_by, interrupted, cut_off, hung_pieces, closing_pieces, signal_pieces, end_pieces, served_pieces, records_written, reports_written, call_arrivals, keys_arrivals, report_arrivals, bytes_arrivals, all_bytes_arrivals, fed_arrivals, size_arrivals, effect_arrivals, step_arrivals, arrived, flushed_pieces, call_pieces, key_pieces, keys_pieces, bytes_pieces, all_bytes_pieces, fed_pieces, effect_pieces, step_pieces, begins_after, pieces_from}
 
-WholeReads : Type 0
+unfoldable pub WholeReads : Type 0
 WholeReads = (al : List AliasList) (os : List Open) (rs : List Record) (hs : LineHistories) → joined (pieces_of al os rs hs) ++ (settled al os rs hs).records ≡ rs
 
 pub joined-append : {A : Type 0} → (ps qs : List (A × List Record)) → joined (ps ++ qs) ≡ joined ps ++ joined qs
@@ -63,10 +65,59 @@ unfolding joined
 joined-append [] qs = refl
 joined-append (p ∷ ps) qs = ap (λ (rs : List Record). p.1 ++ rs) (joined-append ps qs) ∙ sym (append_assoc p.1 (joined ps) (joined qs))
 
-joined-reads : (begins : Begins) (ps : List (ℕ × List Record)) → joined (map (by_read begins) ps) ≡ joined ps
+same_joined : (a b : Bool) (p : Piece) (q : ℕ × List Record) (xs ys : List Piece) (us vs : List (ℕ × List Record)) → p.1 ≡ q.1 → joined xs ≡ joined us → joined ys ≡ joined vs
+    → joined (if a then xs else (p ∷ (if b then ys else []))) ≡ joined (if a then us else (q ∷ (if b then vs else [])))
 unfolding joined
-joined-reads begins [] = refl
-joined-reads begins (p ∷ ps) = ap (λ (rs : List Record). p.1 ++ rs) (joined-reads begins ps)
+same_joined true b p q xs ys us vs e h k = h
+same_joined false true p q xs ys us vs e h k = ap (λ (rs : List Record). rs ++ joined ys) e ∙ ap (λ (rs : List Record). q.1 ++ rs) k
+same_joined false false p q xs ys us vs e h k = ap (λ (rs : List Record). rs ++ []) e
+
+joined-taken : (begins : Begins) (al : List AliasList) (os : List Open) (rs : List Record) (hs : LineHistories) → joined (taken_by begins al os rs hs) ≡ joined (pieces_of al os rs hs)
+unfolding joined taken_by pieces_of
+joined-taken begins al [] rs hs = refl
+joined-taken begins al (o ∷ os) rs hs =
+    let s = served o.process al o.read rs hs in
+    same_joined (is_done o.read) (is_done s.read) (by_read begins (Served hs al) o.process (front rs s.records)) (o.process, front rs s.records) (taken_by begins al os rs hs) (taken_by begins al os s.records s.histories) (pieces_of al os rs hs) (pieces_of al os s.records s.histories)
+    refl (joined-taken begins al os rs hs) (joined-taken begins al os s.records s.histories)
+
+-- a read that ends takes nothing by it
+interrupted-none : (begins : Begins) (os : List Open) → joined (interrupted begins os) ≡ []
+unfolding interrupted joined
+interrupted-none begins os = by (find is_open_line os)
+  where
+    by : (o : Option Open) → joined (interrupted_by begins o) ≡ []
+    by None = refl
+    by (Some o) = refl
+
+one_off : (b : Bool) (p : Piece) (ps : List Piece) → p.1 ≡ [] → joined ps ≡ [] → joined (if b then ps else (p ∷ ps)) ≡ []
+unfolding joined
+one_off true p ps e h = h
+one_off false p ps e h = ap (λ (rs : List Record). rs ++ joined ps) e ∙ h
+
+cut_off-none : (begins : Begins) (os : List Open) → joined (cut_off begins os) ≡ []
+unfolding cut_off joined
+cut_off-none begins [] = refl
+cut_off-none begins (o ∷ os) = one_off (is_done o.read) (by_read begins CutOff o.process []) (cut_off begins os) refl (cut_off-none begins os)
+
+none_either : (b : Bool) (ps qs : List Piece) → joined ps ≡ [] → joined qs ≡ [] → joined (if b then ps else qs) ≡ []
+none_either true ps qs h k = h
+none_either false ps qs h k = k
+
+hung-none : (begins : Begins) (s : State) → joined (hung_pieces begins s) ≡ []
+unfolding joined
+hung-none begins s = none_either s.closed [] (cut_off begins s.reads) refl (cut_off-none begins s.reads)
+
+pub closing-none : (begins : Begins) (s : State) → joined (closing_pieces begins s) ≡ []
+unfolding closing_pieces joined
+closing-none begins s = none_either (s.drained && all_wait s.reads (ids_of s.procs)) (hung_pieces begins s) [] (hung-none begins s) refl
+
+signal-none : (begins : Begins) (s : State) (event group : ℕ) → joined (signal_pieces begins s event group) ≡ []
+unfolding joined
+signal-none begins s event group = none_either s.closed [] _ refl (none_either (is_no_signal s.procs event group) [] _ refl (none_either ((event == 0) && (group == 0)) (interrupted begins s.reads) [] (interrupted-none begins s.reads) refl))
+
+-- pieces without records behind others
+with_none : (ps qs : List Piece) (rs : List Record) → joined qs ≡ [] → joined (ps ++ qs) ++ rs ≡ joined ps ++ rs
+with_none ps qs rs h = ap (λ (x : List Record). x ++ rs) (joined-append ps qs ∙ ap (λ (x : List Record). joined ps ++ x) h ∙ append-nil (joined ps))
 
 -- ---- serving, and closing
 
@@ -93,20 +144,20 @@ all_followed : (s : State) (acts : List Act) → (fold followed s acts).records 
 all_followed s [] = refl
 all_followed s (a ∷ acts) = all_followed (followed s a) acts ∙ followed_keeps s a
 
-settled_records : (s : State) → (settled_state s).records ≡ (settled s.aliases s.reads s.records s.histories).records
+pub settled_records : (s : State) → (settled_state s).records ≡ (settled s.aliases s.reads s.records s.histories).records
 unfolding settled_state
 settled_records s = let t = settled s.aliases s.reads s.records s.histories in all_followed (record s { reads = t.reads; records = t.records; histories = t.histories }) t.acts
 
-served_keeps : WholeReads → (begins : Begins) (s : State) → joined (served_pieces begins s) ++ (settled_state s).records ≡ s.records
+pub served_keeps : WholeReads → (begins : Begins) (s : State) → joined (served_pieces begins s) ++ (settled_state s).records ≡ s.records
 unfolding WholeReads served_pieces
 served_keeps w begins s =
-    ap (λ (rs : List Record). joined (map (by_read begins) (pieces_of s.aliases s.reads s.records s.histories)) ++ rs) (settled_records s)
-    ∙ ap (λ (rs : List Record). rs ++ (settled s.aliases s.reads s.records s.histories).records) (joined-reads begins (pieces_of s.aliases s.reads s.records s.histories)) ∙ w s.aliases s.reads s.records s.histories
+    ap (λ (rs : List Record). joined (taken_by begins s.aliases s.reads s.records s.histories) ++ rs) (settled_records s)
+    ∙ ap (λ (rs : List Record). rs ++ (settled s.aliases s.reads s.records s.histories).records) (joined-taken begins s.aliases s.reads s.records s.histories) ∙ w s.aliases s.reads s.records s.histories
 
 hung_keeps : (s : State) → (hung_up s).records ≡ s.records
 hung_keeps s = alike s.closed s _ s.records refl refl
 
-closing_keeps : (s : State) → (closing s).records ≡ s.records
+pub closing_keeps : (s : State) → (closing s).records ≡ s.records
 unfolding closing
 closing_keeps s = alike (s.drained && all_wait s.reads (ids_of s.procs)) (hung_up s) s s.records (hung_keeps s) refl
 
@@ -122,9 +173,11 @@ chain r a r' k z ps qs h g =
 signalled_keeps : (s : State) (event group : ℕ) → (signalled_to s event group).records ≡ s.records
 signalled_keeps s event group = alike ((event == 0) && (group == 0)) _ _ s.records refl refl
 
-key_by : WholeReads → (begins : Begins) (s : State) (k : Key) (b : Bool) → s.records ++ (if b then [] else records_of s k) ≡ joined (if b then served_pieces begins s else []) ++ (if b then signalled_to (settled_state s) 0 0 else record s { records = s.records ++ records_of s k }).records
+key_by : WholeReads → (begins : Begins) (s : State) (k : Key) (b : Bool) → s.records ++ (if b then [] else records_of s k) ≡ joined (if b then served_pieces begins s ++ interrupted begins (settled_state s).reads else []) ++ (if b then signalled_to (settled_state s) 0 0 else record s { records = s.records ++ records_of s k }).records
 unfolding joined
-key_by w begins s k true = append-nil s.records ∙ sym (served_keeps w begins s) ∙ ap (λ (rs : List Record). joined (served_pieces begins s) ++ rs) (sym (signalled_keeps (settled_state s) 0 0))
+key_by w begins s k true =
+    append-nil s.records ∙ sym (served_keeps w begins s) ∙ ap (λ (rs : List Record). joined (served_pieces begins s) ++ rs) (sym (signalled_keeps (settled_state s) 0 0))
+    ∙ sym (with_none (served_pieces begins s) (interrupted begins (settled_state s).reads) (signalled_to (settled_state s) 0 0).records (interrupted-none begins (settled_state s).reads))
 key_by w begins s k false = refl
 
 keys_keep : WholeReads → (begins : Begins) (s : State) (ks : List Key) → s.records ++ keys_arrivals s ks ≡ joined (keys_pieces begins s ks) ++ (fold key_taken s ks).records
@@ -234,52 +287,55 @@ flushed_by place s (Ok o) = sym (append-nil (s.records ++ []))
 same : (s : State) (o : Outcome) → o.after.records ≡ s.records → s.records ++ [] ≡ o.after.records
 same s o h = append-nil s.records ∙ sym h
 
-call_keeps : (place : ℕ) (s : State) (p : ℕ) (c : Call) → s.records ++ call_arrivals s p c ≡ joined (call_pieces place s p c) ++ (called s p c).after.records
+same_beside : (s : State) (o : Outcome) (ps : List Piece) → joined ps ≡ [] → o.after.records ≡ s.records → s.records ++ [] ≡ joined ps ++ o.after.records
+same_beside s o ps none h = same s o h ∙ ap (λ (rs : List Record). rs ++ o.after.records) (sym none)
+
+call_keeps : (begins : Begins) (place : ℕ) (s : State) (p : ℕ) (c : Call) → s.records ++ call_arrivals s p c ≡ joined (call_pieces begins place s p c) ++ (called s p c).after.records
 unfolding called joined
-call_keeps place s p (calls.BufferCreate rights) = same s (created_buffer s p rights) (open_keeps s _ (either (are_rights rights) (buffer_made s p rights (new_number s.handles p) (free_id s.buffers)) (refused s code.BadArgument) s.records (made_keeps s p rights (new_number s.handles p) (free_id s.buffers)) refl))
-call_keeps place s p (calls.OpenOut rights) = same s (opened_out s p rights) (open_keeps s _ (opened_keeps s p (object.Output (id_of s.buffers.active)) rights))
-call_keeps place s p (calls.OpenIn rights) = same s (opened_in s p rights) (open_keeps s _ (opened_keeps s p object.Input rights))
-call_keeps place s p (calls.Close h) = same s (closed_handle s p h) (object_keeps s (owned s p h) _ (λ o. refl))
-call_keeps place s p (calls.Duplicate h rights) = same s (duplicated s p h rights) (object_keeps s (guard s p h kind.Any (if are_rights rights then rights else 0)) _ (λ o. opened_keeps s p o rights))
-call_keeps place s p (calls.Activate h) = same s (activated s p h) (object_keeps s (guard s p h kind.Output 2) _ (λ o. refl))
-call_keeps place s p (calls.Mode h) = same s (told_mode s p h) (object_keeps s (guard s p h kind.Any 1) _ (λ o. refl))
-call_keeps place s p (calls.SetMode h mode) = same s (set_mode s p h mode) (object_keeps s (guard s p h kind.Any 2) _ (mode_keeps s mode))
-call_keeps place s p (calls.Info h) = same s (told_info s p h) (object_keeps s (guard s p h kind.Output 1) _ (λ o. refl))
-call_keeps place s p (calls.SetSize handle w h) = same s (set_size s p handle w h) (object_keeps s (guard s p handle kind.Output 2) _ (λ o. answer_keeps s _ _ refl))
-call_keeps place s p (calls.SetCursor h x y) = same s (set_cursor s p h x y) (object_keeps s (guard s p h kind.Output 2) _ (λ o. answer_keeps s _ _ refl))
-call_keeps place s p (calls.CursorInfo h) = same s (told_cursor s p h) (object_keeps s (guard s p h kind.Output 1) _ (λ o. refl))
-call_keeps place s p (calls.SetCursorInfo h size visible) = same s (set_cursor_info s p h size visible) (object_keeps s (guard s p h kind.Output 2) _ (λ o. answer_keeps s _ _ refl))
-call_keeps place s p (calls.SetOrigin h x y) = same s (set_origin s p h x y) (object_keeps s (guard s p h kind.Output 2) _ (λ o. answer_keeps s _ _ refl))
-call_keeps place s p (calls.SetAttr h word) = same s (set_attr s p h word) (object_keeps s (guard s p h kind.Output 2) _ (λ o. refl))
-call_keeps place s p calls.Title = same s (told_title s) (open_keeps s _ refl)
-call_keeps place s p (calls.SetTitle text) = same s (set_title s text) (open_keeps s _ (either (nat_le (length text) 255) (done (record s { title = text })) (refused s code.BadArgument) s.records refl refl))
-call_keeps place s p (calls.Write h units) = reports_by s units (guard s p h kind.Output 2)
-call_keeps place s p (calls.RectRead h rect) = same s (read_rect s p h rect) (object_keeps s (guard s p h kind.Output 1) _ (λ o. refl))
-call_keeps place s p (calls.RectWrite h rect text words) = same s (wrote_rect s p h rect text words) (object_keeps s (guard s p h kind.Output 2) _ (λ o. either (are_cells rect text words) _ (refused s code.BadArgument) s.records (result_keeps s (rect_answer (cells_of s (buffer_of o)) rect) _ _ refl) refl))
-call_keeps place s p (calls.RunReadUnits h x y n) = same s (read_run_units s p h x y n) (object_keeps s (guard s p h kind.Output 1) _ (λ o. refl))
-call_keeps place s p (calls.RunReadAttrs h x y n) = same s (read_run_words s p h x y n) (object_keeps s (guard s p h kind.Output 1) _ (λ o. refl))
-call_keeps place s p (calls.RunWriteUnits h x y text) = same s (wrote_run_units s p h x y text) (object_keeps s (guard s p h kind.Output 2) _ (λ o. result_keeps s (run_answer (cells_of s (buffer_of o)) (at_place x y) (length text)) _ _ refl))
-call_keeps place s p (calls.RunWriteAttrs h x y words) = same s (wrote_run_words s p h x y words) (object_keeps s (guard s p h kind.Output 2) _ (λ o. result_keeps s (run_answer (cells_of s (buffer_of o)) (at_place x y) (length words)) _ _ refl))
-call_keeps place s p (calls.FillUnits h x y n unit) = same s (filled_units s p h x y n unit) (object_keeps s (guard s p h kind.Output 2) _ (λ o. refl))
-call_keeps place s p (calls.FillAttrs h x y n word) = same s (filled_words s p h x y n word) (object_keeps s (guard s p h kind.Output 2) _ (λ o. refl))
-call_keeps place s p (calls.Scroll h rect clip x y unit word) = same s (scrolled_cells s p h rect clip x y unit word) (object_keeps s (guard s p h kind.Output 2) _ (λ o. refl))
-call_keeps place s p (calls.Peek h n) = same s (peeked s p h n) (object_keeps s (guard s p h kind.Input 1) _ (λ o. refl))
-call_keeps place s p (calls.WriteInput h records) = records_by s records (guard s p h kind.Input 2)
-call_keeps place s p (calls.Count h) = same s (counted s p h) (object_keeps s (guard s p h kind.Input 1) _ (λ o. refl))
-call_keeps place s p (calls.Flush h) = flushed_by place s (guard s p h kind.Input 2)
-call_keeps place s p calls.HistoryInfo = same s (told_history_info s) (open_keeps s _ refl)
-call_keeps place s p (calls.SetHistory lines number flag) = same s (set_history s lines number flag) (open_keeps s _ (answer_keeps s _ _ refl))
-call_keeps place s p calls.HistoryList = same s (listed_history s p) (open_keeps s _ refl)
-call_keeps place s p calls.HistoryClear = same s (cleared_history s p) (open_keeps s _ refl)
-call_keeps place s p (calls.AliasAdd program source target) = same s (added_alias s program source target) (open_keeps s _ (answer_keeps s (add_answer s.aliases program source target) _ refl))
-call_keeps place s p (calls.AliasRemove program source) = same s (removed_alias s program source) (open_keeps s _ (answer_keeps s (remove_answer s.aliases program source) _ refl))
-call_keeps place s p (calls.AliasGet program source) = same s (told_alias s program source) (open_keeps s _ (alias_keeps s (alias_at s.aliases program source)))
-call_keeps place s p (calls.AliasList program) = same s (listed_aliases s program) (open_keeps s _ refl)
-call_keeps place s p calls.Processes = same s (listed_processes s) (open_keeps s _ refl)
-call_keeps place s p (calls.Signal event group) = same s (sent_signal s event group) (open_keeps s _ (either (is_no_signal s.procs event group) (refused s code.BadArgument) (done (signalled_to s event group)) s.records refl (signalled_keeps s event group)))
-call_keeps place s p (calls.Ignore on) = same s (set_ignore s p on) (open_keeps s _ refl)
-call_keeps place s p (calls.HandlerAdd k) = same s (added_handler s p k) (open_keeps s _ (place_keeps s k _ (answer_keeps s (add_handler_answer s.procs p k) _ refl)))
-call_keeps place s p (calls.HandlerRemove k) = same s (removed_handler s p k) (open_keeps s _ (place_keeps s k _ (answer_keeps s (remove_handler_answer s.procs p k) _ refl)))
+call_keeps begins place s p (calls.BufferCreate rights) = same s (created_buffer s p rights) (open_keeps s _ (either (are_rights rights) (buffer_made s p rights (new_number s.handles p) (free_id s.buffers)) (refused s code.BadArgument) s.records (made_keeps s p rights (new_number s.handles p) (free_id s.buffers)) refl))
+call_keeps begins place s p (calls.OpenOut rights) = same s (opened_out s p rights) (open_keeps s _ (opened_keeps s p (object.Output (id_of s.buffers.active)) rights))
+call_keeps begins place s p (calls.OpenIn rights) = same s (opened_in s p rights) (open_keeps s _ (opened_keeps s p object.Input rights))
+call_keeps begins place s p (calls.Close h) = same s (closed_handle s p h) (object_keeps s (owned s p h) _ (λ o. refl))
+call_keeps begins place s p (calls.Duplicate h rights) = same s (duplicated s p h rights) (object_keeps s (guard s p h kind.Any (if are_rights rights then rights else 0)) _ (λ o. opened_keeps s p o rights))
+call_keeps begins place s p (calls.Activate h) = same s (activated s p h) (object_keeps s (guard s p h kind.Output 2) _ (λ o. refl))
+call_keeps begins place s p (calls.Mode h) = same s (told_mode s p h) (object_keeps s (guard s p h kind.Any 1) _ (λ o. refl))
+call_keeps begins place s p (calls.SetMode h mode) = same s (set_mode s p h mode) (object_keeps s (guard s p h kind.Any 2) _ (mode_keeps s mode))
+call_keeps begins place s p (calls.Info h) = same s (told_info s p h) (object_keeps s (guard s p h kind.Output 1) _ (λ o. refl))
+call_keeps begins place s p (calls.SetSize handle w h) = same s (set_size s p handle w h) (object_keeps s (guard s p handle kind.Output 2) _ (λ o. answer_keeps s _ _ refl))
+call_keeps begins place s p (calls.SetCursor h x y) = same s (set_cursor s p h x y) (object_keeps s (guard s p h kind.Output 2) _ (λ o. answer_keeps s _ _ refl))
+call_keeps begins place s p (calls.CursorInfo h) = same s (told_cursor s p h) (object_keeps s (guard s p h kind.Output 1) _ (λ o. refl))
+call_keeps begins place s p (calls.SetCursorInfo h size visible) = same s (set_cursor_info s p h size visible) (object_keeps s (guard s p h kind.Output 2) _ (λ o. answer_keeps s _ _ refl))
+call_keeps begins place s p (calls.SetOrigin h x y) = same s (set_origin s p h x y) (object_keeps s (guard s p h kind.Output 2) _ (λ o. answer_keeps s _ _ refl))
+call_keeps begins place s p (calls.SetAttr h word) = same s (set_attr s p h word) (object_keeps s (guard s p h kind.Output 2) _ (λ o. refl))
+call_keeps begins place s p calls.Title = same s (told_title s) (open_keeps s _ refl)
+call_keeps begins place s p (calls.SetTitle text) = same s (set_title s text) (open_keeps s _ (either (nat_le (length text) 255) (done (record s { title = text })) (refused s code.BadArgument) s.records refl refl))
+call_keeps begins place s p (calls.Write h units) = reports_by s units (guard s p h kind.Output 2)
+call_keeps begins place s p (calls.RectRead h rect) = same s (read_rect s p h rect) (object_keeps s (guard s p h kind.Output 1) _ (λ o. refl))
+call_keeps begins place s p (calls.RectWrite h rect text words) = same s (wrote_rect s p h rect text words) (object_keeps s (guard s p h kind.Output 2) _ (λ o. either (are_cells rect text words) _ (refused s code.BadArgument) s.records (result_keeps s (rect_answer (cells_of s (buffer_of o)) rect) _ _ refl) refl))
+call_keeps begins place s p (calls.RunReadUnits h x y n) = same s (read_run_units s p h x y n) (object_keeps s (guard s p h kind.Output 1) _ (λ o. refl))
+call_keeps begins place s p (calls.RunReadAttrs h x y n) = same s (read_run_words s p h x y n) (object_keeps s (guard s p h kind.Output 1) _ (λ o. refl))
+call_keeps begins place s p (calls.RunWriteUnits h x y text) = same s (wrote_run_units s p h x y text) (object_keeps s (guard s p h kind.Output 2) _ (λ o. result_keeps s (run_answer (cells_of s (buffer_of o)) (at_place x y) (length text)) _ _ refl))
+call_keeps begins place s p (calls.RunWriteAttrs h x y words) = same s (wrote_run_words s p h x y words) (object_keeps s (guard s p h kind.Output 2) _ (λ o. result_keeps s (run_answer (cells_of s (buffer_of o)) (at_place x y) (length words)) _ _ refl))
+call_keeps begins place s p (calls.FillUnits h x y n unit) = same s (filled_units s p h x y n unit) (object_keeps s (guard s p h kind.Output 2) _ (λ o. refl))
+call_keeps begins place s p (calls.FillAttrs h x y n word) = same s (filled_words s p h x y n word) (object_keeps s (guard s p h kind.Output 2) _ (λ o. refl))
+call_keeps begins place s p (calls.Scroll h rect clip x y unit word) = same s (scrolled_cells s p h rect clip x y unit word) (object_keeps s (guard s p h kind.Output 2) _ (λ o. refl))
+call_keeps begins place s p (calls.Peek h n) = same s (peeked s p h n) (object_keeps s (guard s p h kind.Input 1) _ (λ o. refl))
+call_keeps begins place s p (calls.WriteInput h records) = records_by s records (guard s p h kind.Input 2)
+call_keeps begins place s p (calls.Count h) = same s (counted s p h) (object_keeps s (guard s p h kind.Input 1) _ (λ o. refl))
+call_keeps begins place s p (calls.Flush h) = flushed_by place s (guard s p h kind.Input 2)
+call_keeps begins place s p calls.HistoryInfo = same s (told_history_info s) (open_keeps s _ refl)
+call_keeps begins place s p (calls.SetHistory lines number flag) = same s (set_history s lines number flag) (open_keeps s _ (answer_keeps s _ _ refl))
+call_keeps begins place s p calls.HistoryList = same s (listed_history s p) (open_keeps s _ refl)
+call_keeps begins place s p calls.HistoryClear = same s (cleared_history s p) (open_keeps s _ refl)
+call_keeps begins place s p (calls.AliasAdd program source target) = same s (added_alias s program source target) (open_keeps s _ (answer_keeps s (add_answer s.aliases program source target) _ refl))
+call_keeps begins place s p (calls.AliasRemove program source) = same s (removed_alias s program source) (open_keeps s _ (answer_keeps s (remove_answer s.aliases program source) _ refl))
+call_keeps begins place s p (calls.AliasGet program source) = same s (told_alias s program source) (open_keeps s _ (alias_keeps s (alias_at s.aliases program source)))
+call_keeps begins place s p (calls.AliasList program) = same s (listed_aliases s program) (open_keeps s _ refl)
+call_keeps begins place s p calls.Processes = same s (listed_processes s) (open_keeps s _ refl)
+call_keeps begins place s p (calls.Signal event group) = same_beside s (sent_signal s event group) (signal_pieces begins s event group) (signal-none begins s event group) (open_keeps s _ (either (is_no_signal s.procs event group) (refused s code.BadArgument) (done (signalled_to s event group)) s.records refl (signalled_keeps s event group)))
+call_keeps begins place s p (calls.Ignore on) = same s (set_ignore s p on) (open_keeps s _ refl)
+call_keeps begins place s p (calls.HandlerAdd k) = same s (added_handler s p k) (open_keeps s _ (place_keeps s k _ (answer_keeps s (add_handler_answer s.procs p k) _ refl)))
+call_keeps begins place s p (calls.HandlerRemove k) = same s (removed_handler s p k) (open_keeps s _ (place_keeps s k _ (answer_keeps s (remove_handler_answer s.procs p k) _ refl)))
 
 -- ---- reads begin, and are collected
 
@@ -324,7 +380,7 @@ Kept begins place s p e = s.records ++ effect_arrivals s p e ≡ joined (effect_
 
 effect_keeps : WholeReads → (begins : Begins) (place : ℕ) (s : State) (p : ℕ) (e : Event) → Kept begins place s p e
 unfolding Kept effect joined
-effect_keeps w begins place s p (events.Call c) = call_keeps place s p c
+effect_keeps w begins place s p (events.Call c) = call_keeps begins place s p c
 effect_keeps w begins place s p (events.Begin wanted) = same s (read_began s p wanted) (begin_keeps s p wanted)
 effect_keeps w begins place s p events.Collect = same s (collected s p) (collect_keeps s p)
 effect_keeps w begins place s p events.TakeCtrl = same s (took_ctrl s p) (ctrl_keeps s p)
@@ -333,16 +389,19 @@ effect_keeps w begins place s p (events.Feed bytes) = fed_keeps w begins s bytes
 effect_keeps w begins place s p events.Quiet = quiet_keeps w begins s
 effect_keeps w begins place s p (events.Resize size) = size_keeps s size
 effect_keeps w begins place s p events.Ask = append-nil s.records
-effect_keeps w begins place s p events.Hangup = same s (done (hung_up s)) (hung_keeps s)
+effect_keeps w begins place s p events.Hangup = same_beside s (done (hung_up s)) (hung_pieces begins s) (hung-none begins s) (hung_keeps s)
 effect_keeps w begins place s p events.Drained = append-nil s.records
 effect_keeps w begins place s p events.Paint = same s (answered (painted s) replies.Done) (painted_keeps s)
 
-finish : WholeReads → (begins : Begins) (place : ℕ) (s : State) (p : ℕ) (e : Event) → s.records ++ effect_arrivals s p e ≡ joined (effect_pieces begins place s p e ++ served_pieces begins (effect s p e).after) ++ (finished (effect s p e)).after.records
+finish : WholeReads → (begins : Begins) (place : ℕ) (s : State) (p : ℕ) (e : Event) → s.records ++ effect_arrivals s p e ≡ joined (effect_pieces begins place s p e ++ end_pieces begins (effect s p e).after) ++ (finished (effect s p e)).after.records
 unfolding Kept
 finish w begins place s p e =
     let o = effect s p e in
-    let last : o.after.records ++ [] ≡ joined (served_pieces begins o.after) ++ (closing (settled_state o.after)).records = append-nil o.after.records ∙ sym (served_keeps w begins o.after) ∙ ap (λ (x : List Record). joined (served_pieces begins o.after) ++ x) (sym (closing_keeps (settled_state o.after))) in
-    ap (λ (x : List Record). s.records ++ x) (sym (append-nil (effect_arrivals s p e))) ∙ chain s.records (effect_arrivals s p e) o.after.records [] _ (effect_pieces begins place s p e) (served_pieces begins o.after) (effect_keeps w begins place s p e) last
+    let t : State = settled_state o.after in
+    let last : o.after.records ++ [] ≡ joined (end_pieces begins o.after) ++ (closing t).records =
+    append-nil o.after.records ∙ sym (served_keeps w begins o.after) ∙ ap (λ (x : List Record). joined (served_pieces begins o.after) ++ x) (sym (closing_keeps t))
+    ∙ sym (with_none (served_pieces begins o.after) (closing_pieces begins t) (closing t).records (closing-none begins t)) in
+    ap (λ (x : List Record). s.records ++ x) (sym (append-nil (effect_arrivals s p e))) ∙ chain s.records (effect_arrivals s p e) o.after.records [] _ (effect_pieces begins place s p e) (end_pieces begins o.after) (effect_keeps w begins place s p e) last
 
 StepKept : Begins → ℕ → State → Entry → Type 0
 StepKept begins place s x = s.records ++ step_arrivals s x ≡ joined (step_pieces begins place s x) ++ (step s x.actor x.event).after.records

@@ -1,5 +1,6 @@
 -- The records with a fate are the pieces of it.
 use Rattle.std.proofs.Common.{◌≡◌, ◌+◌, ◌-◌, ◌<◌, ℕ, Bool, true, false, cond, List, [], ◌∷◌, ◌++◌, suc, refl, ap, ◌∙◌, sym, length, filter, append_assoc, Option, Some, nat_lt, true≢false, arith}
+use Rattle.std.specs.Prelude.{if◌then◌else◌}
 use Rattle.std.proofs.lemmas.Bool.Decides.{nat_tests}
 use Rattle.std.proofs.lemmas.List.Elements.{filter-append}
 use Rattle.con_readers.specs.Pieces.{joined}
@@ -7,13 +8,29 @@ use Rattle.con_records.specs.declared.record.Record.{Record}
 use Rattle.con_machine.specs.Fates.{Taker, Piece, fate_in, is_taker, is_fate, records_with}
 use Rattle.con_machine.proofs.Conserved.{joined-append}
 
--- what one taker took
+-- what was done for one taker
+unfoldable pub log : Taker → List Piece → List Piece
+log t ps = filter (λ p. is_taker t p.0.taker) ps
+
+pub log_none : (t : Taker) → log t [] ≡ []
+unfolding log
+log_none t = refl
+
+pub none_or : (t : Taker) (b : Bool) (ps qs : List Piece) → log t ps ≡ [] → log t qs ≡ [] → log t (if b then ps else qs) ≡ []
+none_or t true ps qs h g = h
+none_or t false ps qs h g = g
+
+pub log-append : (t : Taker) (ps qs : List Piece) → log t (ps ++ qs) ≡ log t ps ++ log t qs
+unfolding log
+log-append t ps qs = filter-append (λ p. is_taker t p.0.taker) ps qs
+
+-- what it took
 unfoldable pub taken : Taker → List Piece → List Record
-taken t ps = joined (filter (λ p. is_taker t p.0) ps)
+taken t ps = joined (log t ps)
 
 pub taken-append : (t : Taker) (ps qs : List Piece) → taken t (ps ++ qs) ≡ taken t ps ++ taken t qs
 unfolding taken
-taken-append t ps qs = ap (λ (xs : List Piece). joined xs) (filter-append (λ p. is_taker t p.0) ps qs) ∙ joined-append (filter (λ p. is_taker t p.0) ps) (filter (λ p. is_taker t p.0) qs)
+taken-append t ps qs = ap (λ (xs : List Piece). joined xs) (log-append t ps qs) ∙ joined-append (log t ps) (log t qs)
 
 -- numbers that are counted from elsewhere
 with_same : (f g : ℕ → Option Taker) (t : Taker) (k j : ℕ) (xs : List Record) → ((i : ℕ) → f (k + i) ≡ g (j + i)) → records_with f t k xs ≡ records_with g t j xs
@@ -44,7 +61,7 @@ with_none : (t : Taker) (k : ℕ) (xs : List Record) → records_with (fate_in [
 with_none t k [] = refl
 with_none t k (x ∷ xs) = with_none t (suc k) xs
 
-here_by : (p : Piece) (ps : List Piece) (i : ℕ) (b : Bool) → nat_lt i (length p.1) ≡ b → b ≡ true → fate_in (p ∷ ps) i ≡ Some p.0
+here_by : (p : Piece) (ps : List Piece) (i : ℕ) (b : Bool) → nat_lt i (length p.1) ≡ b → b ≡ true → fate_in (p ∷ ps) i ≡ Some p.0.taker
 here_by p ps i true e h = rw e refl
 here_by p ps i false e h = absurd (true≢false (sym h))
 
@@ -52,7 +69,7 @@ later_by : (p : Piece) (ps : List Piece) (i : ℕ) (b : Bool) → nat_lt i (leng
 later_by p ps i false e h = rw e refl
 later_by p ps i true e h = absurd (true≢false h)
 
-inside : (p : Piece) (ps : List Piece) (i : ℕ) → i < length p.1 → fate_in (p ∷ ps) (0 + i) ≡ Some p.0
+inside : (p : Piece) (ps : List Piece) (i : ℕ) → i < length p.1 → fate_in (p ∷ ps) (0 + i) ≡ Some p.0.taker
 inside p ps i lt =
     let at : 0 + i ≡ i = omega arith in
     let e : nat_lt i (length p.1) ≡ true = grind (arith, nat_tests) in
@@ -70,11 +87,11 @@ one_piece p ps true = refl
 one_piece p ps false = refl
 
 pub fated_taken : (t : Taker) (ps : List Piece) (rest : List Record) → records_with (fate_in ps) t 0 (joined ps ++ rest) ≡ taken t ps
-unfolding taken joined
+unfolding taken log joined
 fated_taken t [] rest = with_none t 0 rest
 fated_taken t (p ∷ ps) rest =
     let from : 0 + length p.1 ≡ length p.1 = omega arith in
     ap (λ (rs : List Record). records_with (fate_in (p ∷ ps)) t 0 rs) (append_assoc p.1 (joined ps) rest)
-    ∙ with_front (fate_in (p ∷ ps)) t p.0 0 p.1 (joined ps ++ rest) (inside p ps)
-    ∙ ap (λ (rs : List Record). cond (is_taker t p.0) p.1 [] ++ rs) (ap (λ (n : ℕ). records_with (fate_in (p ∷ ps)) t n (joined ps ++ rest)) from ∙ with_same (fate_in (p ∷ ps)) (fate_in ps) t (length p.1) 0 (joined ps ++ rest) (past p ps) ∙ fated_taken t ps rest)
-    ∙ one_piece p (filter (λ q. is_taker t q.0) ps) (is_taker t p.0)
+    ∙ with_front (fate_in (p ∷ ps)) t p.0.taker 0 p.1 (joined ps ++ rest) (inside p ps)
+    ∙ ap (λ (rs : List Record). cond (is_taker t p.0.taker) p.1 [] ++ rs) (ap (λ (n : ℕ). records_with (fate_in (p ∷ ps)) t n (joined ps ++ rest)) from ∙ with_same (fate_in (p ∷ ps)) (fate_in ps) t (length p.1) 0 (joined ps ++ rest) (past p ps) ∙ fated_taken t ps rest)
+    ∙ one_piece p (filter (λ q. is_taker t q.0.taker) ps) (is_taker t p.0.taker)

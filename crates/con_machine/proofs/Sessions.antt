@@ -49,7 +49,7 @@ use Rattle.con_machine.specs.Client.{FollowsScript, GoesOn, Gone, client_after}
 use Rattle.con_machine.specs.Follows.{Follows, begun, FollowsLink, AreAnswered, are_of_session, steps_of, kinds_of}
 use Rattle.con_machine.specs.Whole.{IsWhole, HasLeft}
 use Rattle.con_machine.specs.Rounds.{Rounds, SideTurn, painter_turn, client_turn, client_at}
-use Rattle.con_machine.proofs.Views.{shows_same}
+use Rattle.con_machine.specs.SameViews.{shows_same}
 
 abbrev by : ℕ → Event → Entry
 by p e = record { actor = actors.Client p; event = e }

@@ -1,6 +1,7 @@
 -- What became of each record of the input: records are taken from the front alone, so who took what is a list of pieces, in order.
 -- What came in and who took it is told beside the run of a history; the console itself counts no records.
-use Rattle.std.specs.Prelude.{◌≡◌, ◌⊎◌, ℕ, suc, ◌+◌, ◌-◌, ◌==◌, Bool, true, false, nat_lt, List, [], ◌∷◌, ◌++◌, length, map, Option, None, Some, Result, Ok, Err, if◌then◌else◌}
+use Rattle.std.specs.Prelude.{◌≡◌, ◌⊎◌, ℕ, suc, ◌+◌, ◌-◌, ◌==◌, ◌&&◌, Bool, true, false, nat_lt, List, [], ◌∷◌, ◌++◌, length, map, filter, Option, None, Some, Result, Ok, Err, if◌then◌else◌}
+use Rattle.std.specs.List.{find}
 use Rattle.con_units.specs.Split.{split_after}
 use Rattle.con_units.specs.declared.code.Code.{Code}
 use Rattle.con_units.specs.declared.code.Code.TheVariants as code
@@ -14,12 +15,18 @@ use Rattle.con_events.specs.declared.event.Wanted.{Wanted}
 use Rattle.con_events.specs.declared.event.Wanted.TheVariants as wanted
 use Rattle.con_events.specs.declared.reply.Reply.{Reply}
 use Rattle.con_events.specs.declared.reply.Reply.TheVariants as replies
+use Rattle.con_alias.specs.Aliases.{AliasList}
 use Rattle.con_handles.specs.declared.handle.Kind.TheVariants as kind
 use Rattle.con_handles.specs.declared.handle.Object.{Object}
 use Rattle.con_mouse.specs.Presses.{record_of}
 use Rattle.con_mouse.specs.Reports.{report_of}
 use Rattle.con_mouse.specs.declared.report.Report.{Report}
-use Rattle.con_readers.specs.Pieces.{pieces_of}
+use Rattle.con_history.specs.Histories.{LineHistories}
+use Rattle.con_procs.specs.Procs.{ids_of}
+use Rattle.con_readers.specs.Pieces.{front}
+use Rattle.con_readers.specs.Reads.{is_open_line}
+use Rattle.con_readers.specs.Serving.{is_done, served}
+use Rattle.con_readers.specs.declared.open.Open.{Open}
 use Rattle.con_records.specs.declared.record.Key.{Key}
 use Rattle.con_records.specs.declared.record.Record.{Record}
 use Rattle.con_screen.specs.Told.{nothing_told}
@@ -31,6 +38,9 @@ use Rattle.con_vtin.specs.Pieces.{Piece as Bytes, Typed, Ended, piece_grammar}
 use Rattle.con_machine.specs.State.{State}
 use Rattle.con_machine.specs.Outcome.{guard, buffer_of, has_bit}
 use Rattle.con_machine.specs.ScreenCalls.{page_of, reported}
+use Rattle.con_machine.specs.Closing.{all_wait}
+use Rattle.con_machine.specs.ProcessCalls.{is_no_signal}
+use Rattle.con_machine.specs.Serving.{settled_state}
 use Rattle.con_machine.specs.Terminal.{is_break, records_of, mouse_records, key_taken, piece_taken, size_record}
 use Rattle.con_machine.specs.Step.{effect, step, is_outside, client_of}
 use Rattle.con_machine.specs.Client.{is_fail}
@@ -107,8 +117,21 @@ pub data Taker : Type 0 where
   Flushed : (place : ℕ) → Taker
   Earlier : (process : ℕ) → Taker
 
+-- How records go, or a read ends: a read takes them, while the histories and the aliases are these; all that are there are
+-- flushed; ctrl+C ends a read; a read is cut off, since the console closes.
+pub data How : Type 0 where
+  Served : (histories : LineHistories) (aliases : List AliasList) → How
+  Emptied : How
+  Interrupted : How
+  CutOff : How
+
+pub record Deed : Type 0 where
+  pub taker : Taker
+  pub how : How
+
+-- what was done, and the records that were taken by it
 abbrev pub Piece : Type 0
-Piece = Taker × List Record
+Piece = Deed × List Record
 
 -- a Begin that was not refused: its place in the history, and what it waits for
 pub record Begin : Type 0 where
@@ -142,25 +165,64 @@ abbrev pub read_of : ℕ → Option Begin → Taker
 read_of p None = Earlier p
 read_of p (Some b) = Begun b.place
 
--- what the open reads take while they are served
-abbrev pub by_read : Begins → ℕ × List Record → Piece
-by_read begins q = (read_of q.0 (begins q.0), q.1)
+-- what is done for a process's read
+abbrev pub by_read : Begins → How → ℕ → List Record → Piece
+by_read begins how p rs = (record { taker = read_of p (begins p); how = how }, rs)
 
+-- the first read that is not done takes records from the front, and once it is done the next one
+unfoldable pub taken_by : Begins → List AliasList → List Open → List Record → LineHistories → List Piece
+taken_by begins al [] rs hs = []
+taken_by begins al (o ∷ os) rs hs =
+    if is_done o.read then taken_by begins al os rs hs
+    else (let s = served o.process al o.read rs hs in by_read begins (Served hs al) o.process (front rs s.records) ∷ (if is_done s.read then taken_by begins al os s.records s.histories else []))
+
+-- open reads are served
 unfoldable pub served_pieces : Begins → State → List Piece
-served_pieces begins s = map (by_read begins) (pieces_of s.aliases s.reads s.records s.histories)
+served_pieces begins s = taken_by begins s.aliases s.reads s.records s.histories
+
+-- ctrl+C to all ends a line read
+abbrev pub interrupted_by : Begins → Option Open → List Piece
+interrupted_by begins None = []
+interrupted_by begins (Some o) = by_read begins Interrupted o.process [] ∷ []
+
+-- it is the first line read that is not done
+unfoldable pub interrupted : Begins → List Open → List Piece
+interrupted begins os = interrupted_by begins (find is_open_line os)
+
+-- each read that is not done is cut off
+unfoldable pub cut_off : Begins → List Open → List Piece
+cut_off begins [] = []
+cut_off begins (o ∷ os) = if is_done o.read then cut_off begins os else by_read begins CutOff o.process [] ∷ cut_off begins os
+
+-- the console closes, once
+abbrev pub hung_pieces : Begins → State → List Piece
+hung_pieces begins s = if s.closed then [] else cut_off begins s.reads
+
+-- it closes where nothing more comes and each attached process waits
+unfoldable pub closing_pieces : Begins → State → List Piece
+closing_pieces begins s = if s.drained && all_wait s.reads (ids_of s.procs) then hung_pieces begins s else []
+
+-- GenerateConsoleCtrlEvent
+abbrev pub signal_pieces : Begins → State → ℕ → ℕ → List Piece
+signal_pieces begins s event group =
+    if s.closed then []
+    else if is_no_signal s.procs event group then []
+    else if (event == 0) && (group == 0) then interrupted begins s.reads
+    else []
 
 -- FlushConsoleInputBuffer
 abbrev pub flushed_pieces : ℕ → State → Result Object Code → List Piece
 flushed_pieces place s (Err why) = []
-flushed_pieces place s (Ok o) = (Flushed place, s.records) ∷ []
+flushed_pieces place s (Ok o) = (record { taker = Flushed place; how = Emptied }, s.records) ∷ []
 
-abbrev pub call_pieces : ℕ → State → ℕ → Call → List Piece
-call_pieces place s p (calls.Flush h) = flushed_pieces place s (guard s p h kind.Input 2)
-call_pieces place s p _ = []
+abbrev pub call_pieces : Begins → ℕ → State → ℕ → Call → List Piece
+call_pieces begins place s p (calls.Flush h) = flushed_pieces place s (guard s p h kind.Input 2)
+call_pieces begins place s p (calls.Signal event group) = signal_pieces begins s event group
+call_pieces begins place s p _ = []
 
 -- the reads are served before ctrl+C is signalled
 abbrev pub key_pieces : Begins → State → Key → List Piece
-key_pieces begins s k = if is_break s k then served_pieces begins s else []
+key_pieces begins s k = if is_break s k then served_pieces begins s ++ interrupted begins (settled_state s).reads else []
 
 unfoldable pub keys_pieces : Begins → State → List Key → List Piece
 keys_pieces begins s [] = []
@@ -178,23 +240,27 @@ unfoldable pub fed_pieces : Begins → State → List ℕ → List Piece
 fed_pieces begins s bytes = let parts = split_after piece_grammar s.held bytes in all_bytes_pieces begins (record s { held = parts.tail }) parts.items
 
 abbrev pub effect_pieces : Begins → ℕ → State → ℕ → Event → List Piece
-effect_pieces begins place s p (events.Call c) = call_pieces place s p c
+effect_pieces begins place s p (events.Call c) = call_pieces begins place s p c
 effect_pieces begins place s p (events.Feed bytes) = fed_pieces begins s bytes
 effect_pieces begins place s p events.Quiet = keys_pieces begins (record s { held = [] }) (quieted s.held)
+effect_pieces begins place s p events.Hangup = hung_pieces begins s
 effect_pieces begins place s p _ = []
 
--- the reads are served at the end of every event
+-- at the end of every event the reads are served, and then the console may close
+abbrev pub end_pieces : Begins → State → List Piece
+end_pieces begins s = served_pieces begins s ++ closing_pieces begins (settled_state s)
+
 unfoldable pub step_pieces : Begins → ℕ → State → Entry → List Piece
 step_pieces begins place s x =
     if is_outside s x.actor x.event then []
-    else effect_pieces begins place s (client_of x.actor) x.event ++ served_pieces begins (effect s (client_of x.actor) x.event).after
+    else effect_pieces begins place s (client_of x.actor) x.event ++ end_pieces begins (effect s (client_of x.actor) x.event).after
 
 abbrev pub pieces_from : Begins → ℕ → State → List Entry → List Piece
 pieces_from begins place s [] = []
 pieces_from begins place s (x ∷ xs) =
     step_pieces (begins_after begins place s x) place s x ++ pieces_from (begins_after begins place s x) (place + 1) (step s x.actor x.event).after xs
 
--- all pieces that a history takes, in order
+-- all that is done for reads and by flushes in a history, in order
 abbrev pub pieces : State → List Entry → List Piece
 pieces s h = pieces_from no_begins 0 s h
 
@@ -217,7 +283,7 @@ wants_records (wanted.ReadWith h n initial mask) = false
 -- who took record k of what the pieces are the front of, or none, where it is there
 abbrev pub fate_in : List Piece → ℕ → Option Taker
 fate_in [] k = None
-fate_in (p ∷ ps) k = if nat_lt k (length p.1) then Some p.0 else fate_in ps (k - length p.1)
+fate_in (p ∷ ps) k = if nat_lt k (length p.1) then Some p.0.taker else fate_in ps (k - length p.1)
 
 -- the fate of the record with number k, counted from 0 on, of those that were there at first and then arrived
 abbrev pub fate : State → List Entry → ℕ → Option Taker
@@ -237,6 +303,10 @@ is_taker (Earlier a) (Earlier b) = b == a
 abbrev pub is_fate : Taker → Option Taker → Bool
 is_fate t None = false
 is_fate t (Some u) = is_taker t u
+
+-- what was done for one read, or by one flush, in order
+abbrev pub done_for : Taker → List Piece → List Piece
+done_for t ps = filter (λ p. is_taker t p.0.taker) ps
 
 -- of records that are numbered from k on, those with a fate, in order
 abbrev pub records_with : (ℕ → Option Taker) → Taker → ℕ → List Record → List Record

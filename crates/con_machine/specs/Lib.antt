@@ -30,7 +30,17 @@ pub mod HistoryLaws
 pub mod RoundLaws
 pub mod Sizes
 pub mod SizeLaws
+pub mod CallLaws
 pub mod PictureLaws
+pub mod Presence
+pub mod PresenceLaws
+pub mod Added
+pub mod HandlerLaws
+pub mod SameViews
+pub mod Opens
+pub mod OpeningLaws
+pub mod ShowingLaws
+pub mod ClosingLaws
 -- The code's own words: what holds of every console, and what is promised to fit.
 pub mod Pumping
 pub mod Began
@@ -51,3 +61,6 @@ pub mod Fits
 pub mod Numbered
 -- What became of each record.
 pub mod Fates
+pub mod Answers
+pub mod Texts
+pub mod Left

@@ -1,30 +1,22 @@
 -- What each event does to what is said of Paints: whether one is asked for, a new size, the view painted last, and the link's end.
-use Rattle.std.proofs.Common.{◌≡◌, ℕ, ℤ, Bool, true, false, List, [], ◌∷◌, Option, Some, None, Result, Ok, Err, refl, ap, ◌∙◌}
-use Rattle.std.specs.Prelude.{if◌then◌else◌, fold, ◌||◌, ◌&&◌, ◌==◌, ◌++◌, nat_lt, nat_le, not, length, slice_get}
+use Rattle.std.proofs.Common.{◌≡◌, ℕ, Bool, true, false, List, [], ◌∷◌, Option, Some, None, Result, Ok, Err, refl, ap, ◌∙◌}
+use Rattle.std.specs.Prelude.{if◌then◌else◌, fold, ◌||◌, ◌&&◌, ◌==◌, ◌++◌, slice_get}
 use Rattle.con_units.specs.declared.code.Code.{Code}
 use Rattle.con_units.specs.declared.code.Code.TheVariants as code
-use Rattle.con_units.specs.declared.view.View.{View}
 use Rattle.con_events.specs.declared.actor.Actor.{Actor}
 use Rattle.con_events.specs.declared.actor.Actor.TheVariants as actors
-use Rattle.con_events.specs.declared.call.Call.{Call}
-use Rattle.con_events.specs.declared.call.Call.TheVariants as calls
 use Rattle.con_events.specs.declared.event.Event.{Event}
 use Rattle.con_events.specs.declared.event.Event.TheVariants as events
 use Rattle.con_events.specs.declared.event.Wanted.{Wanted}
 use Rattle.con_events.specs.declared.event.Wanted.TheVariants as wanted
-use Rattle.con_events.specs.declared.reply.Reply.{Reply}
 use Rattle.con_events.specs.declared.reply.Reply.TheVariants as replies
-use Rattle.con_handles.specs.declared.handle.Kind.TheVariants as kind
-use Rattle.con_handles.specs.declared.handle.Object.{Object}
-use Rattle.con_handles.specs.declared.handle.Object.TheVariants as object
-use Rattle.con_procs.specs.Procs.{signalled, add_answer, handler_added, remove_answer, handler_removed}
+use Rattle.con_procs.specs.Procs.{signalled}
 use Rattle.con_readers.specs.Act.{Act, began, typed, passed, ended, woke}
 use Rattle.con_readers.specs.Reads.{settled, line_aborted, all_closed, without, answer_in, place_of}
 use Rattle.con_readers.specs.Lines.{line_text}
 use Rattle.con_readers.specs.declared.open.OpenRead.TheVariants as reads
 use Rattle.con_cooked.specs.Cooked.{line_of}
 use Rattle.con_screens.specs.Buffers.{screen_at}
-use Rattle.con_screen.specs.ModeSet.{mode_set}
 use Rattle.con_screen.specs.Echo.{echoed, ended as line_ended}
 use Rattle.con_readers.specs.declared.answer.Answer.{Answer}
 use Rattle.con_readers.specs.declared.answer.Answer.TheVariants as answers
@@ -35,36 +27,20 @@ use Rattle.con_mouse.specs.Reports.{report_of}
 use Rattle.con_units.specs.Split.{split_after}
 use Rattle.con_vtin.specs.Keys.{quieted}
 use Rattle.con_vtin.specs.Pieces.{Piece, Typed, Ended, piece_grammar}
-use Rattle.con_alias.specs.Aliases.{Entry}
-use Rattle.con_handles.specs.Handles.{new_number}
 use Rattle.con_screens.specs.Resize.{all_resized}
-use Rattle.con_units.specs.Natural.{natural}
-use Rattle.con_units.specs.Attr.{plain}
-use Rattle.con_units.specs.Glyph.{cell_of}
-use Rattle.con_screen.specs.Setters.{info_of, cursor_set, origin_set, pen_of_word}
-use Rattle.con_rects.specs.Rules.{rect_written}
-use Rattle.con_rects.specs.Runs.{run_count, units_written, words_written, unit_filled, word_filled}
-use Rattle.con_rects.specs.Scroll.{scrolled}
-use Rattle.con_alias.specs.Aliases as alias
-use Rattle.con_alias.specs.Aliases.{added, removed}
-use Rattle.con_history.specs.Histories.{configured, is_refused}
-use Rattle.con_machine.specs.HandleCalls.{owned, handle_closed}
-use Rattle.con_machine.specs.CellCalls.{cells_of, with_cells, rect_told, rect_answer, cells_for, sides_of, are_cells, run_told, at_place, run_answer}
 use Rattle.con_machine.specs.State.{State, rest_in, noted_of, without_noted}
-use Rattle.con_machine.specs.Outcome.{Outcome, refused, answered, done, by_answer, by_result, while_open, guard, with_object, on_input, on_buffer, buffer_of, are_rights, checked, has_bit}
-use Rattle.con_machine.specs.Call.{called}
-use Rattle.con_machine.specs.HandleCalls.{opened, opened_at, buffer_made}
-use Rattle.con_machine.specs.ScreenCalls.{mode_in, numbers_of, is_size, refitted_at, is_place, cursor_numbers, is_origin, written_to, mode_changed, is_input_mode, with_screen, with_page, page_of}
-use Rattle.con_machine.specs.LineCalls.{told_alias_in}
+use Rattle.con_machine.specs.Outcome.{Outcome, refused, by_answer, has_bit}
+use Rattle.con_machine.specs.ScreenCalls.{with_page, page_of}
 use Rattle.con_machine.specs.Serving.{followed, settled_state, line_shown, line_finished, shows_line, with_echo}
 use Rattle.con_machine.specs.Signals.{signalled_to}
 use Rattle.con_machine.specs.Closing.{hung_up, closing}
 use Rattle.con_machine.specs.Reads as waits
 use Rattle.con_machine.specs.Reads.{history_used, answered_with, with_read, line_begun, rest_answered, is_empty}
-use Rattle.con_machine.specs.Terminal.{key_taken, is_break, records_of, sequence_taken, by_report, piece_taken, fed, quiet, resized, size_told, size_record}
+use Rattle.con_machine.specs.Terminal.{key_taken, is_break, records_of, by_report, piece_taken, fed, quiet, resized, size_told, size_record}
 use Rattle.con_machine.specs.Painting.{painted, view_now, differs}
 use Rattle.con_machine.specs.Step.{step, effect, is_outside, finished, client_of, is_ready, is_due}
 use Rattle.con_machine.specs.Moves.{Moves}
+use Rattle.con_machine.specs.CallLaws.{CallLeaves, calls_leave}
 use Rattle.con_machine.specs.declared.noted.Noted.{Noted}
 
 -- nothing of it changes
@@ -89,106 +65,28 @@ no s why = record { is = kept s }
 
 -- ---- choices
 
-if_kept : (s : State) (b : Bool) (x y : Outcome) → Kept s x → Kept s y → Kept s (if b then x else y)
-if_kept s true x y k l = k
-if_kept s false x y k l = l
-
 or_kept : (s : State) (b : Bool) (t u : State) → Keeps s t → Keeps s u → Keeps s (if b then t else u)
 or_kept s true t u k l = k
 or_kept s false t u k l = l
-
-open_kept : (s : State) (o : Outcome) → Kept s o → Kept s (while_open s o)
-open_kept s o k = if_kept s s.closed (refused s code.Closed) o (no s code.Closed) k
-
-object_kept : (s : State) (r : Result Object Code) (f : Object → Outcome) → ((o : Object) → Kept s (f o)) → Kept s (with_object s r f)
-object_kept s (Err why) f k = no s why
-object_kept s (Ok o) f k = k o
-
-buffer_kept : (s : State) (p h right : ℕ) (f : ℕ → Outcome) → ((id : ℕ) → Kept s (f id)) → Kept s (on_buffer s p h right f)
-buffer_kept s p h right f k = object_kept s (guard s p h kind.Output right) (λ o. f (buffer_of o)) (λ o. k (buffer_of o))
-
-input_kept : (s : State) (p h right : ℕ) (o : Outcome) → Kept s o → Kept s (on_input s p h right o)
-input_kept s p h right o k = object_kept s (guard s p h kind.Input right) (λ _. o) (λ _. k)
 
 answer_kept : (s : State) (r : Result (Unit {0}) Code) (t : State) → Keeps s t → Kept s (by_answer s r t)
 answer_kept s (Err why) t k = no s why
 answer_kept s (Ok u) t k = record { is = k }
 
-result_kept : {A : Type 0} (s : State) (r : Result A Code) (t : State) (f : A → Reply) → Keeps s t → Kept s (by_result s r t f)
-result_kept s (Err why) t f k = no s why
-result_kept s (Ok a) t f k = record { is = k }
-
 -- ---- calls
-
-opened_kept : (s : State) (p : ℕ) (o : Object) (rights : ℕ) → Kept s (opened s p o rights)
-opened_kept s p o rights = if_kept s (are_rights rights) (opened_at s p o rights (new_number s.handles p)) (refused s code.BadArgument) (by_number (new_number s.handles p)) (record { is = kept s })
-  where
-    by_number : (r : Result ℕ Code) → Kept s (opened_at s p o rights r)
-    by_number (Err why) = record { is = kept s }
-    by_number (Ok n) = record { is = record { asks = refl; sizes = refl; paints = refl; ends = refl } }
-
-made_kept : (s : State) (p rights : ℕ) (r : Result ℕ Code) (id : Option ℕ) → Kept s (buffer_made s p rights r id)
-made_kept s p rights (Err why) id = record { is = kept s }
-made_kept s p rights (Ok n) None = record { is = kept s }
-made_kept s p rights (Ok n) (Some id) = record { is = record { asks = refl; sizes = refl; paints = refl; ends = refl } }
-
-mode_kept : (s : State) (n : ℕ) (o : Object) → Kept s (mode_changed s n o)
-mode_kept s n object.Input = answer_kept s (checked (is_input_mode n)) (record s { mode = n }) (record { asks = refl; sizes = refl; paints = refl; ends = refl })
-mode_kept s n (object.Output id) = answer_kept s (checked (nat_lt n 0x10)) (with_screen s id.0 (mode_set (screen_at s.buffers id.0) n)) (record { asks = refl; sizes = refl; paints = refl; ends = refl })
-
-alias_kept : (s : State) (e : Option Entry) → Kept s (told_alias_in s e)
-alias_kept s None = record { is = kept s }
-alias_kept s (Some e) = record { is = kept s }
 
 signal_kept : (s : State) (event group : ℕ) → Keeps s (signalled_to s event group)
 signal_kept s event group = or_kept s ((event == 0) && (group == 0)) (record s { procs = signalled s.procs event group; reads = line_aborted s.reads }) (record s { procs = signalled s.procs event group }) (record { asks = refl; sizes = refl; paints = refl; ends = refl }) (record { asks = refl; sizes = refl; paints = refl; ends = refl })
 
-pub call_keeps : (s : State) (p : ℕ) (c : Call) → Kept s (called s p c)
-unfolding called
-call_keeps s p (calls.BufferCreate rights) = open_kept s _ (if_kept s _ _ _ (made_kept s p rights _ _) (record { is = kept s }))
-call_keeps s p (calls.OpenOut rights) = open_kept s _ (opened_kept s p _ rights)
-call_keeps s p (calls.OpenIn rights) = open_kept s _ (opened_kept s p _ rights)
-call_keeps s p (calls.Close h) = object_kept s (owned s p h) (λ o. done (handle_closed s p h o)) (λ o. record { is = record { asks = refl; sizes = refl; paints = refl; ends = refl } })
-call_keeps s p (calls.Duplicate h rights) = object_kept s (guard s p h kind.Any (if are_rights rights then rights else 0)) (λ o. opened s p o rights) (λ o. opened_kept s p o rights)
-call_keeps s p (calls.Activate h) = buffer_kept s p h 2 (λ id. done (record s { buffers = record s.buffers { active = id } })) (λ id. record { is = record { asks = refl; sizes = refl; paints = refl; ends = refl } })
-call_keeps s p (calls.Mode h) = object_kept s (guard s p h kind.Any 1) (λ o. answered s (replies.Number (mode_in s o))) (λ o. record { is = kept s })
-call_keeps s p (calls.SetMode h mode) = object_kept s (guard s p h kind.Any 2) (mode_changed s mode) (λ o. mode_kept s mode o)
-call_keeps s p (calls.Info h) = buffer_kept s p h 1 (λ id. answered s (replies.Numbers (numbers_of (info_of (page_of s id))))) (λ id. record { is = kept s })
-call_keeps s p (calls.SetSize handle w h) = buffer_kept s p handle 2 (λ id. by_answer s (checked (is_size s.buffers id w h)) (record s { buffers = refitted_at s.buffers id w h })) (λ id. answer_kept s (checked (is_size s.buffers id w h)) (record s { buffers = refitted_at s.buffers id w h }) (record { asks = refl; sizes = refl; paints = refl; ends = refl }))
-call_keeps s p (calls.SetCursor h x y) = buffer_kept s p h 2 (λ id. by_answer s (checked (is_place (page_of s id) x y)) (with_page s id (cursor_set (page_of s id) (natural x) (natural y)))) (λ id. answer_kept s (checked (is_place (page_of s id) x y)) (with_page s id (cursor_set (page_of s id) (natural x) (natural y))) (record { asks = refl; sizes = refl; paints = refl; ends = refl }))
-call_keeps s p (calls.CursorInfo h) = buffer_kept s p h 1 (λ id. answered s (replies.Numbers (cursor_numbers (page_of s id).cursor_size (page_of s id).visible))) (λ id. record { is = kept s })
-call_keeps s p (calls.SetCursorInfo h size visible) = buffer_kept s p h 2 (λ id. by_answer s (checked (nat_lt 0 size && nat_le size 100)) (with_page s id (record (page_of s id) { cursor_size = size; visible = visible }))) (λ id. answer_kept s (checked (nat_lt 0 size && nat_le size 100)) (with_page s id (record (page_of s id) { cursor_size = size; visible = visible })) (record { asks = refl; sizes = refl; paints = refl; ends = refl }))
-call_keeps s p (calls.SetOrigin h x y) = buffer_kept s p h 2 (λ id. by_answer s (checked (is_origin (page_of s id) x y)) (with_page s id (origin_set (page_of s id) (natural x) (natural y)))) (λ id. answer_kept s (checked (is_origin (page_of s id) x y)) (with_page s id (origin_set (page_of s id) (natural x) (natural y))) (record { asks = refl; sizes = refl; paints = refl; ends = refl }))
-call_keeps s p (calls.SetAttr h word) = buffer_kept s p h 2 (λ id. done (with_page s id (record (page_of s id) { pen = pen_of_word word }))) (λ id. record { is = record { asks = refl; sizes = refl; paints = refl; ends = refl } })
-call_keeps s p calls.Title = open_kept s _ (record { is = kept s })
-call_keeps s p (calls.SetTitle text) = open_kept s (if nat_le (length text) 255 then done (record s { title = text }) else refused s code.BadArgument) (if_kept s (nat_le (length text) 255) (done (record s { title = text })) (refused s code.BadArgument) (record { is = record { asks = refl; sizes = refl; paints = refl; ends = refl } }) (record { is = kept s }))
-call_keeps s p (calls.Write h text) = buffer_kept s p h 2 (λ id. if nat_lt 16384 (length text) then refused s code.Limit else answered (written_to s id text) (replies.Number (length text))) (λ id. if_kept s (nat_lt 16384 (length text)) (refused s code.Limit) (answered (written_to s id text) (replies.Number (length text))) (record { is = kept s }) (record { is = record { asks = refl; sizes = refl; paints = refl; ends = refl } }))
-call_keeps s p (calls.RectRead h rect) = buffer_kept s p h 1 (λ id. answered s (rect_told (cells_of s id) rect)) (λ id. record { is = kept s })
-call_keeps s p (calls.RectWrite h rect text words) = buffer_kept s p h 2 (λ id. if are_cells rect text words then by_result s (rect_answer (cells_of s id) rect) (with_cells s id (rect_written (cells_of s id) rect (cells_for text words))) (λ used. replies.Numbers (sides_of used)) else refused s code.BadArgument) (λ id. if_kept s (are_cells rect text words) (by_result s (rect_answer (cells_of s id) rect) (with_cells s id (rect_written (cells_of s id) rect (cells_for text words))) (λ used. replies.Numbers (sides_of used))) (refused s code.BadArgument) (result_kept s (rect_answer (cells_of s id) rect) (with_cells s id (rect_written (cells_of s id) rect (cells_for text words))) (λ used. replies.Numbers (sides_of used)) (record { asks = refl; sizes = refl; paints = refl; ends = refl })) (record { is = kept s }))
-call_keeps s p (calls.RunReadUnits h x y n) = buffer_kept s p h 1 (λ id. answered s (run_told (cells_of s id) (at_place x y) n (λ g. g.unit))) (λ id. record { is = kept s })
-call_keeps s p (calls.RunReadAttrs h x y n) = buffer_kept s p h 1 (λ id. answered s (run_told (cells_of s id) (at_place x y) n (λ g. g.attr.word))) (λ id. record { is = kept s })
-call_keeps s p (calls.RunWriteUnits h x y text) = buffer_kept s p h 2 (λ id. by_result s (run_answer (cells_of s id) (at_place x y) (length text)) (with_cells s id (units_written (cells_of s id) (at_place x y) text)) (replies.Number)) (λ id. result_kept s (run_answer (cells_of s id) (at_place x y) (length text)) (with_cells s id (units_written (cells_of s id) (at_place x y) text)) (replies.Number) (record { asks = refl; sizes = refl; paints = refl; ends = refl }))
-call_keeps s p (calls.RunWriteAttrs h x y words) = buffer_kept s p h 2 (λ id. by_result s (run_answer (cells_of s id) (at_place x y) (length words)) (with_cells s id (words_written (cells_of s id) (at_place x y) words)) (replies.Number)) (λ id. result_kept s (run_answer (cells_of s id) (at_place x y) (length words)) (with_cells s id (words_written (cells_of s id) (at_place x y) words)) (replies.Number) (record { asks = refl; sizes = refl; paints = refl; ends = refl }))
-call_keeps s p (calls.FillUnits h x y n unit) = buffer_kept s p h 2 (λ id. answered (with_cells s id (unit_filled (cells_of s id) (at_place x y) n unit)) (replies.Number (run_count (cells_of s id) (at_place x y) n))) (λ id. record { is = record { asks = refl; sizes = refl; paints = refl; ends = refl } })
-call_keeps s p (calls.FillAttrs h x y n word) = buffer_kept s p h 2 (λ id. answered (with_cells s id (word_filled (cells_of s id) (at_place x y) n word)) (replies.Number (run_count (cells_of s id) (at_place x y) n))) (λ id. record { is = record { asks = refl; sizes = refl; paints = refl; ends = refl } })
-call_keeps s p (calls.Scroll h rect clip x y unit word) = buffer_kept s p h 2 (λ id. done (with_cells s id (scrolled (cells_of s id) rect clip (at_place x y) (cell_of unit (plain word))))) (λ id. record { is = record { asks = refl; sizes = refl; paints = refl; ends = refl } })
-call_keeps s p (calls.Peek h n) = input_kept s p h 1 _ (record { is = kept s })
-call_keeps s p (calls.WriteInput h records) = input_kept s p h 2 (if nat_lt 1024 (length records) then refused s code.Limit else answered (record s { records = s.records ++ records }) (replies.Number (length records))) (if_kept s (nat_lt 1024 (length records)) (refused s code.Limit) (answered (record s { records = s.records ++ records }) (replies.Number (length records))) (record { is = kept s }) (record { is = record { asks = refl; sizes = refl; paints = refl; ends = refl } }))
-call_keeps s p (calls.Count h) = input_kept s p h 1 _ (record { is = kept s })
-call_keeps s p (calls.Flush h) = input_kept s p h 2 _ (record { is = record { asks = refl; sizes = refl; paints = refl; ends = refl } })
-call_keeps s p calls.HistoryInfo = open_kept s _ (record { is = kept s })
-call_keeps s p (calls.SetHistory lines number flag) = open_kept s (by_answer s (checked (not (is_refused (record { lines = lines; number = number; flag = flag })))) (record s { histories = configured s.histories (record { lines = lines; number = number; flag = flag }) })) (answer_kept s (checked (not (is_refused (record { lines = lines; number = number; flag = flag })))) (record s { histories = configured s.histories (record { lines = lines; number = number; flag = flag }) }) (record { asks = refl; sizes = refl; paints = refl; ends = refl }))
-call_keeps s p calls.HistoryList = open_kept s _ (record { is = kept s })
-call_keeps s p calls.HistoryClear = open_kept s _ (record { is = record { asks = refl; sizes = refl; paints = refl; ends = refl } })
-call_keeps s p (calls.AliasAdd program source target) = open_kept s (by_answer s (alias.add_answer s.aliases program source target) (record s { aliases = added s.aliases program source target })) (answer_kept s (alias.add_answer s.aliases program source target) (record s { aliases = added s.aliases program source target }) (record { asks = refl; sizes = refl; paints = refl; ends = refl }))
-call_keeps s p (calls.AliasRemove program source) = open_kept s (by_answer s (alias.remove_answer s.aliases program source) (record s { aliases = removed s.aliases program source })) (answer_kept s (alias.remove_answer s.aliases program source) (record s { aliases = removed s.aliases program source }) (record { asks = refl; sizes = refl; paints = refl; ends = refl }))
-call_keeps s p (calls.AliasGet program source) = open_kept s _ (alias_kept s _)
-call_keeps s p (calls.AliasList program) = open_kept s _ (record { is = kept s })
-call_keeps s p calls.Processes = open_kept s _ (record { is = kept s })
-call_keeps s p (calls.Signal event group) = open_kept s _ (if_kept s _ _ _ (record { is = kept s }) (record { is = signal_kept s event group }))
-call_keeps s p (calls.Ignore on) = open_kept s _ (record { is = record { asks = refl; sizes = refl; paints = refl; ends = refl } })
-call_keeps s p (calls.HandlerAdd place) = open_kept s (if nat_le place 255 then by_answer s (add_answer s.procs p place) (record s { procs = handler_added s.procs p place }) else refused s code.BadArgument) (if_kept s (nat_le place 255) (by_answer s (add_answer s.procs p place) (record s { procs = handler_added s.procs p place })) (refused s code.BadArgument) (answer_kept s (add_answer s.procs p place) (record s { procs = handler_added s.procs p place }) (record { asks = refl; sizes = refl; paints = refl; ends = refl })) (record { is = kept s }))
-call_keeps s p (calls.HandlerRemove place) = open_kept s (if nat_le place 255 then by_answer s (remove_answer s.procs p place) (record s { procs = handler_removed s.procs p place }) else refused s code.BadArgument) (if_kept s (nat_le place 255) (by_answer s (remove_answer s.procs p place) (record s { procs = handler_removed s.procs p place })) (refused s code.BadArgument) (answer_kept s (remove_answer s.procs p place) (record s { procs = handler_removed s.procs p place }) (record { asks = refl; sizes = refl; paints = refl; ends = refl })) (record { is = kept s }))
+call_changes : (s : State) (p : ℕ) → CallLeaves (λ t. Keeps s t) s p
+call_changes s p = record {
+  others = λ t e. record { asks = ap (λ (x : State). x.asked) e; sizes = ap (λ (x : State). x.resized) e; paints = ap (λ (x : State). x.painted) e; ends = ap (λ (x : State). x.drained) e };
+  signals = λ event group. record { asks = refl; sizes = refl; paints = refl; ends = refl };
+  breaks = λ event group. record { asks = refl; sizes = refl; paints = refl; ends = refl };
+  ignores = λ on. record { asks = refl; sizes = refl; paints = refl; ends = refl };
+  adds = λ at. record { asks = refl; sizes = refl; paints = refl; ends = refl };
+  removes = λ at. record { asks = refl; sizes = refl; paints = refl; ends = refl };
+}
 
 -- ---- reads are served, and the console closes
 
@@ -307,7 +205,7 @@ size_kept s = or_kept s (has_bit s.mode 8) (record s { records = s.records ++ si
 
 event_moves : (s : State) (p : ℕ) (e : Event) → Moves s e (effect s p e).after
 unfolding effect resized painted
-event_moves s p (events.Call c) = let k = (call_keeps s p c).is in record { asks = k.asks; sizes = k.sizes; paints = k.paints; ends = k.ends }
+event_moves s p (events.Call c) = let k = calls_leave (λ t. Keeps s t) s p (call_changes s p) c in record { asks = k.asks; sizes = k.sizes; paints = k.paints; ends = k.ends }
 event_moves s p (events.Begin w) = let k = (wait_kept s p w).is in record { asks = k.asks; sizes = k.sizes; paints = k.paints; ends = k.ends }
 event_moves s p events.Collect = let k = collected_kept s p in record { asks = k.asks; sizes = k.sizes; paints = k.paints; ends = k.ends }
 event_moves s p events.TakeCtrl = let k = took_kept s p in record { asks = k.asks; sizes = k.sizes; paints = k.paints; ends = k.ends }

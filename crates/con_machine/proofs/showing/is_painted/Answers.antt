@@ -1,4 +1,4 @@
-use Rattle.con_machine.proofs.Views.{shows_same}
+use Rattle.con_machine.specs.SameViews.{shows_same}
 use Rattle.con_machine.proofs.showing.is_painted.Goals as goal
 
 pub returns-in-Some : goal.returns-in-Some

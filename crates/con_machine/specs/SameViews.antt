@@ -1,12 +1,10 @@
 -- That two views are the same is a test.
-use Rattle.std.proofs.Common.{◌≡◌, ℕ, ℤ, Bool, true, false, not, ◌&&◌, List, [], ◌∷◌, Option, None, Some, refl, sym, ap, arith}
+use Rattle.std.proofs.Common.{◌≡◌, ℕ, ℤ, Bool, true, false, not, ◌&&◌, List, [], ◌∷◌, Some, refl, ap, arith}
 use Rattle.std.specs.Prelude.{◌==◌, ◌↔◌, int_le}
 use Rattle.std.proofs.lemmas.Bool.{and_parts, eqb-true, eq-eqb}
 use Rattle.std.proofs.lemmas.Int.{ints}
 use Rattle.con_units.specs.Attr.{Attribute}
 use Rattle.con_units.specs.Glyph.{Glyph}
-use Rattle.con_units.specs.declared.place.Coord.{Coord}
-use Rattle.con_units.specs.declared.place.Size.{Size}
 use Rattle.con_units.specs.declared.shade.Shade.{Shade}
 use Rattle.con_units.specs.declared.shade.Shade.TheVariants as shade
 use Rattle.con_units.specs.declared.view.View.{View}
@@ -64,7 +62,7 @@ view_from : (w v h k : ℕ) (cs bs : List Glyph) (x p y q : ℤ) (s t : Bool) �
     → ◌≡◌ {A = View} (record { size = record { w = w; h = h }; rows = cs; cursor = record { x = x; y = y }; visible = s }) (record { size = record { w = v; h = k }; rows = bs; cursor = record { x = p; y = q }; visible = t })
 view_from w v h k cs bs x p y q s t a b c d e f = rw (a, b, c, d, e, f) refl
 
-view_is : (a b : View) → same_view a b ≡ true → a ≡ b
+pub view_is : (a b : View) → same_view a b ≡ true → a ≡ b
 unfolding same_view
 view_is a b e =
     let p = and_parts ((a.size.w == b.size.w) && (a.size.h == b.size.h) && same_cells a.rows b.rows && same_number a.cursor.x b.cursor.x && same_number a.cursor.y b.cursor.y) (same_bool a.visible b.visible) e in
