@@ -1,26 +1,32 @@
 -- What was written behind one more Paint.
-use Rattle.std.proofs.Common.{◌≡◌, ◌⊎◌, ℕ, ◌+◌, ◌<◌, ◌≤◌, Bool, true, false, List, [], ◌∷◌, ◌++◌, length, take, Option, refl, sym, ap, ◌∙◌, subst, append_assoc, arith, length-append, Result, Ok, Err}
+use Rattle.std.proofs.Common.{◌≡◌, ◌⊎◌, ℕ, ◌+◌, ◌<◌, ◌≤◌, Bool, true, false, List, [], ◌∷◌, ◌++◌, length, take, Option, refl, sym, ap, ◌∙◌, subst, append_assoc, arith, length-append, zero-add, inl, inr, Result, Ok, Err}
 use Rattle.std.specs.Prelude.{if◌then◌else◌}
 use Rattle.std.specs.Result.{IsErr}
 use Rattle.std.proofs.Math.Seq.{take-length, take-append-add}
 use Rattle.con_units.specs.declared.code.OutOfMemory.{OutOfMemory}
 use Rattle.con_units.specs.declared.place.Size.{Size}
 use Rattle.con_units.specs.declared.view.View.{View}
+use Rattle.con_units.specs.declared.view.Sight.{Sight}
+use Rattle.con_units.specs.declared.view.Sight.TheVariants as sights
 use Rattle.con_outside.specs.Outside.{then_written, WroteFront}
 use Rattle.con_outside.specs.Laws.{then_written-more}
 use Rattle.con_term.specs.Terminal.{Terminal}
 use Rattle.con_paint.specs.Painter.{Kept, Allows, Paints, IsShown, unpainted}
 use Rattle.con_events.specs.declared.actor.Actor.TheVariants as actors
 use Rattle.con_events.specs.declared.entry.Entry.{Entry}
+use Rattle.con_events.specs.declared.event.Event.{Event}
 use Rattle.con_events.specs.declared.event.Event.TheVariants as events
 use Rattle.con_events.specs.declared.reply.Reply.{Reply}
 use Rattle.con_machine.specs.History.{run}
 use Rattle.con_machine.specs.Painting.{view_now, is_fresh}
+use Rattle.con_machine.specs.HistoryLaws.{paints-append}
 use Rattle.con_machine.specs.Rounds.{Begun}
+use Rattle.con_machine.specs.Sights.{sights_of, sights_at}
+use Rattle.con_machine.specs.Turns.{moved, paints, is_paint}
 use Rattle.con_machine.specs.State.{State}
 use Rattle.con_session.specs.Desk.{Rests, entry}
-use Rattle.con_session.specs.Painting.{Written, EntersPaint, CanvasIs, CanvasEnds, PaintTurn, Pictures}
-use Rattle.con_session.specs.Runs.{joined, ends_from}
+use Rattle.con_session.specs.Painting.{Written, EntersPaint, PainterStands, CanvasIs, CanvasEnds, PaintTurn, Pictures}
+use Rattle.con_session.specs.Runs.{Matched, joined, ends_from}
 use Rattle.con_session.proofs.PaintingLaws.{painter_paint, none_each, readied}
 
 append_none : {A : Type 0} (xs : List A) → xs ++ [] ≡ xs
@@ -80,13 +86,47 @@ canvas_paint b size before now later kept after ps ends end upto v fresh failed 
       end' = m;
     }
 
+-- a piece for each Paint
+abbrev pub pictures : List Sight → ℕ
+pictures [] = 0
+pictures (sights.Resize z ∷ ss) = pictures ss
+pictures (sights.Paint v ∷ ss) = 1 + pictures ss
+
+matched_count : (ss : List Sight) (ps : List (List ℕ)) → Matched ss ps → length ps ≡ pictures ss
+matched_count [] [] m = refl
+matched_count [] (q ∷ qs) m = absurd m
+matched_count (sights.Resize z ∷ ss) ps m = matched_count ss ps m
+matched_count (sights.Paint v ∷ ss) [] m = absurd m
+matched_count (sights.Paint v ∷ ss) (q ∷ qs) m = let e = matched_count ss qs m in omega arith
+
+one_sight : (s : State) (e : Event) (ss : List Sight) → pictures (sights_at s e ++ ss) ≡ (if is_paint e then 1 else 0) + pictures ss
+one_sight s (events.Call c) ss = sym (zero-add (pictures ss))
+one_sight s (events.Begin w) ss = sym (zero-add (pictures ss))
+one_sight s events.Collect ss = sym (zero-add (pictures ss))
+one_sight s events.TakeCtrl ss = sym (zero-add (pictures ss))
+one_sight s (events.Exit status) ss = sym (zero-add (pictures ss))
+one_sight s (events.Feed bytes) ss = sym (zero-add (pictures ss))
+one_sight s events.Quiet ss = sym (zero-add (pictures ss))
+one_sight s (events.Resize z) ss = sym (zero-add (pictures ss))
+one_sight s events.Ask ss = sym (zero-add (pictures ss))
+one_sight s events.Hangup ss = sym (zero-add (pictures ss))
+one_sight s events.Drained ss = sym (zero-add (pictures ss))
+one_sight s events.Paint ss = refl
+
+pictures_are : (s : State) (h : List Entry) → pictures (sights_of s h) ≡ paints h
+pictures_are s [] = refl
+pictures_are s (x ∷ xs) = one_sight s x.event (sights_of (moved s x) xs) ∙ ap (λ (n : ℕ). (if is_paint x.event then 1 else 0) + n) (pictures_are (moved s x) xs)
+
+pub painted_count : (b : Begun) (h : List Entry) (size : Size) (kept : Kept) (ps : List (List ℕ)) → PainterStands b h size kept ps → length ps ≡ paints h
+painted_count b h size kept ps k = matched_count (sights_of b.state h) ps k.matched ∙ pictures_are b.state h
+
 -- its end
 pub canvas_ends : (b : Begun) (h : List Entry) (size : Size) (kept : Kept) (ps : List (List ℕ)) (ends : List ℕ) (end : ℕ) (before now : Option (List ℕ)) (failed : Bool) → CanvasIs b h size kept ps ends end before now failed → CanvasEnds b h size ends before now
-canvas_ends b h size kept ps ends end before now failed k = record { pieces = ps; each = k.stands.each; ends' = k.ends'; failed = failed; written = k.written }
+canvas_ends b h size kept ps ends end before now failed k = record { pieces = ps; each = k.stands.each; ends' = k.ends'; count = inl (painted_count b h size kept ps k.stands); failed = failed; written = k.written }
 
 -- a Paint without a frame ends it
 pub canvas_none : (b : Begun) (h g : List Entry) (size : Size) (kept : Kept) (ps : List (List ℕ)) (ends : List ℕ) (end : ℕ) (before now : Option (List ℕ)) (failed : Bool) → g ≡ h ++ entry actors.Painter events.Paint ∷ [] → CanvasIs b h size kept ps ends end before now failed → CanvasEnds b g size ends before now
-canvas_none b h g size kept ps ends end before now failed e k = record { pieces = ps; each = none_each b h g size kept ps e k.stands; ends' = k.ends'; failed = failed; written = k.written }
+canvas_none b h g size kept ps ends end before now failed e k = record { pieces = ps; each = none_each b h g size kept ps e k.stands; ends' = k.ends'; count = inr (ap (λ (n : ℕ). n + 1) (painted_count b h size kept ps k.stands) ∙ sym (ap paints e ∙ paints-append h (entry actors.Painter events.Paint ∷ []))); failed = failed; written = k.written }
 
 was_fine : (b : Begun) (h : List Entry) (size : Size) (kept : Kept) (ps : List (List ℕ)) (ends : List ℕ) (end : ℕ) (before now : Option (List ℕ)) (failed : Bool) → failed ≡ false → CanvasIs b h size kept ps ends end before now failed → CanvasIs b h size kept ps ends end before now false
 was_fine b h size kept ps ends end before now failed e k = let P : Bool → Type 0 = λ x. CanvasIs b h size kept ps ends end before now x in subst P e k
@@ -119,3 +159,10 @@ pub paint_err : (b : Begun) (s t : State) (h g : List Entry) (rs qs : List Reply
     → (Rests s t h g rs qs ⊎ EntersPaint s t h g rs qs) → (old : List ℕ) → ends ≡ old → CanvasEnds b g size old before now → PaintTurn result b s t h g rs qs size kept ps ends end before now failed
 paint_err b s t h g rs qs size kept ps ends end before now failed (Ok x) i e old same k = absurd (cc)
 paint_err b s t h g rs qs size kept ps ends end before now failed (Err x) i e old same k = (e, let P : List ℕ → Type 0 = λ y. CanvasEnds b g size y before now in subst P (sym same) k)
+
+-- its end, where nothing was entered
+pub canvas_rests : (b : Begun) (s t : State) (h g : List Entry) (rs qs : List Reply) (size : Size) (kept : Kept) (ps : List (List ℕ)) (ends : List ℕ) (end : ℕ) (before now : Option (List ℕ)) (failed : Bool) → Rests s t h g rs qs → CanvasIs b h size kept ps ends end before now failed → CanvasEnds b g size ends before now
+canvas_rests b s t h g rs qs size kept ps ends end before now failed r k = let P : List Entry → Type 0 = λ z. CanvasEnds b z size ends before now in subst P (sym r.entries) (canvas_ends b h size kept ps ends end before now failed k)
+
+pub ends_as : (b : Begun) (h : List Entry) (size : Size) (es old : List ℕ) (before now : Option (List ℕ)) → es ≡ old → CanvasEnds b h size old before now → CanvasEnds b h size es before now
+ends_as b h size es old before now e k = let P : List ℕ → Type 0 = λ z. CanvasEnds b h size z before now in subst P (sym e) k

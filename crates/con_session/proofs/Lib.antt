@@ -1,8 +1,14 @@
 pub mod Replying
+pub mod DeskLaws
 pub mod RanLaws
+pub mod RackLaws
 pub mod WorkerLaws
 pub mod StepLaws
 pub mod HandsLaws
+pub mod ChainLaws
+pub mod HandlerTurns
+pub mod StandingLaws
+pub mod SeatLaws
 pub mod SenderLaws
 pub mod LinkLaws
 pub mod RunLaws
@@ -10,3 +16,10 @@ pub mod StreamLaws
 pub mod PaintingLaws
 pub mod CanvasLaws
 pub mod PaintTurns
+pub mod PaintCounts
+pub mod TiedLaws
+pub mod Rounding
+pub mod Turning
+pub mod Going
+pub mod Ending
+pub mod OpeningLaws

@@ -1,6 +1,6 @@
 -- The terminal's side behind one more entry.
 use Rattle.std.proofs.Common.{◌≡◌, ◌⊎◌, ℕ, Bool, true, false, List, [], ◌∷◌, ◌++◌, Option, Some, None, refl, sym, ap, ◌∙◌, subst, append_assoc, inl, inr, arith}
-use Rattle.std.specs.Prelude.{not, ◌&&◌, nat_le, ◌+◌, length, Ok}
+use Rattle.std.specs.Prelude.{not, ◌&&◌, nat_le, ◌+◌, length, Ok, map}
 use Rattle.std.proofs.lemmas.Bool.Decides.{nat_tests}
 use Rattle.con_units.specs.declared.view.Frame.{Frame}
 use Rattle.con_units.specs.declared.view.Frame.TheVariants as frames
@@ -20,7 +20,7 @@ use Rattle.con_machine.specs.State.{State}
 use Rattle.con_machine.specs.Step.{is_ready, is_due}
 use Rattle.con_machine.specs.Turns.{sent, is_terminal, is_last_sent, has_ended, paints}
 use Rattle.con_session.specs.Desk.{entry}
-use Rattle.con_session.specs.Sender.{SideStands, FailsBy}
+use Rattle.con_session.specs.Sender.{SideStands, FailsBy, hung}
 
 pub ends_same : (f : Frame) → is_last_sent (sent_by f) ≡ ends_link f
 ends_same (frames.Bytes bytes) = refl
@@ -34,19 +34,28 @@ pub record SideStandsOf (es : List Event) (coming : List Frame) (cut ended : Boo
   pub follows : (c : Bool) → (cut ≡ true → c ≡ true) → (more : List Frame) → FollowsLink c (coming ++ more) es
   pub after' : ended ≡ false → (more : List Frame) → after sent_one (record { coming = coming ++ more; ended = false }) es ≡ record { coming = more; ended = false }
   pub ended' : has_ended false es ≡ ended
+  pub all' : es ≡ map sent_by coming ++ hung cut
 
 to_side : (h : List Entry) (coming : List Frame) (cut ended : Bool) → SideStandsOf (sent h) coming cut ended → SideStands h coming cut ended
-to_side h coming cut ended k = record { follows = k.follows; after' = k.after'; ended' = k.ended' }
+to_side h coming cut ended k = record { follows = k.follows; after' = k.after'; ended' = k.ended'; all' = k.all' }
 
 -- another's entry
 pub side_other : (h : List Entry) (x : Entry) (coming : List Frame) (cut ended : Bool) → is_terminal x.actor ≡ false → SideStands h coming cut ended → SideStands (h ++ x ∷ []) coming cut ended
 side_other h x coming cut ended n k =
     let P : List Event → Type 0 = λ es. SideStandsOf es coming cut ended in
-    to_side (h ++ x ∷ []) coming cut ended (subst P (sym (sent-other h x n)) (record { follows = k.follows; after' = k.after'; ended' = k.ended' }))
+    to_side (h ++ x ∷ []) coming cut ended (subst P (sym (sent-other h x n)) (record { follows = k.follows; after' = k.after'; ended' = k.ended'; all' = k.all' }))
 
 -- a frame's event
 one_more : (coming : List Frame) (f : Frame) (more : List Frame) → (coming ++ f ∷ []) ++ more ≡ coming ++ f ∷ more
 one_more coming f more = append_assoc coming (f ∷ []) more
+
+append_none : {A : Type 0} (xs : List A) → xs ++ [] ≡ xs
+append_none [] = refl
+append_none (x ∷ xs) = ap (λ ys. x ∷ ys) (append_none xs)
+
+mapped_more : (coming : List Frame) (f : Frame) → map sent_by (coming ++ f ∷ []) ≡ map sent_by coming ++ sent_by f ∷ []
+mapped_more [] f = refl
+mapped_more (x ∷ xs) f = ap (λ (es : List Event). sent_by x ∷ es) (mapped_more xs f)
 
 abbrev pub sender : List Frame → Bool → Sender
 sender coming ended = record { coming = coming; ended = ended }
@@ -61,6 +70,7 @@ frame_follows es coming f k = record {
       ap (λ (fs : List Frame). after sent_one (record { coming = fs; ended = false }) (es ++ sent_by f ∷ [])) (one_more coming f more)
       ∙ (after-append sent_one begun es (sent_by f ∷ []) ∙ (ap (λ (s : Sender). sent_one s (sent_by f)) (k.after' refl (f ∷ more)) ∙ ap (λ (b : Bool). sender more b) n));
   ended' = has_ended-one false es (sent_by f);
+  all' = ap (λ (x : List Event). x ++ sent_by f ∷ []) (k.all' ∙ append_none (map sent_by coming)) ∙ (sym (mapped_more coming f) ∙ sym (append_none (map sent_by (coming ++ f ∷ []))));
 }
 
 pub side_frame : (h : List Entry) (coming : List Frame) (f : Frame) → SideStands h coming false false → SideStands (h ++ entry actors.Terminal (sent_by f) ∷ []) (coming ++ f ∷ []) false (ends_link f)
@@ -68,7 +78,7 @@ side_frame h coming f k =
     let x = entry actors.Terminal (sent_by f) in
     let P : List Event → Type 0 = λ es. SideStandsOf es (coming ++ f ∷ []) false (is_last_sent (sent_by f)) in
     let Q : Bool → Type 0 = λ b. SideStands (h ++ x ∷ []) (coming ++ f ∷ []) false b in
-    subst Q (ends_same f) (to_side (h ++ x ∷ []) (coming ++ f ∷ []) false (is_last_sent (sent_by f)) (subst P (sym (sent-own h x refl)) (frame_follows (sent h) coming f (record { follows = k.follows; after' = k.after'; ended' = k.ended' }))))
+    subst Q (ends_same f) (to_side (h ++ x ∷ []) (coming ++ f ∷ []) false (is_last_sent (sent_by f)) (subst P (sym (sent-own h x refl)) (frame_follows (sent h) coming f (record { follows = k.follows; after' = k.after'; ended' = k.ended'; all' = k.all' }))))
 
 -- a Hangup that is no frame
 hang_follows : (es : List Event) (coming : List Frame) → SideStandsOf es coming false false → SideStandsOf (es ++ events.Hangup ∷ []) coming true true
@@ -78,13 +88,14 @@ hang_follows es coming k = record {
       along-one (MaySend c) sent_one begun es events.Hangup (k.follows c (λ e. absurd (cc)) more) (subst Q (sym (k.after' refl more)) (refl, inr (i refl, refl)));
   after' = λ n more. absurd (cc);
   ended' = has_ended-one false es events.Hangup;
+  all' = ap (λ (x : List Event). x ++ events.Hangup ∷ []) (k.all' ∙ append_none (map sent_by coming));
 }
 
 pub side_hung : (h : List Entry) (coming : List Frame) → SideStands h coming false false → SideStands (h ++ entry actors.Terminal events.Hangup ∷ []) coming true true
 side_hung h coming k =
     let x = entry actors.Terminal events.Hangup in
     let P : List Event → Type 0 = λ es. SideStandsOf es coming true true in
-    to_side (h ++ x ∷ []) coming true true (subst P (sym (sent-own h x refl)) (hang_follows (sent h) coming (record { follows = k.follows; after' = k.after'; ended' = k.ended' })))
+    to_side (h ++ x ∷ []) coming true true (subst P (sym (sent-own h x refl)) (hang_follows (sent h) coming (record { follows = k.follows; after' = k.after'; ended' = k.ended'; all' = k.all' })))
 
 -- ---- the turn of the terminal's side
 

@@ -1,8 +1,9 @@
 -- What a worker enters of its script.
-use Rattle.std.proofs.Common.{◌≡◌, ◌⊎◌, ℕ, ◌+◌, ◌≤◌, Bool, true, false, List, [], ◌∷◌, ◌++◌, length, refl, sym, ap, ◌∙◌, subst, drop, Some, Ok, arith}
+use Rattle.std.proofs.Common.{◌≡◌, ◌⊎◌, ℕ, suc, ◌+◌, ◌<◌, ◌≤◌, get_or, Bool, true, false, List, [], ◌∷◌, ◌++◌, length, refl, sym, ap, ◌∙◌, subst, drop, Some, Ok, arith}
 use Rattle.std.specs.Prelude.{not, if◌then◌else◌}
 use Rattle.std.proofs.lemmas.Grind.{common_steps}
 use Rattle.std.proofs.lemmas.List.{drop-drop}
+use Rattle.std.proofs.Math.Seq.{drop-cons}
 use Rattle.con_events.specs.declared.actor.Actor.TheVariants as actors
 use Rattle.con_events.specs.declared.call.Call.{Call}
 use Rattle.con_events.specs.declared.call.Call.TheVariants as calls
@@ -13,8 +14,8 @@ use Rattle.con_events.specs.declared.event.Wanted.{Wanted}
 use Rattle.con_events.specs.declared.reply.Reply.{Reply}
 use Rattle.con_events.specs.declared.reply.Reply.TheVariants as replies
 use Rattle.con_events.specs.declared.script.Step.{Step}
-use Rattle.con_machine.specs.Client.{Client, GoesOn, due, next_event, event_of, is_fail, chained}
-use Rattle.con_machine.specs.Rounds.{Begun, client_at}
+use Rattle.con_machine.specs.Client.{Client, GoesOn, MayBy, due, next_event, event_of, is_fail, chained}
+use Rattle.con_machine.specs.Rounds.{Begun, IsTurn, client_at}
 use Rattle.con_machine.specs.State.{State}
 use Rattle.con_machine.specs.Step.{step, is_ready}
 use Rattle.con_session.specs.Desk.{Enters, brief_of, is_refused}
@@ -23,7 +24,7 @@ use Rattle.con_session.proofs.WorkerLaws.{own_is, going_may, due_may, begin_read
 use Rattle.con_session.specs.declared.desk.Brief.{Brief}
 use Rattle.con_session.specs.declared.worker.Worker.{Worker}
 
-refused_is : (r : Reply) → is_refused (brief_of r) ≡ is_fail r
+pub refused_is : (r : Reply) → is_refused (brief_of r) ≡ is_fail r
 refused_is (replies.Fail code) = refl
 refused_is (replies.Ctrl n) = refl
 refused_is replies.Done = refl
@@ -35,7 +36,7 @@ refused_is (replies.Records rs) = refl
 refused_is (replies.Cells rect cells) = refl
 refused_is (replies.Lines ls) = refl
 
-drop_one : (at : ℕ) (steps : List Step) → drop 1 (drop at steps) ≡ drop (at + 1) steps
+pub drop_one : (at : ℕ) (steps : List Step) → drop 1 (drop at steps) ≡ drop (at + 1) steps
 drop_one at steps = drop-drop 1 at steps
 
 -- what is due where no read is open
@@ -50,6 +51,18 @@ next_exit c steps w k m = let Q : List Step → Type 0 = λ x. events.Exit 0 ≡
 
 pub next_step : (c : Client) (steps : List Step) (w : Worker) (one : Step) (rest : List Step) → IsWorker c steps w → drop w.at steps ≡ one ∷ rest → event_of one ≡ next_event c.left
 next_step c steps w one rest k e = let Q : List Step → Type 0 = λ x. event_of one ≡ next_event x in subst Q (sym (k.left ∙ e)) refl
+
+-- the step at which it is
+pub at_step : (c : Client) (steps : List Step) (w : Worker) (one : Step) → IsWorker c steps w → w.at < length steps → one ≡ get_or steps w.at one → event_of one ≡ next_event c.left
+at_step c steps w one k m e = next_step c steps w one (drop (suc w.at) steps) k (drop-cons steps w.at one m ∙ ap (λ (x : Step). x ∷ drop (suc w.at) steps) (sym e))
+
+-- what is next may be entered, and is its turn
+pub may_step : (b : Begun) (p : ℕ) (s : State) (h : List Entry) (steps : List Step) (w : Worker) (ev : Event) → ClientIs b p s h steps w → w.gone ≡ false → w.leaving ≡ false → w.reading ≡ false
+    → is_ready s (actors.Client p) events.TakeCtrl ≡ false → ev ≡ next_event (client_at b h p).left
+    → MayBy (client_at b h p).stance (client_at b h p) ev × IsTurn b h (actors.Client p) (Some ev)
+may_step b p s h steps w ev k n l r u d =
+    let c = client_at b h p in
+    (going_may c steps w ev k.worker l n (due_may c ev (none_pending b p s h steps w k n u).1 (due_next c steps w ev k.worker r d)), step_turn b p s h steps w ev k n l r u d)
 
 pub began_turn_is : (b : Begun) (p : ℕ) (s t : State) (h g : List Entry) (rs qs : List Reply) (steps : List Step) (w : Worker) (wanted : Wanted) (brief : Brief) (reading : Bool) → reading ≡ not (is_refused brief) → brief ≡ brief_of (step s (actors.Client p) (events.Begin wanted)).reply
     → ClientIs b p s h steps w → w.gone ≡ false → w.leaving ≡ false → w.reading ≡ false → is_ready s (actors.Client p) events.TakeCtrl ≡ false → events.Begin wanted ≡ next_event (client_at b h p).left
@@ -72,7 +85,7 @@ began_turn_is b p s t h g rs qs steps w wanted brief reading i br k n l r u d en
         reading = ap (λ (x : Client). x.reading) e ∙ (ap not (sym (refused_is reply)) ∙ (ap (λ (x : Brief). not (is_refused x)) (sym br) ∙ sym i));
         stance = let P : Client → Type 0 = λ x. IsStance x.stance w.leaving w.gone in subst P (sym e) (l, n);
       },
-      record { chain = ap (λ (x : Client). x.chain) e; doubtful = ap (λ (x : Client). x.doubtful) e },
+      record { kinds = ap (λ (x : Client). x.kinds) e; chain = ap (λ (x : Client). x.chain) e; doubtful = ap (λ (x : Client). x.doubtful) e },
     )
 
 -- a call that adds and removes no handler leaves the chain alone
@@ -149,5 +162,5 @@ called_turn b p s t h g rs qs steps w call i k n l r u d en =
         reading = ap (λ (x : Client). x.reading) e ∙ k.worker.reading;
         stance = let P : Client → Type 0 = λ x. IsStance x.stance w.leaving w.gone in subst P (sym e) (l, n);
       },
-      record { chain = ap (λ (x : Client). x.chain) e; doubtful = ap (λ (x : Client). x.doubtful) e },
+      record { kinds = ap (λ (x : Client). x.kinds) e; chain = ap (λ (x : Client). x.chain) e; doubtful = ap (λ (x : Client). x.doubtful) e },
     )

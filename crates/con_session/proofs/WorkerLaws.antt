@@ -24,7 +24,8 @@ use Rattle.con_machine.specs.Step.{step, is_ready, is_due}
 use Rattle.con_machine.specs.Turns.{Turn, turns, turn_of, is_client, is_pending}
 use Rattle.con_session.specs.Desk.{Enters, Rests, brief_of, entry}
 use Rattle.con_session.specs.Standing.{is_here}
-use Rattle.con_session.specs.Worker.{IsStance, HandsAre, IsWorker, ClientIs, Keeps, Acts, ClientTurn, HandsTurn}
+use Rattle.con_session.specs.Worker.{IsStance, HandsAre, IsRack, HandsStand, places_in, IsWorker, ClientIs, Keeps, Acts, ClientTurn, HandsTurn}
+use Rattle.con_session.proofs.RackLaws.{hands_keep, rack_delivered}
 use Rattle.con_session.specs.declared.desk.Brief.{Brief}
 use Rattle.con_session.specs.declared.desk.Brief.TheVariants as briefs
 use Rattle.con_session.specs.declared.worker.Worker.{Worker}
@@ -95,7 +96,7 @@ stepped_by : (c : Client) (b o d : Bool) (ev : Event) → b ≡ false → o ≡ 
 stepped_by c b o d ev e f g = rw (e, f, g) refl
 
 -- the client's own record is moved by its own entry
-client_own : (b : Begun) (h : List Entry) (x : Entry) (p : ℕ) → is_client p x.actor ≡ true → client_at b (h ++ x ∷ []) p ≡ moved_on (client_at b h p) (turn_of (run b.state h) p x)
+pub client_own : (b : Begun) (h : List Entry) (x : Entry) (p : ℕ) → is_client p x.actor ≡ true → client_at b (h ++ x ∷ []) p ≡ moved_on (client_at b h p) (turn_of (run b.state h) p x)
 client_own b h x p n = ap (client_after (steps_of b.session p) (kinds_of b.racks p)) (turns-own b.state p h x n)
     ∙ after-append moved_on (starting (steps_of b.session p) (kinds_of b.racks p)) (turns b.state p h) (turn_of (run b.state h) p x ∷ [])
 
@@ -219,7 +220,7 @@ left_turn b p s t h g rs qs steps w status k n m u =
     let e = own_is b p s t h g rs qs (events.Exit status) k.state n in (
       acts b p s t h g rs qs (events.Exit status) k.state n (exit_ready s p status) m u,
       record { left = ap (λ c. c.left) e ∙ k.worker.left; reading = ap (λ c. c.reading) e ∙ k.worker.reading; stance = let P : Client → Type 0 = λ c. IsStance c.stance w.leaving true in subst P (sym e) refl },
-      record { chain = ap (λ c. c.chain) e; doubtful = ap (λ c. c.doubtful) e },
+      record { kinds = ap (λ c. c.kinds) e; chain = ap (λ c. c.chain) e; doubtful = ap (λ c. c.doubtful) e },
     )
 
 -- the answer of a read
@@ -234,24 +235,19 @@ collected_turn b p s t h g rs qs steps w k n l r q u en =
       acts b p s t h g rs qs events.Collect k.state en u (going_may c steps w events.Collect k.worker l n (due_may c events.Collect (none_pending b p s h steps w k n q).1 d))
           (going_turn b p s h steps w (Some events.Collect) k n l (collected_by c (is_pending s p) (is_open s.reads p) (has_done s.reads p) (none_pending b p s h steps w k n q).0 (open_is b p s h steps w k n ∙ r) (sym (collect_ready s p (is_there b p s h steps w k n)) ∙ u))),
       record { left = ap (λ x. x.left) e ∙ k.worker.left; reading = ap (λ x. x.reading) e; stance = let P : Client → Type 0 = λ x. IsStance x.stance w.leaving w.gone in subst P (sym e) (l, n) },
-      record { chain = ap (λ x. x.chain) e; doubtful = ap (λ x. x.doubtful) e },
+      record { kinds = ap (λ x. x.kinds) e; chain = ap (λ x. x.chain) e; doubtful = ap (λ x. x.doubtful) e },
     )
 
 -- refusals
 pub rests_turn : (b : Begun) (p : ℕ) (s t : State) (h g : List Entry) (rs qs : List Reply) (steps : List Step) (w : Worker) (err : OutOfMemory) → Rests s t h g rs qs → ClientTurn (Err err) b p s t h g rs qs steps w
 rests_turn b p s t h g rs qs steps w err r = inl r
 
-hands_keep : (c d : Client) (places : List ℕ) (ms : List Memory) → Keeps c d → HandsAre c.chain c.doubtful places ms → HandsAre d.chain d.doubtful places ms
-hands_keep c d places ms k a = let P : List Handler → Bool → Type 0 = λ x y. HandsAre x y places ms in
-    let one : HandsAre d.chain c.doubtful places ms = subst (λ (x : List Handler). HandsAre x c.doubtful places ms) (sym k.chain) a in
-    subst (λ (y : Bool). HandsAre d.chain y places ms) (sym k.doubtful) one
-
 -- a turn that leaves the handlers alone
-pub with_hands : (r : Result Bool OutOfMemory) (b : Begun) (p : ℕ) (s t : State) (h g : List Entry) (rs qs : List Reply) (steps : List Step) (w : Worker) (places : List ℕ) (ms : List Memory)
-    → HandsAre (client_at b h p).chain (client_at b h p).doubtful places ms → ClientTurn r b p s t h g rs qs steps w → HandsTurn r b p s t h g rs qs steps w places ms
-with_hands (Ok true) b p s t h g rs qs steps w places ms a k = (k.0, k.1, hands_keep (client_at b h p) (client_at b g p) places ms k.2 a)
-with_hands (Ok false) b p s t h g rs qs steps w places ms a k = (k.0, k.1, k.2, a)
-with_hands (Err e) b p s t h g rs qs steps w places ms a k = k
+pub with_hands : (r : Result Bool OutOfMemory) (b : Begun) (p : ℕ) (s t : State) (h g : List Entry) (rs qs : List Reply) (steps : List Step) (w : Worker) (places : List ℕ) (ms : List Memory) (slots : List ℕ)
+    → HandsStand b p h places ms slots → ClientTurn r b p s t h g rs qs steps w → HandsTurn r b p s t h g rs qs steps w places ms slots
+with_hands (Ok true) b p s t h g rs qs steps w places ms slots a k = (k.0, k.1, hands_keep b p s t h g rs qs k.0.event places ms slots k.0.enters k.2 a)
+with_hands (Ok false) b p s t h g rs qs steps w places ms slots a k = (k.0, k.1, k.2, a)
+with_hands (Err e) b p s t h g rs qs steps w places ms slots a k = k
 
 -- an event was taken
 verdict_by : (two d f handled : Bool) → (d ≡ false → handled ≡ f) → IsStance (if two then MustLeave else if d then MayLeave else if f then GoesOn else MustLeave) (two || not handled) false
@@ -272,11 +268,12 @@ ctrl_is (replies.Records rs) event e = absurd (cc)
 ctrl_is (replies.Cells rect cells) event e = absurd (cc)
 ctrl_is (replies.Lines ls) event e = absurd (cc)
 
-pub took_turn : (b : Begun) (p : ℕ) (s t : State) (h g : List Entry) (rs qs : List Reply) (steps : List Step) (w : Worker) (event : ℕ) (handled : Bool) (places : List ℕ) (ms : List Memory) → ClientIs b p s h steps w → w.gone ≡ false → w.leaving ≡ false
+pub took_turn : (b : Begun) (p : ℕ) (s t : State) (h g : List Entry) (rs qs : List Reply) (steps : List Step) (w : Worker) (event : ℕ) (handled : Bool) (places : List ℕ) (ms : List Memory) (slots : List ℕ) → ClientIs b p s h steps w → w.gone ≡ false → w.leaving ≡ false
     → is_ready s (actors.Client p) events.TakeCtrl ≡ true → Enters s t h g rs qs (actors.Client p) events.TakeCtrl → brief_of (step s (actors.Client p) events.TakeCtrl).reply ≡ briefs.Ctrl event
     → ((client_at b h p).doubtful ≡ false → handled ≡ is_handled (client_at b h p).chain event) → HandsAre (delivered_to (client_at b h p).chain event) (client_at b h p).doubtful places ms
-    → HandsTurn (Ok true) b p s t h g rs qs steps (record w { leaving = (event == 2) || not handled }) places ms
-took_turn b p s t h g rs qs steps w event handled places ms k n l u en br ha are =
+    → IsRack (turns b.state p h) (client_at b h p).kinds slots (places_in (client_at b h p).chain)
+    → HandsTurn (Ok true) b p s t h g rs qs steps (record w { leaving = (event == 2) || not handled }) places ms slots
+took_turn b p s t h g rs qs steps w event handled places ms slots k n l u en br ha are rack =
     let c = client_at b h p in
     let r = (step s (actors.Client p) events.TakeCtrl).reply in
     let e = own_is b p s t h g rs qs events.TakeCtrl k.state en in
@@ -289,7 +286,10 @@ took_turn b p s t h g rs qs steps w event handled places ms k n l u en br ha are
         reading = ap (λ x. x.reading) f ∙ k.worker.reading;
         stance = let Q : Client → Type 0 = λ x. IsStance x.stance ((event == 2) || not handled) w.gone in subst Q (sym f) (let R : Bool → Type 0 = λ x. IsStance (verdict c event) ((event == 2) || not handled) x in subst R (sym n) (verdict_by (event == 2) c.doubtful (is_handled c.chain event) handled ha));
       },
-      let S : Client → Type 0 = λ x. HandsAre x.chain x.doubtful places ms in subst S (sym f) are,
+      record {
+        chain = let S : Client → Type 0 = λ x. HandsAre x.chain x.doubtful places ms in subst S (sym f) are;
+        rack = let S : Client → Type 0 = λ x. IsRack (turns b.state p g) x.kinds slots (places_in x.chain) in subst S (sym f) (rack_delivered b p s t h g rs qs events.TakeCtrl event slots en rack);
+      },
     )
 
 -- a reply to a TakeCtrl that gives no event
@@ -310,24 +310,25 @@ took_none c (replies.Records rs) e = refl
 took_none c (replies.Cells rect cells) e = refl
 took_none c (replies.Lines ls) e = refl
 
-pub took_none_turn : (b : Begun) (p : ℕ) (s t : State) (h g : List Entry) (rs qs : List Reply) (steps : List Step) (w : Worker) (places : List ℕ) (ms : List Memory) (brief : Brief) → ClientIs b p s h steps w → w.gone ≡ false → w.leaving ≡ false
+pub took_none_turn : (b : Begun) (p : ℕ) (s t : State) (h g : List Entry) (rs qs : List Reply) (steps : List Step) (w : Worker) (places : List ℕ) (ms : List Memory) (slots : List ℕ) (brief : Brief) → ClientIs b p s h steps w → w.gone ≡ false → w.leaving ≡ false
     → is_ready s (actors.Client p) events.TakeCtrl ≡ true → Enters s t h g rs qs (actors.Client p) events.TakeCtrl → brief ≡ brief_of (step s (actors.Client p) events.TakeCtrl).reply → IsEvent brief ≡ false
-    → HandsAre (client_at b h p).chain (client_at b h p).doubtful places ms
-    → HandsTurn (Ok true) b p s t h g rs qs steps w places ms
-took_none_turn b p s t h g rs qs steps w places ms brief k n l u en br ev are =
+    → HandsStand b p h places ms slots
+    → HandsTurn (Ok true) b p s t h g rs qs steps w places ms slots
+took_none_turn b p s t h g rs qs steps w places ms slots brief k n l u en br ev are =
     let c = client_at b h p in
     let r = (step s (actors.Client p) events.TakeCtrl).reply in
     let e : client_at b g p ≡ record c { pending = is_pending ((step s (actors.Client p) events.TakeCtrl).after) p } = own_is b p s t h g rs qs events.TakeCtrl k.state en ∙ ap (λ (x : Client). record x { pending = is_pending ((step s (actors.Client p) events.TakeCtrl).after) p }) (took_none c r (ap IsEvent (sym br) ∙ ev)) in (
       acts b p s t h g rs qs events.TakeCtrl k.state en u (going_may c steps w events.TakeCtrl k.worker l n (taking_may c))
           (going_turn b p s h steps w (Some events.TakeCtrl) k n l (taken_by s p c (is_pending s p) (sym (take_ready s p (is_there b p s h steps w k n)) ∙ u))),
       record { left = ap (λ x. x.left) e ∙ k.worker.left; reading = ap (λ x. x.reading) e ∙ k.worker.reading; stance = let Q : Client → Type 0 = λ x. IsStance x.stance w.leaving w.gone in subst Q (sym e) k.worker.stance },
-      let S : Client → Type 0 = λ x. HandsAre x.chain x.doubtful places ms in subst S (sym e) are,
+      hands_keep b p s t h g rs qs events.TakeCtrl places ms slots en (record { kinds = ap (λ x. x.kinds) e; chain = ap (λ x. x.chain) e; doubtful = ap (λ x. x.doubtful) e }) are,
     )
 
-pub took_turn_is : (b : Begun) (p : ℕ) (s t : State) (h g : List Entry) (rs qs : List Reply) (steps : List Step) (w : Worker) (event : ℕ) (handled leaving : Bool) (places : List ℕ) (ms : List Memory) → leaving ≡ ((event == 2) || not handled) → ClientIs b p s h steps w → w.gone ≡ false → w.leaving ≡ false
+pub took_turn_is : (b : Begun) (p : ℕ) (s t : State) (h g : List Entry) (rs qs : List Reply) (steps : List Step) (w : Worker) (event : ℕ) (handled leaving : Bool) (places : List ℕ) (ms : List Memory) (slots : List ℕ) → leaving ≡ ((event == 2) || not handled) → ClientIs b p s h steps w → w.gone ≡ false → w.leaving ≡ false
     → is_ready s (actors.Client p) events.TakeCtrl ≡ true → Enters s t h g rs qs (actors.Client p) events.TakeCtrl → brief_of (step s (actors.Client p) events.TakeCtrl).reply ≡ briefs.Ctrl event
     → ((client_at b h p).doubtful ≡ false → handled ≡ is_handled (client_at b h p).chain event) → HandsAre (delivered_to (client_at b h p).chain event) (client_at b h p).doubtful places ms
-    → HandsTurn (Ok true) b p s t h g rs qs steps (record w { leaving = leaving }) places ms
-took_turn_is b p s t h g rs qs steps w event handled leaving places ms i k n l u en br ha are =
-    let P : Bool → Type 0 = λ x. HandsTurn (Ok true) b p s t h g rs qs steps (record w { leaving = x }) places ms in
-    subst P (sym i) (took_turn b p s t h g rs qs steps w event handled places ms k n l u en br ha are)
+    → IsRack (turns b.state p h) (client_at b h p).kinds slots (places_in (client_at b h p).chain)
+    → HandsTurn (Ok true) b p s t h g rs qs steps (record w { leaving = leaving }) places ms slots
+took_turn_is b p s t h g rs qs steps w event handled leaving places ms slots i k n l u en br ha are rack =
+    let P : Bool → Type 0 = λ x. HandsTurn (Ok true) b p s t h g rs qs steps (record w { leaving = x }) places ms slots in
+    subst P (sym i) (took_turn b p s t h g rs qs steps w event handled places ms slots k n l u en br ha are rack)

@@ -1,5 +1,5 @@
 -- The painter behind a history.
-use Rattle.std.specs.Prelude.{◌≡◌, ◌⊎◌, ℕ, ◌≤◌, Bool, true, false, List, [], ◌∷◌, ◌++◌, length, take, Option, Some, None, Result, Ok, Err, option_map}
+use Rattle.std.specs.Prelude.{◌≡◌, ◌⊎◌, ℕ, ◌+◌, ◌≤◌, Bool, true, false, List, [], ◌∷◌, ◌++◌, length, take, Option, Some, None, Result, Ok, Err, option_map}
 use Rattle.con_units.specs.Limits.{IsWindow}
 use Rattle.con_units.specs.declared.code.OutOfMemory.{OutOfMemory}
 use Rattle.con_units.specs.declared.place.Size.{Size}
@@ -17,6 +17,7 @@ use Rattle.con_machine.specs.Rounds.{Begun, IsTurn}
 use Rattle.con_machine.specs.Sights.{sights_of}
 use Rattle.con_machine.specs.State.{State}
 use Rattle.con_machine.specs.Step.{is_ready}
+use Rattle.con_machine.specs.Turns.{paints}
 use Rattle.con_session.specs.Desk.{Enters, Rests}
 use Rattle.con_session.specs.Runs.{Painted, Matched, EachPiece, Reaches, joined, ends_from}
 
@@ -79,6 +80,7 @@ pub record CanvasEnds (b : Begun) (h : List Entry) (size : Size) (ends : List �
   pub pieces : List (List ℕ)
   pub each : (t : Terminal) → IsTerminal size.w size.h t → EachPiece Painted t None (sights_of b.state h) pieces
   pub ends' : ends ≡ ends_from 0 pieces
+  pub count : (length pieces ≡ paints h) ⊎ (length pieces + 1 ≡ paints h)
   pub failed : Bool
   pub written : Written before now pieces failed
 
@@ -92,4 +94,10 @@ PaintTurn (Err e) b s t h g rs qs size kept ps ends end before now failed = (Res
 abbrev pub PainterActs : Result Bool OutOfMemory → Begun → List Entry → Type 0
 PainterActs (Ok true) b h = IsTurn b h actors.Painter (Some events.Paint)
 PainterActs (Ok false) b h = IsTurn b h actors.Painter None
-PainterActs (Err e) b h = Unit {0}
+PainterActs (Err e) b h = IsTurn b h actors.Painter (Some events.Paint)
+
+-- whether the terminal has failed, before and after: where a Paint is entered it had not
+abbrev pub PainterFails : Result Bool OutOfMemory → Bool → Bool → Type 0
+PainterFails (Ok true) old new = old ≡ false
+PainterFails (Ok false) old new = new ≡ old
+PainterFails (Err e) old new = (old ≡ false) × (new ≡ false)

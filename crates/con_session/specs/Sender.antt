@@ -1,9 +1,10 @@
 -- The terminal's side behind a history.
-use Rattle.std.specs.Prelude.{◌≡◌, ◌⊎◌, ℕ, Bool, true, false, List, [], ◌∷◌, ◌++◌, Option, Some, None, Result, Ok, Err, flat_map, length, ◌≤◌}
+use Rattle.std.specs.Prelude.{◌≡◌, ◌⊎◌, ℕ, Bool, true, false, List, [], ◌∷◌, ◌++◌, Option, Some, None, Result, Ok, Err, map, flat_map, length, ◌≤◌}
+use Rattle.std.specs.List.{list_all}
 use Rattle.con_units.specs.declared.code.OutOfMemory.{OutOfMemory}
 use Rattle.con_units.specs.declared.view.Frame.{Frame}
 use Rattle.con_outside.specs.Outside.{then_left}
-use Rattle.con_link.specs.Frames.{spelling, Answers, IsEnd, ends_link}
+use Rattle.con_link.specs.Frames.{spelling, is_frame, goes_on, Answers, IsLink}
 use Rattle.con_link.specs.declared.fault.LinkFault.{LinkFault}
 use Rattle.con_link.specs.declared.fault.LinkFault.TheVariants as faults
 use Rattle.con_events.specs.declared.actor.Actor.TheVariants as actors
@@ -11,9 +12,10 @@ use Rattle.con_events.specs.declared.end.End.{End}
 use Rattle.con_events.specs.declared.end.End.TheVariants as ends
 use Rattle.con_events.specs.declared.entry.Entry.{Entry}
 use Rattle.con_events.specs.declared.event.Event.{Event}
+use Rattle.con_events.specs.declared.event.Event.TheVariants as events
 use Rattle.con_events.specs.declared.reply.Reply.{Reply}
 use Rattle.con_machine.specs.Along.{after}
-use Rattle.con_machine.specs.Follows.{FollowsLink, sent_one, is_cut}
+use Rattle.con_machine.specs.Follows.{FollowsLink, sent_one, sent_by, is_cut}
 use Rattle.con_machine.specs.Rounds.{Begun, IsTurn, is_failed}
 use Rattle.con_machine.specs.State.{State}
 use Rattle.con_machine.specs.Step.{is_ready}
@@ -33,11 +35,17 @@ abbrev pub FailsBy : Bool → Option ℕ → ℕ → Type 0
 FailsBy false f painted = is_failed f painted ≡ false
 FailsBy true f painted = f ≡ Some painted
 
+-- a hangup that is no frame
+abbrev pub hung : Bool → List Event
+hung false = []
+hung true = events.Hangup ∷ []
+
 -- the terminal's side sent these frames, whatever comes behind them; and perhaps a Hangup that is none
 pub record SideStands (h : List Entry) (coming : List Frame) (cut ended : Bool) : Type 0 where
   pub follows : (c : Bool) → (cut ≡ true → c ≡ true) → (more : List Frame) → FollowsLink c (coming ++ more) (sent h)
   pub after' : ended ≡ false → (more : List Frame) → after sent_one (record { coming = coming ++ more; ended = false }) (sent h) ≡ record { coming = more; ended = false }
   pub ended' : has_ended false (sent h) ≡ ended
+  pub all' : sent h ≡ map sent_by coming ++ hung cut
 
 -- what was read of the link, and why no more is
 pub record LinkIs (h : List Entry) (side : Side) (failed : Bool) (before now : Option (List ℕ)) (taken : ℕ) : Type 0 where
@@ -45,13 +53,31 @@ pub record LinkIs (h : List Entry) (side : Side) (failed : Bool) (before now : O
   pub extra : List ℕ
   pub cut : Bool
   pub stands : SideStands h frames cut side.ended
+  pub frames' : list_all is_frame frames ≡ true
   pub read : before ≡ then_left (flat_map spelling frames ++ extra) now
+  pub open' : side.ended ≡ false → list_all goes_on frames ≡ true
   pub place : side.ended ≡ false → (extra ≡ []) × (taken ≡ length (flat_map spelling frames)) × (cut ≡ false) × (taken ≤ 16777216) × (is_cut side.end ≡ false)
-  pub why : cut ≡ true → (failed ≡ true) ⊎ (is_cut side.end ≡ true)
+  pub why : cut ≡ true → (list_all goes_on frames ≡ true) × ((failed ≡ true) ⊎ (is_cut side.end ≡ true))
   -- a fault that shows behind the frames
-  pub fault : is_cut side.end ≡ true → (f : LinkFault) × (side.end ≡ end_for f) × Answers (Err f) (length (flat_map spelling frames)) extra now
+  pub fault : is_cut side.end ≡ true → (f : LinkFault) × (cut ≡ true) × (side.end ≡ end_for f) × Answers (Err f) (length (flat_map spelling frames)) extra now
   -- the last frame ends the link
-  pub whole : cut ≡ false → side.ended ≡ true → (front : List Frame) × (last : Frame) × (frames ≡ front ++ last ∷ []) × (ends_link last ≡ true) × IsEnd last now × (extra ≡ [])
+  pub whole : cut ≡ false → side.ended ≡ true → IsLink frames now × (extra ≡ []) × (length (flat_map spelling frames) ≤ 16777216)
+
+-- what is known of it where there is no memory
+pub record LinkEnds (h : List Entry) (before now : Option (List ℕ)) : Type 0 where
+  pub frames : List Frame
+  pub extra : List ℕ
+  pub cut : Bool
+  pub ended : Bool
+  pub stands : SideStands h frames cut ended
+  pub frames' : list_all is_frame frames ≡ true
+  pub read : before ≡ then_left (flat_map spelling frames ++ extra) now
+  pub going : (list_all goes_on frames ≡ true) ⊎ IsLink frames now
+
+-- what a turn of the terminal's side leaves of the link
+abbrev pub LinkTurn : Result Bool OutOfMemory → List Entry → Side → Bool → Option (List ℕ) → Option (List ℕ) → ℕ → Type 0
+LinkTurn (Ok acted) h side failed before now taken = LinkIs h side failed before now taken
+LinkTurn (Err e) h side failed before now taken = LinkEnds h before now
 
 -- an event of the terminal's side was entered
 pub record Sends (b : Begun) (s t : State) (h g : List Entry) (rs qs : List Reply) : Type 0 where

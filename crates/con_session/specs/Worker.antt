@@ -1,6 +1,6 @@
 -- A client's worker, and what a turn of it is.
-use Rattle.std.specs.Prelude.{◌≡◌, ◌⊎◌, ℕ, Bool, true, false, List, drop, map, Some, None, Result, Ok, Err, nat_lt}
-use Rattle.std.specs.List.{list_all}
+use Rattle.std.specs.Prelude.{◌≡◌, ◌⊎◌, ℕ, ◌==◌, ◌&&◌, Bool, true, false, not, List, [], ◌∷◌, drop, map, get_or, Option, Some, None, Result, Ok, Err, nat_lt, if◌then◌else◌}
+use Rattle.std.specs.List.{list_all, list_any}
 use Rattle.con_units.specs.declared.code.OutOfMemory.{OutOfMemory}
 use Rattle.con_events.specs.declared.actor.Actor.TheVariants as actors
 use Rattle.con_events.specs.declared.call.Call.{Call}
@@ -10,12 +10,14 @@ use Rattle.con_events.specs.declared.event.Event.{Event}
 use Rattle.con_events.specs.declared.reply.Reply.{Reply}
 use Rattle.con_events.specs.declared.script.Step.{Step}
 use Rattle.con_handlers.specs.Delivery.{Memory}
+use Rattle.con_machine.specs.Added.{has_added}
 use Rattle.con_machine.specs.Chain.{Handler}
 use Rattle.con_machine.specs.Client.{Client, Stance, GoesOn, MayLeave, MustLeave, Gone, MayBy}
 use Rattle.con_machine.specs.History.{run}
 use Rattle.con_machine.specs.Rounds.{Begun, IsTurn, client_at}
 use Rattle.con_machine.specs.State.{State}
 use Rattle.con_machine.specs.Step.{is_ready}
+use Rattle.con_machine.specs.Turns.{Turn, turns}
 use Rattle.con_session.specs.Desk.{Enters, Rests}
 use Rattle.con_session.specs.Standing.{ClientStands}
 use Rattle.con_session.specs.declared.worker.Worker.{Worker}
@@ -39,6 +41,40 @@ pub record HandsAre (hs : List Handler) (doubtful : Bool) (places : List ℕ) (m
   pub asked : doubtful ≡ false → map (λ h. h.asked) hs ≡ map (λ m. m.asked) ms
   pub known : doubtful ≡ false → list_all (λ m. nat_lt 0 m.kind) ms ≡ true
 
+-- ---- the rack
+
+-- the kind of a handler that was never asked; one that was counts as of kind 0
+abbrev pub told_kind : Memory → ℕ
+told_kind m = if m.asked == 0 then m.kind else 0
+
+-- what a place of the rack holds: 0 where nothing is left
+abbrev pub told_in : Option Memory → ℕ
+told_in None = 0
+told_in (Some m) = told_kind m
+
+abbrev pub places_in : List Handler → List ℕ
+places_in hs = map (λ h. h.place) hs
+
+-- no number stands twice
+abbrev pub stand_once : List ℕ → Bool
+stand_once [] = true
+stand_once (x ∷ xs) = not (list_any (λ y. y == x) xs) && stand_once xs
+
+-- what is left of a rack of these kinds after a client's entries, where its chain has these places
+pub record IsRack (ts : List Turn) (kinds slots places : List ℕ) : Type 0 where
+  -- a place that was not added holds its handler
+  pub left : (i : ℕ) → has_added i ts ≡ false → get_or slots i 0 ≡ get_or kinds i 0
+  -- those of the chain were added, each once
+  pub added : list_all (λ i. has_added i ts) places ≡ true
+  pub once : stand_once places ≡ true
+
+-- the handlers of client p behind a history
+pub record HandsStand (b : Begun) (p : ℕ) (h : List Entry) (places : List ℕ) (ms : List Memory) (slots : List ℕ) : Type 0 where
+  pub chain : HandsAre (client_at b h p).chain (client_at b h p).doubtful places ms
+  pub rack : IsRack (turns b.state p h) (client_at b h p).kinds slots (places_in (client_at b h p).chain)
+
+-- ---- the worker
+
 -- a client as its worker keeps it
 pub record IsWorker (c : Client) (steps : List Step) (w : Worker) : Type 0 where
   pub left : c.left ≡ drop w.at steps
@@ -51,8 +87,9 @@ pub record ClientIs (b : Begun) (p : ℕ) (s : State) (h : List Entry) (steps : 
   pub stands : ClientStands b h p
   pub worker : IsWorker (client_at b h p) steps w
 
--- the chain is as before
+-- the handlers are as before
 pub record Keeps (c d : Client) : Type 0 where
+  pub kinds : d.kinds ≡ c.kinds
   pub chain : d.chain ≡ c.chain
   pub doubtful : d.doubtful ≡ c.doubtful
 
@@ -71,7 +108,7 @@ ClientTurn (Ok false) b p s t h g rs qs steps w = Rests s t h g rs qs × IsTurn 
 ClientTurn (Err e) b p s t h g rs qs steps w = Rests s t h g rs qs ⊎ Acts b p s t h g rs qs
 
 -- a turn of a client with its handlers
-abbrev pub HandsTurn : Result Bool OutOfMemory → Begun → ℕ → State → State → List Entry → List Entry → List Reply → List Reply → List Step → Worker → List ℕ → List Memory → Type 0
-HandsTurn (Ok true) b p s t h g rs qs steps w places ms = Acts b p s t h g rs qs × IsWorker (client_at b g p) steps w × HandsAre (client_at b g p).chain (client_at b g p).doubtful places ms
-HandsTurn (Ok false) b p s t h g rs qs steps w places ms = Rests s t h g rs qs × IsTurn b h (actors.Client p) None × IsWorker (client_at b h p) steps w × HandsAre (client_at b h p).chain (client_at b h p).doubtful places ms
-HandsTurn (Err e) b p s t h g rs qs steps w places ms = Rests s t h g rs qs ⊎ Acts b p s t h g rs qs
+abbrev pub HandsTurn : Result Bool OutOfMemory → Begun → ℕ → State → State → List Entry → List Entry → List Reply → List Reply → List Step → Worker → List ℕ → List Memory → List ℕ → Type 0
+HandsTurn (Ok true) b p s t h g rs qs steps w places ms slots = Acts b p s t h g rs qs × IsWorker (client_at b g p) steps w × HandsStand b p g places ms slots
+HandsTurn (Ok false) b p s t h g rs qs steps w places ms slots = Rests s t h g rs qs × IsTurn b h (actors.Client p) None × IsWorker (client_at b h p) steps w × HandsStand b p h places ms slots
+HandsTurn (Err e) b p s t h g rs qs steps w places ms slots = Rests s t h g rs qs ⊎ Acts b p s t h g rs qs

@@ -3,11 +3,16 @@
 //! A [`Desk`] is a console with the history of what was entered and how it was answered. Each actor has turns at it, and
 //! each turn one clause: it entered one event, which was ready and which is the actor's turn, or nothing.
 //!
-//! - A client's [`Worker`] knows how far it is in its script, and its [`Hands`] hold its chain of handlers. [`take_ctrl`],
-//!   [`collect`], [`begin`], [`call_plain`] and [`leave`] are what it does in a turn.
+//! - A client's [`Worker`] knows how far it is in its script, and its [`Hands`] hold its chain of handlers and
+//!   what is left of its rack. [`take_ctrl`], [`collect`], [`next_step`] and [`leave`] are what it does in a turn; [`begin`],
+//!   [`call_plain`], [`call_add`] and [`call_remove`] are steps by their kinds.
+//! - A client's [`Seat`] holds both. [`client_turn`] does the first of these that there is to do, and [`clients_turn`] lets all
+//!   clients have their turns, in the order of their numbers.
 //! - [`terminal_turn`] enters the event of one frame of the link, or a hangup where no frame is read.
 //! - [`painter_turn`] enters a Paint and writes its frame. In every run of a terminal over these frames it shows, after each
 //!   Paint, that Paint's view.
+//!
+//! [`run_solo`] runs a whole session by rounds of these turns, on one thread, and leaves an [`Outcome`].
 //!
 //! Where there is no memory a turn entered nothing, or one event that it may, and says so.
 #![tactic(auto)]
@@ -16,6 +21,9 @@ mod copying;
 mod desk;
 mod hands;
 mod painting;
+mod seat;
+mod solo;
+mod stage;
 mod terminal;
 mod worker;
 
@@ -23,5 +31,10 @@ pub use copying::{copied_call, copied_wanted};
 pub use desk::{Brief, Desk, Picture};
 pub use hands::Hands;
 pub use painting::{Canvas, painter_turn};
+pub use seat::{Seat, client_turn, clients_turn};
+pub use solo::{Outcome, run_solo};
 pub use terminal::{Side, terminal_turn};
-pub use worker::{CTRL_EXIT, Worker, begin, call_plain, collect, leave, take_ctrl};
+pub use worker::{
+    CTRL_EXIT, Worker, begin, call_add, call_plain, call_remove, collect, leave, next_step,
+    take_ctrl,
+};

@@ -1,14 +1,15 @@
 //! The painter's turn: a Paint, its frame, and the frame's bytes to the terminal.
-ghost use Rattle.std.specs.Prelude.{◌≡◌, ℕ, ◌+◌, ◌<◌, true, false, Bool, List, length, slice_index_or, IfOk, Option, if◌then◌else◌};
+ghost use Rattle.std.specs.Prelude.{◌≡◌, ◌⊎◌, ℕ, ◌+◌, ◌<◌, ◌≤◌, true, false, Bool, List, length, slice_index_or, IfOk, Option, if◌then◌else◌};
 ghost use Rattle.con_units.specs.Limits.{IsWindow};
 ghost use Rattle.con_units.specs.View.{IsWhole, row_of};
 ghost use Rattle.con_units.specs.declared.place.Size.{Size};
+ghost use Rattle.con_outside.specs.Outside.{Rose};
 ghost use Rattle.con_term.specs.Terminal.{Terminal};
 ghost use Rattle.con_paint.specs.Painter.{Allows, IsShown, Paints, unpainted};
 ghost use Rattle.con_machine.specs.History.{run};
 ghost use Rattle.con_machine.specs.Rounds.{Begun};
 ghost use Rattle.con_machine.specs.Turns.{paints};
-ghost use Rattle.con_session.specs.Painting.{CanvasIs, IsTied, PainterActs, PaintTurn};
+ghost use Rattle.con_session.specs.Painting.{CanvasIs, IsTied, PainterActs, PainterFails, PaintTurn};
 ghost use Rattle.con_session.specs.Sender.{FailsBy};
 
 use crate::desk::{Desk, Picture};
@@ -86,6 +87,11 @@ pub fn painter_turn<O: Sink>(
 ) -> Result<bool, OutOfMemory>
     requires { IsTied desk.old.console.state canvas.old.painter }
     ensures acts { (b : Begun) → desk.old.console.state ≡ run b.state desk.old.entries.items → FailsBy canvas.old.failed b.failed (paints desk.old.entries.items) → PainterActs result b desk.old.entries.items }
+    ensures served { IfOk result (λ _. (desk.new.console.state.asked ≡ false) ⊎ (canvas.new.failed ≡ true)) }
+    ensures tied { IfOk result (λ _. IsTied desk.new.console.state canvas.new.painter) }
+    ensures fails { PainterFails result canvas.old.failed canvas.new.failed }
+    ensures failed { canvas.new.failed ≡ true → (canvas.old.failed ≡ true) ⊎ Rose (O.faults term.old) (O.faults term.new) }
+    ensures never_falls { O.faults term.old ≤ O.faults term.new }
     ensures turn { (b : Begun) (size : Size) (before : Option (List ℕ)) (ps : List (List ℕ)) → desk.old.console.state ≡ run b.state desk.old.entries.items
         → CanvasIs b desk.old.entries.items size canvas.old.painter ps canvas.old.ends.items canvas.old.end before (O.written term.old) canvas.old.failed
         → PaintTurn result b desk.old.console.state desk.new.console.state desk.old.entries.items desk.new.entries.items desk.old.replies.items desk.new.replies.items size canvas.new.painter ps canvas.new.ends.items canvas.new.end before (O.written term.new) canvas.new.failed }

@@ -6,7 +6,7 @@ ghost use Rattle.con_machine.specs.Follows.{sent_by};
 ghost use Rattle.con_machine.specs.Rounds.{Begun};
 ghost use Rattle.con_machine.specs.Turns.{has_ended, paints, sent};
 ghost use Rattle.con_session.specs.Desk.{Ran};
-ghost use Rattle.con_session.specs.Sender.{end_for, FailsBy, LinkIs, SenderTurn};
+ghost use Rattle.con_session.specs.Sender.{end_for, FailsBy, LinkIs, LinkTurn, SenderTurn};
 
 use crate::desk::Desk;
 use con_events::{Actor, End, Event};
@@ -66,7 +66,8 @@ pub fn terminal_turn<I: Source>(
     ensures ran { Ran desk.old.console.state desk.new.console.state desk.old.entries.items desk.new.entries.items }
     ensures turn { (b : Begun) → FailsBy failed b.failed (paints desk.old.entries.items) → has_ended false (sent desk.old.entries.items) ≡ side.old.ended
         → SenderTurn result b desk.old.console.state desk.new.console.state desk.old.entries.items desk.new.entries.items desk.old.replies.items desk.new.replies.items }
-    ensures link { IfOk result (λ _. (before : Option (List ℕ)) → LinkIs desk.old.entries.items side.old failed before (I.left link.old) reader.old → LinkIs desk.new.entries.items side.new failed before (I.left link.new) reader.new) }
+    ensures link { (before : Option (List ℕ)) → LinkIs desk.old.entries.items side.old failed before (I.left link.old) reader.old → LinkTurn result desk.new.entries.items side.new failed before (I.left link.new) reader.new }
+    ensures few { IfOk result (λ _. side.new.ended ≡ false → reader.new ≤ 16777216) }
     ensures failed { side.new.end ≡ End.Link → (side.old.end ≡ End.Link) ⊎ Rose (I.faults link.old) (I.faults link.new) }
     ensures never_falls { I.faults link.old ≤ I.faults link.new }
 {

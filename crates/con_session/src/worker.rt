@@ -5,8 +5,10 @@ ghost use Rattle.con_machine.specs.Client.{MayBy, next_event};
 ghost use Rattle.con_machine.specs.Rounds.{Begun, IsTurn, client_at};
 ghost use Rattle.con_machine.specs.Step.{is_ready};
 ghost use Rattle.con_session.specs.Desk.{is_refused, Ran};
-ghost use Rattle.con_session.specs.Worker.{ClientIs, ClientTurn, HandsAre, HandsTurn, is_handlers};
+ghost use Rattle.std.specs.Option.{option_map};
+ghost use Rattle.con_session.specs.Worker.{ClientIs, ClientTurn, HandsStand, HandsTurn, is_handlers, told_in};
 
+use crate::copying::{copied_call, copied_wanted};
 use crate::desk::{Brief, Desk};
 use crate::hands::Hands;
 use con_events::{Actor, Call, Event, Step, Wanted};
@@ -90,8 +92,8 @@ pub fn take_ctrl(
     requires some { is_ready desk.old.console.state (Actor.Client p) Event.TakeCtrl ≡ true }
     ensures ran { Ran desk.old.console.state desk.new.console.state desk.old.entries.items desk.new.entries.items }
     ensures turn { (b : Begun) → ClientIs b p desk.old.console.state desk.old.entries.items steps.now worker.old
-        → HandsAre (client_at b desk.old.entries.items p).chain (client_at b desk.old.entries.items p).doubtful hands.old.places.items (map (λ b. memory_of (asked b) (last b) (kind b)) hands.old.chain.handlers.items)
-        → HandsTurn result b p desk.old.console.state desk.new.console.state desk.old.entries.items desk.new.entries.items desk.old.replies.items desk.new.replies.items steps.now worker.new hands.new.places.items (map (λ b. memory_of (asked b) (last b) (kind b)) hands.new.chain.handlers.items) }
+        → HandsStand b p desk.old.entries.items hands.old.places.items (map (λ b. memory_of (asked b) (last b) (kind b)) hands.old.chain.handlers.items) (map (λ o. told_in (option_map (λ b. memory_of (asked b) (last b) (kind b)) o)) hands.old.rack.items)
+        → HandsTurn result b p desk.old.console.state desk.new.console.state desk.old.entries.items desk.new.entries.items desk.old.replies.items desk.new.replies.items steps.now worker.new hands.new.places.items (map (λ b. memory_of (asked b) (last b) (kind b)) hands.new.chain.handlers.items) (map (λ o. told_in (option_map (λ b. memory_of (asked b) (last b) (kind b)) o)) hands.new.rack.items) }
 {
     let _ = steps.len();
     match desk.enter(Actor::Client(p), Event::TakeCtrl)? {
@@ -155,4 +157,123 @@ pub fn call_plain(
     desk.enter(Actor::Client(p), Event::Call(call))?;
     worker.at += 1;
     Ok(true)
+}
+
+/// A call that is the next step, and adds a handler. The chain gets it where the call was done.
+pub fn call_add(
+    desk: &mut Desk,
+    worker: &mut Worker,
+    hands: &mut Hands,
+    steps: &[Step],
+    p: u8,
+    place: u32,
+) -> Result<bool, OutOfMemory>
+    requires here { worker.old.gone ≡ false }
+    requires stays { worker.old.leaving ≡ false }
+    requires some { worker.old.at < length steps.now }
+    requires reading { worker.old.reading ≡ false }
+    requires none { is_ready desk.old.console.state (Actor.Client p) Event.TakeCtrl ≡ false }
+    ensures ran { Ran desk.old.console.state desk.new.console.state desk.old.entries.items desk.new.entries.items }
+    ensures turn { (b : Begun) → ClientIs b p desk.old.console.state desk.old.entries.items steps.now worker.old → Event.Call (Call.HandlerAdd place) ≡ next_event (client_at b desk.old.entries.items p).left
+        → HandsStand b p desk.old.entries.items hands.old.places.items (map (λ b. memory_of (asked b) (last b) (kind b)) hands.old.chain.handlers.items) (map (λ o. told_in (option_map (λ b. memory_of (asked b) (last b) (kind b)) o)) hands.old.rack.items)
+        → HandsTurn result b p desk.old.console.state desk.new.console.state desk.old.entries.items desk.new.entries.items desk.old.replies.items desk.new.replies.items steps.now worker.new hands.new.places.items (map (λ b. memory_of (asked b) (last b) (kind b)) hands.new.chain.handlers.items) (map (λ o. told_in (option_map (λ b. memory_of (asked b) (last b) (kind b)) o)) hands.new.rack.items) }
+{
+    let _ = steps.len();
+    let call = Call::HandlerAdd(place);
+    let brief = desk.enter(Actor::Client(p), Event::Call(call))?;
+    worker.at += 1;
+    if !is_granted(brief) {
+        return Ok(true);
+    }
+    hands.add(place)?;
+    Ok(true)
+}
+
+/// A call that is the next step, and removes a handler. The chain loses it where the call was done.
+pub fn call_remove(
+    desk: &mut Desk,
+    worker: &mut Worker,
+    hands: &mut Hands,
+    steps: &[Step],
+    p: u8,
+    place: u32,
+) -> Result<bool, OutOfMemory>
+    requires here { worker.old.gone ≡ false }
+    requires stays { worker.old.leaving ≡ false }
+    requires some { worker.old.at < length steps.now }
+    requires reading { worker.old.reading ≡ false }
+    requires none { is_ready desk.old.console.state (Actor.Client p) Event.TakeCtrl ≡ false }
+    ensures ran { Ran desk.old.console.state desk.new.console.state desk.old.entries.items desk.new.entries.items }
+    ensures turn { (b : Begun) → ClientIs b p desk.old.console.state desk.old.entries.items steps.now worker.old → Event.Call (Call.HandlerRemove place) ≡ next_event (client_at b desk.old.entries.items p).left
+        → HandsStand b p desk.old.entries.items hands.old.places.items (map (λ b. memory_of (asked b) (last b) (kind b)) hands.old.chain.handlers.items) (map (λ o. told_in (option_map (λ b. memory_of (asked b) (last b) (kind b)) o)) hands.old.rack.items)
+        → HandsTurn result b p desk.old.console.state desk.new.console.state desk.old.entries.items desk.new.entries.items desk.old.replies.items desk.new.replies.items steps.now worker.new hands.new.places.items (map (λ b. memory_of (asked b) (last b) (kind b)) hands.new.chain.handlers.items) (map (λ o. told_in (option_map (λ b. memory_of (asked b) (last b) (kind b)) o)) hands.new.rack.items) }
+{
+    let _ = steps.len();
+    let call = Call::HandlerRemove(place);
+    let brief = desk.enter(Actor::Client(p), Event::Call(call))?;
+    worker.at += 1;
+    if !is_granted(brief) {
+        return Ok(true);
+    }
+    hands.remove(place);
+    Ok(true)
+}
+
+fn call_step(
+    desk: &mut Desk,
+    worker: &mut Worker,
+    hands: &mut Hands,
+    steps: &[Step],
+    p: u8,
+    call: &Call,
+) -> Result<bool, OutOfMemory>
+    requires here { worker.old.gone ≡ false }
+    requires stays { worker.old.leaving ≡ false }
+    requires some { worker.old.at < length steps.now }
+    requires reading { worker.old.reading ≡ false }
+    requires none { is_ready desk.old.console.state (Actor.Client p) Event.TakeCtrl ≡ false }
+    ensures ran { Ran desk.old.console.state desk.new.console.state desk.old.entries.items desk.new.entries.items }
+    ensures turn { (b : Begun) → ClientIs b p desk.old.console.state desk.old.entries.items steps.now worker.old → Event.Call call.now ≡ next_event (client_at b desk.old.entries.items p).left
+        → HandsStand b p desk.old.entries.items hands.old.places.items (map (λ b. memory_of (asked b) (last b) (kind b)) hands.old.chain.handlers.items) (map (λ o. told_in (option_map (λ b. memory_of (asked b) (last b) (kind b)) o)) hands.old.rack.items)
+        → HandsTurn result b p desk.old.console.state desk.new.console.state desk.old.entries.items desk.new.entries.items desk.old.replies.items desk.new.replies.items steps.now worker.new hands.new.places.items (map (λ b. memory_of (asked b) (last b) (kind b)) hands.new.chain.handlers.items) (map (λ o. told_in (option_map (λ b. memory_of (asked b) (last b) (kind b)) o)) hands.new.rack.items) }
+{
+    match call {
+        Call::HandlerAdd(place) => call_add(desk, worker, hands, steps, p, *place),
+        Call::HandlerRemove(place) => call_remove(desk, worker, hands, steps, p, *place),
+        other => {
+            let call = copied_call(other)?;
+            call_plain(desk, worker, steps, p, call)
+        }
+    }
+}
+
+/// The next step of the script, or behind the last one the exit.
+pub fn next_step(
+    desk: &mut Desk,
+    worker: &mut Worker,
+    hands: &mut Hands,
+    steps: &[Step],
+    p: u8,
+) -> Result<bool, OutOfMemory>
+    requires here { worker.old.gone ≡ false }
+    requires stays { worker.old.leaving ≡ false }
+    requires reading { worker.old.reading ≡ false }
+    requires none { is_ready desk.old.console.state (Actor.Client p) Event.TakeCtrl ≡ false }
+    ensures ran { Ran desk.old.console.state desk.new.console.state desk.old.entries.items desk.new.entries.items }
+    ensures turn { (b : Begun) → ClientIs b p desk.old.console.state desk.old.entries.items steps.now worker.old
+        → HandsStand b p desk.old.entries.items hands.old.places.items (map (λ b. memory_of (asked b) (last b) (kind b)) hands.old.chain.handlers.items) (map (λ o. told_in (option_map (λ b. memory_of (asked b) (last b) (kind b)) o)) hands.old.rack.items)
+        → HandsTurn result b p desk.old.console.state desk.new.console.state desk.old.entries.items desk.new.entries.items desk.old.replies.items desk.new.replies.items steps.now worker.new hands.new.places.items (map (λ b. memory_of (asked b) (last b) (kind b)) hands.new.chain.handlers.items) (map (λ o. told_in (option_map (λ b. memory_of (asked b) (last b) (kind b)) o)) hands.new.rack.items) }
+{
+    let _ = hands.places.len();
+    if worker.at >= steps.len() {
+        return leave(desk, worker, steps, p, 0);
+    }
+    match &steps[worker.at] {
+        Step::Exit(status) => leave(desk, worker, steps, p, *status),
+        Step::Begin(wanted) => {
+            let wanted = copied_wanted(wanted)?;
+            begin(desk, worker, steps, p, wanted)
+        }
+        Step::Call(call) => call_step(desk, worker, hands, steps, p, call),
+    }
 }

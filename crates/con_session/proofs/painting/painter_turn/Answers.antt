@@ -1,6 +1,7 @@
-use Rattle.std.proofs.Common.{sym, ap, ◌∙◌, inl, inr, ◌++◌, ◌∷◌, [], List, ℕ, ◌+◌}
-use Rattle.con_session.proofs.CanvasLaws.{canvas_ok, canvas_failed, canvas_ends, canvas_none, paint_err}
+use Rattle.std.proofs.Common.{sym, ap, ◌∙◌, refl, inl, inr, ◌++◌, ◌∷◌, [], List, ℕ, ◌+◌, Err}
+use Rattle.con_session.proofs.CanvasLaws.{canvas_ok, canvas_failed, canvas_ends, canvas_none, canvas_rests, ends_as, paint_err}
 use Rattle.con_session.proofs.PaintTurns.{tied_count, tied_size, tied_rows, paints_now, failed_rests, unready_rests}
+use Rattle.con_session.proofs.TiedLaws.{served_paint, served_still, tied_paint}
 use Rattle.con_session.proofs.painting.painter_turn.Goals as goal
 
 pub frame-requires-clause-marks : goal.frame-requires-clause-marks
@@ -28,6 +29,11 @@ returns-in_err-end-clause-turn g c = λ b size before ps i k. paint_err b _ _ _ 
 
 pub returns-in-Ok : goal.returns-in-Ok
 returns-in-Ok g c = record {
+  served = inl (served_paint _ _ _ _ _ _ c.in_ok-picture.ensures.entered);
+  tied = tied_paint _ _ _ _ _ _ c.in_ok-picture.picture.view c.in_ok-picture.picture.fresh _ c.in_ok-picture.ensures.entered c.in_ok-picture.ensures.pictures c.in_ok-frame.ensures.shown c.in_ok-frame.ensures.size;
+  fails = c.if-canvas.false;
+  failed = λ e. inl e;
+  never_falls = c.in-Ok.ensures.never_falls;
   acts = λ b i f. paints_now b _ _ _ i f c.if-canvas.false (sym c.if-not-ready.ensures);
   turn = λ b size before ps i k. (
     record { enters = c.in_ok-picture.ensures.entered; ready = sym c.if-not-ready.ensures },
@@ -42,6 +48,11 @@ returns-in-Ok g c = record {
 
 pub returns-in-Err-Failed : goal.returns-in-Err-Failed
 returns-in-Err-Failed g c = record {
+  served = inl (served_paint _ _ _ _ _ _ c.in_ok-picture.ensures.entered);
+  tied = tied_paint _ _ _ _ _ _ c.in_ok-picture.picture.view c.in_ok-picture.picture.fresh _ c.in_ok-picture.ensures.entered c.in_ok-picture.ensures.pictures c.in_ok-frame.ensures.shown c.in_ok-frame.ensures.size;
+  fails = c.if-canvas.false;
+  failed = λ e. inr (let q = c.in-Err-Failed.field-0-is in c.in-Err-Failed.ensures.failed cc);
+  never_falls = c.write_whole.ensures.never_falls;
   acts = λ b i f. paints_now b _ _ _ i f c.if-canvas.false (sym c.if-not-ready.ensures);
   turn = λ b size before ps i k. (
     record { enters = c.in_ok-picture.ensures.entered; ready = sym c.if-not-ready.ensures },
@@ -61,3 +72,12 @@ returns-clause-turn g c = λ b size before ps i k. (
       c.in_ok-frame.ensures.paints c.in_ok-frame.ensures.shown c.in_ok-frame.ensures.size c.as_slice.ensures.value c.write_whole.ensures.front (c.in_ok-end.ensures ∙ ap (λ (n : ℕ). c.args.canvas.now.end + n) c.length_of.ensures) k
       (c.push_reserved.ensures.items ∙ ap (λ (x : List ℕ). x ++ c.in_ok-end.end ∷ []) c.reserve.ensures.items)),
 )
+
+pub returns-then-not-ready-clause-served : goal.returns-then-not-ready-clause-served
+returns-then-not-ready-clause-served g c = inl (served_still _ (sym c.if-not-ready.ensures))
+
+pub returns-then-is_err-clause-turn : goal.returns-then-is_err-clause-turn
+returns-then-is_err-clause-turn g c = λ b size before ps i k. (inl (record { state = refl; entries = refl; replies = refl }), ends_as b _ size _ _ before _ c.reserve.ensures.items (canvas_ends b _ size _ _ _ _ before _ _ k))
+
+pub returns-in_err-picture-clause-turn : goal.returns-in_err-picture-clause-turn
+returns-in_err-picture-clause-turn g c = λ b size before ps i k. paint_err b _ _ _ _ _ _ _ _ _ _ _ _ _ _ _ c.from_residual.ensures.0 (inl c.in_err-picture.ensures.same) _ c.reserve.ensures.items (canvas_rests b _ _ _ _ _ _ size _ _ _ _ before _ _ c.in_err-picture.ensures.same k)

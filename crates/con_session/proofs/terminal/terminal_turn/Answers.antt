@@ -1,10 +1,10 @@
-use Rattle.std.proofs.Common.{sym, ap, ◌∙◌, refl, inl, inr, ◌++◌, ◌∷◌, [], Err}
+use Rattle.std.proofs.Common.{sym, ap, ◌∙◌, refl, inl, inr, ◌++◌, ◌∷◌, [], Ok, Err}
 use Rattle.con_events.specs.declared.actor.Actor.TheVariants as actors
 use Rattle.con_events.specs.declared.event.Event.{Event}
 use Rattle.con_events.specs.declared.event.Event.TheVariants as events
 use Rattle.con_session.specs.Desk.{entry}
 use Rattle.con_session.proofs.RanLaws.{ran_same}
-use Rattle.con_session.proofs.LinkLaws.{link_hung, link_frame, link_fault, failed_for}
+use Rattle.con_session.proofs.LinkLaws.{link_hung, link_frame, link_fault, link_err, link_stops, no_ok, sender_err, failed_for}
 use Rattle.con_session.proofs.SenderLaws.{hangup_ready, hangs, sends, ended_idles, read_ready}
 use Rattle.con_session.proofs.terminal.terminal_turn.Goals as goal
 
@@ -17,6 +17,7 @@ returns-in_ok-enter-in-Ok-clause-link g c = λ before k. link_frame _ _ _ _ _ _ 
 
 pub returns-in_ok-enter-in-Err : goal.returns-in_ok-enter-in-Err
 returns-in_ok-enter-in-Err g c = record {
+  few = λ e. absurd (cc);
   ran = c.in_ok-enter-in-Err.ensures.ran;
   turn = λ b f e. record { event = events.Hangup; enters = c.in_ok-enter-in-Err.ensures.entered; ready = hangup_ready c.args.desk.now.console.state; turn = sends b c.args.desk.now.entries.items _ _ events.Hangup e c.if-side.false c.if-failed.false f };
   link = λ before k. link_fault _ _ _ _ _ _ _ _ _ c.in-Err.fault _ c.if-side.false c.in_ok-enter-in-Err.ensures.entered.entries c.end_by-side.ensures c.in-Err.ensures.took k;
@@ -47,3 +48,17 @@ enter-requires-in-Ok-clause-ready g c = read_ready c.args.desk.now.console.state
 
 pub enter-requires-in-Err-clause-ready : goal.enter-requires-in-Err-clause-ready
 enter-requires-in-Err-clause-ready g c = hangup_ready c.args.desk.now.console.state
+
+pub returns-in_err-enter-in-Ok-clause-link : goal.returns-in_err-enter-in-Ok-clause-link
+returns-in_err-enter-in-Ok-clause-link g c = λ before k. link_err _ _ _ _ _ _ _ _ c.from_residual-in_err-enter-in-Ok.ensures.0 c.in_err-enter-in-Ok.ensures.same.entries
+    (link_stops _ _ _ _ _ _ _ _ (Ok c.in-Ok.frame) c.if-side.false c.in-Ok.ensures.took k)
+
+pub returns-in_err-enter-in-Err : goal.returns-in_err-enter-in-Err
+returns-in_err-enter-in-Err g c = record {
+  ran = c.in_err-enter-in-Err.ensures.ran;
+  turn = λ b f e. sender_err b _ _ _ _ _ _ _ c.from_residual-in_err-enter-in-Err.ensures.0 c.in_err-enter-in-Err.ensures.same;
+  link = λ before k. link_err _ _ _ _ _ _ _ _ c.from_residual-in_err-enter-in-Err.ensures.0 c.in_err-enter-in-Err.ensures.same.entries (link_stops _ _ _ _ _ _ _ _ (Err c.in-Err.fault) c.if-side.false c.in-Err.ensures.took k);
+  few = no_ok _ _ c.from_residual-in_err-enter-in-Err.ensures.0;
+  failed = λ e. inl e;
+  never_falls = c.in-Err.ensures.never_falls;
+}

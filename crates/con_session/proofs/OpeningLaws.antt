@@ -1,0 +1,306 @@
+-- Clients at the beginning of a session, and a session there.
+use Rattle.std.proofs.Common.{◌≡◌, ◌⊎◌, ℕ, zero, suc, ◌+◌, ◌<◌, ◌≤◌, Bool, true, false, List, [], ◌∷◌, ◌++◌, length, map, take, drop, Option, Some, None, get_or, refl, sym, ap, ◌∙◌, subst, inl, inr, arith, length-append}
+use Rattle.std.specs.Prelude.{◌-◌, ◌&&◌, nat_lt, nat_le, slice_get, option_map}
+use Rattle.std.proofs.lemmas.Bool.Decides.{nat_tests}
+use Rattle.con_handlers.specs.Delivery.{Memory}
+use Rattle.con_units.specs.declared.place.Size.{Size}
+use Rattle.con_units.specs.declared.view.View.{View}
+use Rattle.con_outside.specs.Laws.{then_left-none, then_written-none}
+use Rattle.con_term.specs.Terminal.{Terminal, IsTerminal}
+use Rattle.con_paint.specs.Painter.{Kept}
+use Rattle.con_events.specs.Session.{Clients}
+use Rattle.con_events.specs.declared.end.End.TheVariants as ends
+use Rattle.con_events.specs.declared.entry.Entry.{Entry}
+use Rattle.con_events.specs.declared.reply.Reply.{Reply}
+use Rattle.con_events.specs.declared.script.Script.{Script}
+use Rattle.con_events.specs.declared.script.Step.{Step}
+use Rattle.con_machine.specs.Client.{Client, starting}
+use Rattle.con_machine.specs.Follows.{begun, kinds_of, steps_of, steps_in}
+use Rattle.con_machine.specs.History.{run}
+use Rattle.con_machine.specs.OpeningLaws.{opens}
+use Rattle.con_machine.specs.Opens.{Opens}
+use Rattle.con_machine.specs.Painting.{is_fresh}
+use Rattle.con_machine.specs.PresenceLaws.{single_none}
+use Rattle.con_machine.specs.Rounds.{Begun, client_at}
+use Rattle.con_machine.specs.State.{State, opening}
+use Rattle.con_machine.specs.Turns.{paints}
+use Rattle.con_session.specs.Desk.{Stands}
+use Rattle.con_session.specs.Opening.{AreFresh, fresh}
+use Rattle.con_session.specs.Painting.{CanvasIs, IsTied, KeepsView, PainterStands, Reached, Written}
+use Rattle.con_session.specs.Runs.{Reaches}
+use Rattle.con_session.specs.Seats.{AllStand, AllFollow, Seated}
+use Rattle.con_session.specs.Sender.{FailsBy, LinkIs, SideStands}
+use Rattle.con_session.specs.Solo.{AsksStand, Goes, Holds, Moment, begins, fails_at}
+use Rattle.con_session.specs.Standing.{ClientStands}
+use Rattle.con_session.specs.Worker.{ClientIs, HandsStand, IsWorker}
+use Rattle.con_session.specs.declared.terminal.Side.{Side}
+use Rattle.con_session.specs.declared.worker.Worker.{Worker}
+
+-- ---- clients that have entered nothing
+
+-- one more
+pub fresh_more : {A : Type 0} (worker : A → Worker) (places : A → List ℕ) (mems : A → List Memory) (slots : A → List ℕ) (racks : List (List ℕ)) (k : ℕ) (xs : List A) (x : A) → AreFresh worker places mems slots racks k xs
+    → worker x ≡ fresh → ((b : Begun) (p : ℕ) → kinds_of b.racks p ≡ get_or racks (k + length xs) [] → HandsStand b p [] (places x) (mems x) (slots x)) → AreFresh worker places mems slots racks k (xs ++ x ∷ [])
+fresh_more worker places mems slots racks k [] x f w h =
+    let P : ℕ → Type 0 = λ z. (b : Begun) (p : ℕ) → kinds_of b.racks p ≡ get_or racks z [] → HandsStand b p [] (places x) (mems x) (slots x) in
+    (w, subst P (let e : k + 0 ≡ k = omega arith in e) h, tt)
+fresh_more worker places mems slots racks k (y ∷ ys) x (u, v, f) w h =
+    let P : ℕ → Type 0 = λ z. (b : Begun) (p : ℕ) → kinds_of b.racks p ≡ get_or racks z [] → HandsStand b p [] (places x) (mems x) (slots x) in
+    (u, v, fresh_more worker places mems slots racks (k + 1) ys x f w (subst P (let e : k + suc (length ys) ≡ k + 1 + length ys = omega arith in e) h))
+
+-- the first of them
+pub fresh_take : {A : Type 0} (worker : A → Worker) (places : A → List ℕ) (mems : A → List Memory) (slots : A → List ℕ) (racks : List (List ℕ)) (k : ℕ) (xs : List A) (n : ℕ) → AreFresh worker places mems slots racks k xs → AreFresh worker places mems slots racks k (take n xs)
+fresh_take worker places mems slots racks k [] zero f = tt
+fresh_take worker places mems slots racks k [] (suc n) f = tt
+fresh_take worker places mems slots racks k (x ∷ xs) zero f = tt
+fresh_take worker places mems slots racks k (x ∷ xs) (suc n) (u, v, f) = (u, v, fresh_take worker places mems slots racks (k + 1) xs n f)
+
+-- each of them
+pub fresh_at : {A : Type 0} (worker : A → Worker) (places : A → List ℕ) (mems : A → List Memory) (slots : A → List ℕ) (racks : List (List ℕ)) (k : ℕ) (xs : List A) → AreFresh worker places mems slots racks k xs
+    → (j : ℕ) (w : Worker) (ps : List ℕ) (m : List Memory) (ys : List ℕ) → slice_get (map worker xs) j ≡ Some w → slice_get (map places xs) j ≡ Some ps → slice_get (map mems xs) j ≡ Some m → slice_get (map slots xs) j ≡ Some ys
+    → (w ≡ fresh) × ((b : Begun) (p : ℕ) → kinds_of b.racks p ≡ get_or racks (k + j) [] → HandsStand b p [] ps m ys)
+fresh_at worker places mems slots racks k [] f j w ps m ys a b c d = absurd (cc)
+fresh_at worker places mems slots racks k (x ∷ xs) (u, v, f) zero w ps m ys a b c d =
+    let q0 : worker x ≡ w = cc in let q1 : places x ≡ ps = cc in let q2 : mems x ≡ m = cc in let q3 : slots x ≡ ys = cc in
+    let P : ℕ → Type 0 = λ z. (b : Begun) (p : ℕ) → kinds_of b.racks p ≡ get_or racks z [] → HandsStand b p [] (places x) (mems x) (slots x) in
+    let A : List ℕ → Type 0 = λ z. (b : Begun) (p : ℕ) → kinds_of b.racks p ≡ get_or racks (k + 0) [] → HandsStand b p [] z (mems x) (slots x) in
+    let B : List Memory → Type 0 = λ z. (b : Begun) (p : ℕ) → kinds_of b.racks p ≡ get_or racks (k + 0) [] → HandsStand b p [] ps z (slots x) in
+    let C : List ℕ → Type 0 = λ z. (b : Begun) (p : ℕ) → kinds_of b.racks p ≡ get_or racks (k + 0) [] → HandsStand b p [] ps m z in
+    (sym q0 ∙ u, subst C q3 (subst B q2 (subst A q1 (subst P (let e : k ≡ k + 0 = omega arith in e) v))))
+fresh_at worker places mems slots racks k (x ∷ xs) (u, v, f) (suc j) w ps m ys a b c d =
+    let r = fresh_at worker places mems slots racks (k + 1) xs f j w ps m ys a b c d in
+    let P : ℕ → Type 0 = λ z. (b : Begun) (p : ℕ) → kinds_of b.racks p ≡ get_or racks z [] → HandsStand b p [] ps m ys in
+    (r.0, subst P (let e : k + 1 + j ≡ k + suc j = omega arith in e) r.1)
+
+-- ---- the sizes of racks
+
+pub sizes_same : {A B : Type 0} (f : A → List B) (g : B → ℕ) (xs : List A) → map (λ ys. length ys) (map (λ x. map g (f x)) xs) ≡ map (λ x. length (f x)) xs
+sizes_same f g [] = refl
+sizes_same f g (x ∷ xs) = ap (λ (n : ℕ). n ∷ map (λ ys. length ys) (map (λ x. map g (f x)) xs)) (length_map g (f x)) ∙ ap (λ (ns : List ℕ). length (f x) ∷ ns) (sizes_same f g xs)
+  where
+    length_map : {C : Type 0} (h : C → ℕ) (ys : List C) → length (map h ys) ≡ length ys
+    length_map h [] = refl
+    length_map h (y ∷ ys) = ap suc (length_map h ys)
+
+-- ---- the session
+
+one_of : (n k : ℕ) → k < n → (nat_lt 0 (k + 1) && nat_le (k + 1) n) ≡ true
+one_of n k l = grind (arith, nat_tests)
+
+opens_stands : (session : Clients) (racks : List (List ℕ)) (f : Option ℕ) (k : ℕ) → k < length session.scripts → ClientStands (begins session racks f) [] (k + 1)
+opens_stands session racks f k l =
+    let o = opens session racks in
+    record {
+      follows = tt;
+      here = o.attached (k + 1) ∙ one_of (length session.scripts) k l;
+      reading = λ e. o.read (k + 1);
+      single = single_none (begun session racks) (k + 1) refl;
+      pending = λ e. absurd (cc);
+    }
+
+seated_fresh : (session : Clients) (racks : List (List ℕ)) (f : Option ℕ) (k : ℕ) (script : Script) (w : Worker) (places : List ℕ) (ms : List Memory) (slots : List ℕ) → k < length session.scripts → slice_get session.scripts k ≡ Some script → w ≡ fresh
+    → ((b : Begun) (p : ℕ) → kinds_of b.racks p ≡ get_or racks (0 + k) [] → HandsStand b p [] places ms slots) → Seated (begins session racks f) k (begun session racks) [] script w places ms slots
+seated_fresh session racks f k script w places ms slots l e i hands =
+    let b = begins session racks f in
+    let n : k + 1 - 1 ≡ k = omega arith in
+    let steps : steps_of session (k + 1) ≡ script.steps = ap (λ (z : ℕ). steps_in (slice_get session.scripts z)) n ∙ ap steps_in e in
+    let W : Worker → Type 0 = λ z. IsWorker (client_at b [] (k + 1)) script.steps z in
+    record {
+      is = record { state = refl; stands = opens_stands session racks f k l; worker = subst W (sym i) (record { left = steps; reading = refl; stance = (refl, refl) }) };
+      hands = hands b (k + 1) (ap (λ (z : ℕ). get_or racks z []) (let z : k + 1 - 1 ≡ 0 + k = omega arith in z));
+    }
+
+get_below : {A : Type 0} (xs : List A) (k : ℕ) (x : A) → slice_get xs k ≡ Some x → k < length xs
+get_below [] k x e = absurd (cc)
+get_below (y ∷ ys) zero x e = omega arith
+get_below (y ∷ ys) (suc k) x e = let l = get_below ys k x e in omega arith
+
+all_fresh : {A : Type 0} (worker : A → Worker) (places : A → List ℕ) (mems : A → List Memory) (slots : A → List ℕ) (session : Clients) (racks : List (List ℕ)) (f : Option ℕ) (seats : List A) → AreFresh worker places mems slots racks 0 seats
+    → AllStand (begins session racks f) (begun session racks) [] session.scripts (map worker seats) (map places seats) (map mems seats) (map slots seats)
+all_fresh worker places mems slots session racks f seats are = λ k script w xs m ys e a b c d.
+    let q = fresh_at worker places mems slots racks 0 seats are k w xs m ys a b c d in
+    seated_fresh session racks f k script w xs m ys (get_below session.scripts k script e) e q.0 q.1
+
+open_link : (before : Option (List ℕ)) (failed : Bool) → LinkIs [] (record { ended = false; end = ends.Done }) failed before before 0
+open_link before failed = record {
+  frames = [];
+  extra = [];
+  cut = false;
+  stands = record { follows = λ c i more. tt; after' = λ e more. refl; ended' = refl; all' = refl };
+  frames' = refl;
+  read = then_left-none before;
+  open' = λ e. refl;
+  place = λ e. (refl, refl, refl, omega arith, refl);
+  why = λ e. absurd (cc);
+  fault = λ e. absurd (cc);
+  whole = λ c e. absurd (cc);
+}
+
+open_canvas : (session : Clients) (racks : List (List ℕ)) (f : Option ℕ) (kept : Kept) (old : Option (List ℕ)) (failed : Bool) → CanvasIs (begins session racks f) [] session.size kept [] [] 0 old old failed
+open_canvas session racks f kept old failed =
+    let o = opens session racks in
+    let s = begun session racks in
+    record {
+      stands = record {
+        matched = tt;
+        each = λ t i. tt;
+        reach = λ t i u l r. record {
+          fresh = λ e. (
+            let P : Terminal → Type 0 = λ z. IsTerminal s.buffers.w s.buffers.h z in subst P (sym r.0)
+                (let W : ℕ → Type 0 = λ z. IsTerminal z s.buffers.h t in let H : ℕ → Type 0 = λ z. IsTerminal session.size.w z t in subst W (sym o.wide) (subst H (sym o.high) i)),
+            r.1,
+          );
+          allowed = λ e. absurd (let z = sym o.fresh ∙ e in cc);
+        };
+        keeps = λ e. absurd (let z = sym o.fresh ∙ e in cc);
+      };
+      written = record { count = 0; most = omega arith; front = then_written-none old; whole = λ e. refl };
+      ends' = refl;
+      end' = refl;
+    }
+
+-- a session begins
+pub opens_goes : {A : Type 0} (worker : A → Worker) (places : A → List ℕ) (mems : A → List Memory) (slots : A → List ℕ) (session : Clients) (racks : List (List ℕ)) (f : Option ℕ) (before old : Option (List ℕ)) (seats : List A) (kept : Kept) (s : State)
+    → s ≡ begun session racks → AreFresh worker places mems slots racks 0 seats
+    → Goes (begins session racks f) session.scripts before old (record {
+      state = s;
+      entries = [];
+      replies = [];
+      workers = map worker seats;
+      places = map places seats;
+      memories = map mems seats;
+      slots = map slots seats;
+      side = record { ended = false; end = ends.Done };
+      taken = 0;
+      left = before;
+      kept = kept;
+      ends = [];
+      end = 0;
+      failed = false;
+      written = old;
+    })
+opens_goes worker places mems slots session racks f before old seats kept s e are =
+    let b = begins session racks f in
+    let o = opens session racks in
+    let A : State → Type 0 = λ z. AllStand b z [] session.scripts (map worker seats) (map places seats) (map mems seats) (map slots seats) in
+    record {
+      holds = record {
+        scripts' = refl;
+        stands = record { state = e; replies = refl; legal = refl };
+        numbered = refl;
+        clients = subst A (sym e) (all_fresh worker places mems slots session racks f seats are);
+        link = open_link before false;
+        asks = record { answered = λ l i. tt; asked' = sym o.asked };
+        pieces = [];
+        canvas = open_canvas session racks f kept old false;
+        some = λ z. absurd (cc);
+      };
+      served = inl (ap (λ (z : State). z.asked) e ∙ o.asked);
+      rounds = ([], tt, refl);
+    }
+
+-- ---- what a round needs
+
+pub goes_taken : (b : Begun) (scripts : List Script) (before old : Option (List ℕ)) (m : Moment) → Goes b scripts before old m → m.side.ended ≡ false → m.taken ≤ 16777216
+goes_taken b scripts before old m k e = (k.holds.link.place e).3
+
+pub goes_tied : (b : Begun) (scripts : List Script) (before old : Option (List ℕ)) (m : Moment) → Goes b scripts before old m → IsTied m.state m.kept
+goes_tied b scripts before old m k =
+    let i = k.holds.stands.state in
+    let now : is_fresh m.state ≡ false → KeepsView (run b.state m.entries) m.kept = λ e. k.holds.canvas.stands.keeps (ap (λ (z : State). is_fresh z) (sym i) ∙ e) in
+    record {
+      known = λ e. (now e).known;
+      cells = λ e. ap (λ (z : State). option_map (λ v. v.rows) z.painted) i ∙ (ap (λ (o : Option View). option_map (λ v. v.rows) o) (now e).painted' ∙ ap (λ (c : _). Some c) (sym (now e).cells));
+      wide = λ e. (now e).wide ∙ ap (λ (z : State). z.buffers.w) (sym i);
+      high = λ e. (now e).high ∙ ap (λ (z : State). z.buffers.h) (sym i);
+    }
+
+-- ---- each client follows its script
+
+some_at : {A : Type 0} (xs : List A) (k : ℕ) → k < length xs → (x : A) × (slice_get xs k ≡ Some x)
+some_at [] k l = absurd (let none : k < 0 = l in omega arith)
+some_at (x ∷ xs) zero l = (x, refl)
+some_at (x ∷ xs) (suc k) l = some_at xs k (omega arith)
+
+get_map : {A B : Type 0} (f : A → B) (xs : List A) (k : ℕ) (x : A) → slice_get xs k ≡ Some x → slice_get (map f xs) k ≡ Some (f x)
+get_map f [] k x e = absurd (cc)
+get_map f (y ∷ ys) zero x e = let q : y ≡ x = cc in ap (λ (z : _). Some (f z)) q
+get_map f (y ∷ ys) (suc k) x e = get_map f ys k x e
+
+pub all_follow : {A : Type 0} (worker : A → Worker) (places : A → List ℕ) (mems : A → List Memory) (slots : A → List ℕ) (scripts : List Script) (seats : List A) → length scripts ≡ length seats → (b : Begun) (s : State) (h : List Entry)
+    → AllStand b s h scripts (map worker seats) (map places seats) (map mems seats) (map slots seats) → AllFollow b h (length scripts)
+all_follow worker places mems slots scripts seats e b s h all = λ k l.
+    let (script, i) = some_at scripts k l in
+    let (x, j) = some_at seats k (omega (arith, e)) in
+    (all k script (worker x) (places x) (mems x) (slots x) i (get_map worker seats k x j) (get_map places seats k x j) (get_map mems seats k x j) (get_map slots seats k x j)).is.stands
+
+-- ---- racks
+
+pub told_at : {A : Type 0} (f : A → List ℕ) (n : ℕ) (xs : List A) (x : A) (rest : List A) → x ∷ rest ≡ drop n xs → get_or (map f xs) (0 + n) [] ≡ f x
+told_at f zero [] x rest e = absurd (cc)
+told_at f zero (y ∷ ys) x rest e = let q : x ≡ y = cc in ap f (sym q)
+told_at f (suc n) [] x rest e = absurd (cc)
+told_at f (suc n) (y ∷ ys) x rest e = ap (λ (z : ℕ). get_or (map f (y ∷ ys)) z []) (let q : 0 + suc n ≡ suc n = omega arith in q) ∙ (ap (λ (z : ℕ). get_or (map f ys) z []) (let q : n ≡ 0 + n = omega arith in q) ∙ told_at f n ys x rest e)
+
+pub rest_at : {A : Type 0} (n : ℕ) (xs : List A) (x : A) (rest : List A) → x ∷ rest ≡ drop n xs → rest ≡ drop (n + 1) xs
+rest_at zero [] x rest e = absurd (cc)
+rest_at zero (y ∷ ys) x rest e = cc
+rest_at (suc n) [] x rest e = absurd (cc)
+rest_at (suc n) (y ∷ ys) x rest e = rest_at n ys x rest e ∙ ap (λ (z : ℕ). drop z (y ∷ ys)) (let q : suc (n + 1) ≡ suc n + 1 = omega arith in q)
+
+pub none_past : (xs : List (List ℕ)) (n : ℕ) → length xs ≤ n → get_or xs n [] ≡ []
+none_past [] n l = refl
+none_past (y ∷ ys) zero l = absurd (let none : length ys < 0 = l in omega arith)
+none_past (y ∷ ys) (suc n) l = none_past ys n (omega arith)
+
+pub pushed : {A : Type 0} (xs ys zs : List A) (x : A) → zs ≡ ys ++ x ∷ [] → ys ≡ xs → zs ≡ xs ++ x ∷ []
+pushed {A} xs ys zs x e i = let P : List A → Type 0 = λ z. zs ≡ z ++ x ∷ [] in subst P i e
+
+pub pushed_length : {A : Type 0} (xs zs : List A) (x : A) → zs ≡ xs ++ x ∷ [] → length zs ≡ length xs + 1
+pushed_length {A} xs zs x e = ap (λ (z : List A). length z) e ∙ length-append xs (x ∷ [])
+
+pub fresh_pushed : {A : Type 0} (worker : A → Worker) (places : A → List ℕ) (mems : A → List Memory) (slots : A → List ℕ) (racks : List (List ℕ)) (xs zs : List A) (x : A) → zs ≡ xs ++ x ∷ [] → AreFresh worker places mems slots racks 0 xs
+    → worker x ≡ fresh → ((b : Begun) (p : ℕ) → kinds_of b.racks p ≡ get_or racks (0 + length xs) [] → HandsStand b p [] (places x) (mems x) (slots x)) → AreFresh worker places mems slots racks 0 zs
+fresh_pushed {A} worker places mems slots racks xs zs x e f w h = let P : List A → Type 0 = λ z. AreFresh worker places mems slots racks 0 z in subst P (sym e) (fresh_more worker places mems slots racks 0 xs x f w h)
+
+pub fresh_cut : {A : Type 0} (worker : A → Worker) (places : A → List ℕ) (mems : A → List Memory) (slots : A → List ℕ) (racks : List (List ℕ)) (xs zs : List A) (n : ℕ) → zs ≡ take n xs → AreFresh worker places mems slots racks 0 xs → AreFresh worker places mems slots racks 0 zs
+fresh_cut {A} worker places mems slots racks xs zs n e f = let P : List A → Type 0 = λ z. AreFresh worker places mems slots racks 0 z in subst P (sym e) (fresh_take worker places mems slots racks 0 xs n f)
+
+pub fresh_as : {A : Type 0} (worker : A → Worker) (places : A → List ℕ) (mems : A → List Memory) (slots : A → List ℕ) (racks : List (List ℕ)) (xs zs : List A) → zs ≡ xs → AreFresh worker places mems slots racks 0 xs → AreFresh worker places mems slots racks 0 zs
+fresh_as {A} worker places mems slots racks xs zs e f = let P : List A → Type 0 = λ z. AreFresh worker places mems slots racks 0 z in subst P (sym e) f
+
+pub rest_behind : {A : Type 0} (n m : ℕ) (xs : List A) (x : A) (rest : List A) → x ∷ rest ≡ drop n xs → m ≡ n + 1 → rest ≡ drop m xs
+rest_behind n m xs x rest e i = rest_at n xs x rest e ∙ ap (λ (z : ℕ). drop z xs) (sym i)
+
+pub told_none : {A : Type 0} (f : A → ℕ) (xs : List A) → xs ≡ [] → [] ≡ map f xs
+told_none {A} f xs e = sym (ap (λ (z : List A). map f z) e)
+
+pub length_mapped : {A : Type 0} (f : A → List ℕ) (xs : List A) → length (map f xs) ≡ length xs
+length_mapped f [] = refl
+length_mapped f (y ∷ ys) = ap suc (length_mapped f ys)
+
+abbrev pub side_first : Side
+side_first = record { ended = false; end = ends.Done }
+
+-- a session begins, as its parts were made
+pub goes_open : {A : Type 0} (worker : A → Worker) (places : A → List ℕ) (mems : A → List Memory) (slots : A → List ℕ) (session : Clients) (racks : List (List ℕ)) (sizes : List ℕ) (before old : Option (List ℕ)) (seats slice : List A) (kept : Kept) (s : State) (h : List Entry) (rs : List Reply) (side : Side) (taken : ℕ) (es : List ℕ) (end : ℕ) (failed : Bool) (scripts : List Script)
+    → s ≡ opening session sizes → map (λ ys. length ys) racks ≡ sizes → (h ≡ []) × (rs ≡ []) → (side ≡ side_first) × (taken ≡ 0) → (es ≡ []) × (end ≡ 0) × (failed ≡ false) → AreFresh worker places mems slots racks 0 seats → slice ≡ seats → scripts ≡ session.scripts
+    → (f : Option ℕ) → Goes (begins session racks f) scripts before old (record { state = s; entries = h; replies = rs; workers = map worker slice; places = map places slice; memories = map mems slice; slots = map slots slice; side = side; taken = taken; left = before; kept = kept; ends = es; end = end; failed = failed; written = old })
+goes_open {A} worker places mems slots session racks sizes before old seats slice kept s h rs side taken es end failed scripts e z (eh, er) (ed, et) (es', en, ef) are el ec f =
+    let first = opens_goes worker places mems slots session racks f before old slice kept s (e ∙ ap (λ (ns : List ℕ). opening session ns) (sym z)) (fresh_as worker places mems slots racks seats slice el are) in
+    let P0 : List Entry → Type 0 = λ x. Goes (begins session racks f) session.scripts before old (record { state = s; entries = x; replies = []; workers = map worker slice; places = map places slice; memories = map mems slice; slots = map slots slice; side = side_first; taken = 0; left = before; kept = kept; ends = []; end = 0; failed = false; written = old }) in
+    let P1 : List Reply → Type 0 = λ x. Goes (begins session racks f) session.scripts before old (record { state = s; entries = h; replies = x; workers = map worker slice; places = map places slice; memories = map mems slice; slots = map slots slice; side = side_first; taken = 0; left = before; kept = kept; ends = []; end = 0; failed = false; written = old }) in
+    let P2 : Side → Type 0 = λ x. Goes (begins session racks f) session.scripts before old (record { state = s; entries = h; replies = rs; workers = map worker slice; places = map places slice; memories = map mems slice; slots = map slots slice; side = x; taken = 0; left = before; kept = kept; ends = []; end = 0; failed = false; written = old }) in
+    let P3 : ℕ → Type 0 = λ x. Goes (begins session racks f) session.scripts before old (record { state = s; entries = h; replies = rs; workers = map worker slice; places = map places slice; memories = map mems slice; slots = map slots slice; side = side; taken = x; left = before; kept = kept; ends = []; end = 0; failed = false; written = old }) in
+    let P4 : List ℕ → Type 0 = λ x. Goes (begins session racks f) session.scripts before old (record { state = s; entries = h; replies = rs; workers = map worker slice; places = map places slice; memories = map mems slice; slots = map slots slice; side = side; taken = taken; left = before; kept = kept; ends = x; end = 0; failed = false; written = old }) in
+    let P5 : ℕ → Type 0 = λ x. Goes (begins session racks f) session.scripts before old (record { state = s; entries = h; replies = rs; workers = map worker slice; places = map places slice; memories = map mems slice; slots = map slots slice; side = side; taken = taken; left = before; kept = kept; ends = es; end = x; failed = false; written = old }) in
+    let P6 : Bool → Type 0 = λ x. Goes (begins session racks f) session.scripts before old (record { state = s; entries = h; replies = rs; workers = map worker slice; places = map places slice; memories = map mems slice; slots = map slots slice; side = side; taken = taken; left = before; kept = kept; ends = es; end = end; failed = x; written = old }) in
+    let P7 : List Script → Type 0 = λ x. Goes (begins session racks f) x before old (record { state = s; entries = h; replies = rs; workers = map worker slice; places = map places slice; memories = map mems slice; slots = map slots slice; side = side; taken = taken; left = before; kept = kept; ends = es; end = end; failed = failed; written = old }) in
+    subst P7 (sym ec) (subst P6 (sym ef) (subst P5 (sym en) (subst P4 (sym es') (subst P3 (sym et) (subst P2 (sym ed) (subst P1 (sym er) (subst P0 (sym eh) first)))))))
+
+pub going_open : (session : Clients) (racks : List (List ℕ)) (before old : Option (List ℕ)) (scripts : List Script) (m : Moment)
+    → ((f : Option ℕ) → Goes (begins session racks f) scripts before old m) → (b : Begun) × (x : Option (List ℕ)) × (y : Option (List ℕ)) × ((f : Option ℕ) → FailsBy m.failed f (paints m.entries) → Goes (fails_at b f) scripts x y m)
+going_open session racks before old scripts m all = (begins session racks None, before, old, λ f k. all f)
+
+pub count_of : {A B : Type 0} (scripts all : List B) (xs ys zs : List A) → scripts ≡ all → length xs ≡ length all → ys ≡ xs → length zs ≡ length ys → length scripts ≡ length zs
+count_of {A} {B} scripts all xs ys zs e c v n = ap (λ (z : List B). length z) e ∙ (sym c ∙ (sym (ap (λ (z : List A). length z) v) ∙ sym n))

@@ -1,0 +1,90 @@
+//! A client's seat, its turn in a round, and the turns of all clients.
+ghost use Rattle.std.specs.Prelude.{◌≡◌, ℕ, ◌≤◌, Bool, true, false, List, length, map};
+ghost use Rattle.std.specs.Option.{option_map};
+ghost use Rattle.con_handlers.specs.Delivery.{memory_of};
+ghost use Rattle.con_machine.specs.Rounds.{Begun};
+ghost use Rattle.con_session.specs.Desk.{Ran};
+ghost use Rattle.con_session.specs.Seats.{AllStand, ClientsTurn};
+ghost use Rattle.con_session.specs.Worker.{ClientIs, HandsStand, HandsTurn, told_in};
+
+use crate::desk::Desk;
+use crate::hands::Hands;
+use crate::worker::{CTRL_EXIT, Worker, collect, leave, next_step, take_ctrl};
+use con_events::{Actor, Event, Script, Step};
+use con_units::OutOfMemory;
+
+/// What a session keeps of one client.
+#[derive(Drop)]
+pub struct Seat {
+    pub worker: Worker,
+    pub hands: Hands,
+}
+
+impl Seat {
+    /// A client that has entered nothing, with its handlers.
+    pub fn new(hands: Hands) -> Seat
+        ensures worker { result.worker ≡ record { at = 0; reading = false; leaving = false; gone = false } }
+        ensures hands { result.hands ≡ hands }
+    {
+        Seat {
+            worker: Worker {
+                at: 0,
+                reading: false,
+                leaving: false,
+                gone: false,
+            },
+            hands,
+        }
+    }
+}
+
+/// A client's turn in a round, the first of these that there is to do: the exit that a control event calls for, a control event
+/// that is pending, the answer of a read that is open, the next step. False: it is gone, or its read is not done.
+pub fn client_turn(
+    desk: &mut Desk,
+    seat: &mut Seat,
+    steps: &[Step],
+    p: u8,
+) -> Result<bool, OutOfMemory>
+    requires real { 1 ≤ p }
+    ensures ran { Ran desk.old.console.state desk.new.console.state desk.old.entries.items desk.new.entries.items }
+    ensures turn { (b : Begun) → ClientIs b p desk.old.console.state desk.old.entries.items steps.now seat.old.worker
+        → HandsStand b p desk.old.entries.items seat.old.hands.places.items (map (λ b. memory_of (asked b) (last b) (kind b)) seat.old.hands.chain.handlers.items) (map (λ o. told_in (option_map (λ b. memory_of (asked b) (last b) (kind b)) o)) seat.old.hands.rack.items)
+        → HandsTurn result b p desk.old.console.state desk.new.console.state desk.old.entries.items desk.new.entries.items desk.old.replies.items desk.new.replies.items steps.now seat.new.worker seat.new.hands.places.items (map (λ b. memory_of (asked b) (last b) (kind b)) seat.new.hands.chain.handlers.items) (map (λ o. told_in (option_map (λ b. memory_of (asked b) (last b) (kind b)) o)) seat.new.hands.rack.items) }
+{
+    if seat.worker.gone {
+        return Ok(false);
+    }
+    if seat.worker.leaving {
+        return leave(desk, &mut seat.worker, steps, p, CTRL_EXIT);
+    }
+    if desk.console.ready(Actor::Client(p), &Event::TakeCtrl) {
+        return take_ctrl(desk, &mut seat.worker, &mut seat.hands, steps, p);
+    }
+    if seat.worker.reading {
+        return collect(desk, &mut seat.worker, steps, p);
+    }
+    next_step(desk, &mut seat.worker, &mut seat.hands, steps, p)
+}
+
+/// The turns of all clients in a round, each with its script, in the order of their numbers. Whether one of them entered an event.
+#[tactic(auto, using(crate::proofs::RanLaws::ran_then))]
+pub fn clients_turn(
+    desk: &mut Desk,
+    seats: &mut [Seat],
+    scripts: &[Script],
+) -> Result<bool, OutOfMemory>
+    requires few { length seats.old ≤ 64 }
+    requires scripts { length scripts.now ≡ length seats.old }
+    ensures ran { Ran desk.old.console.state desk.new.console.state desk.old.entries.items desk.new.entries.items }
+    ensures turn { (b : Begun) → AllStand b desk.old.console.state desk.old.entries.items scripts.now (map (λ s. s.worker) seats.old) (map (λ s. s.hands.places.items) seats.old) (map (λ s. map (λ b. memory_of (asked b) (last b) (kind b)) s.hands.chain.handlers.items) seats.old) (map (λ s. map (λ o. told_in (option_map (λ b. memory_of (asked b) (last b) (kind b)) o)) s.hands.rack.items) seats.old)
+        → ClientsTurn result b desk.old.console.state desk.new.console.state desk.old.entries.items desk.new.entries.items desk.old.replies.items desk.new.replies.items (length seats.old) scripts.now (map (λ s. s.worker) seats.new) (map (λ s. s.hands.places.items) seats.new) (map (λ s. map (λ b. memory_of (asked b) (last b) (kind b)) s.hands.chain.handlers.items) seats.new) (map (λ s. map (λ o. told_in (option_map (λ b. memory_of (asked b) (last b) (kind b)) o)) s.hands.rack.items) seats.new) }
+{
+    let mut acted = false;
+    for k in 0..seats.len() {
+        let script = &scripts[k];
+        let one = &mut seats[k];
+        acted |= client_turn(desk, one, script.steps.0.as_slice(), k as u8 + 1)?;
+    }
+    Ok(acted)
+}

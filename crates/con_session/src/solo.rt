@@ -1,0 +1,187 @@
+//! A session by turns on one thread: rounds until nobody acts.
+ghost use Rattle.std.specs.Prelude.{◌≡◌, ◌⊎◌, ℕ, ◌<◌, ◌≤◌, ◌||◌, Bool, true, false, List, [], All, length, map, Option, IfOk};
+ghost use Rattle.std.specs.Option.{option_map};
+ghost use Rattle.con_handlers.specs.Delivery.{memory_of};
+ghost use Rattle.con_outside.specs.Outside.{Rose};
+ghost use Rattle.con_events.specs.declared.end.End.{End};
+ghost use Rattle.con_machine.specs.Rounds.{Begun};
+ghost use Rattle.con_machine.specs.Turns.{paints};
+ghost use Rattle.con_session.specs.Outcome.{IsOutcome};
+ghost use Rattle.con_session.specs.Painting.{IsTied};
+ghost use Rattle.con_session.specs.Sender.{FailsBy};
+ghost use Rattle.con_session.specs.Solo.{Goes, RoundTurn, RoundsTurn, end_by, fails_at};
+ghost use Rattle.con_session.specs.Worker.{told_kind, told_in};
+
+use crate::desk::Desk;
+use crate::painting::painter_turn;
+use crate::seat::{Seat, clients_turn};
+use crate::stage::{Stage, begun};
+use crate::terminal::terminal_turn;
+use con_events::{End, Ends, Entries, Replies, Script, Session};
+use con_handlers::CtrlHandler;
+use con_outside::{Sink, Source};
+use con_units::OutOfMemory;
+use std::alloc::Global;
+
+/// What a session leaves behind: its history, the answers, where each frame ends in the terminal's stream, and why it ended.
+/// A Paint counts as answered by Done.
+#[derive(Drop)]
+pub struct Outcome {
+    pub entries: Entries,
+    pub replies: Replies,
+    pub ends: Ends,
+    pub end: End,
+}
+
+fn any_of(sent: bool, entered: bool, painted: bool) -> bool
+    ensures { result ≡ (sent || (entered || painted)) }
+{
+    sent || entered || painted
+}
+
+/// A round: the terminal's side, each client, the painter. False: nobody had anything to do.
+fn round<I: Source, O: Sink>(
+    stage: &mut Stage,
+    seats: &mut [Seat],
+    scripts: &[Script],
+    link: &mut I,
+    term: &mut O,
+) -> Result<bool, OutOfMemory>
+    requires few { length seats.old ≤ 64 }
+    requires scripts { length scripts.now ≡ length seats.old }
+    requires taken { stage.old.side.ended ≡ false → stage.old.reader ≤ 16777216 }
+    requires served { (stage.old.desk.console.state.asked ≡ false) ⊎ (stage.old.canvas.failed ≡ true) }
+    requires tied { IsTied stage.old.desk.console.state stage.old.canvas.painter }
+    ensures taken { IfOk result (λ _. stage.new.side.ended ≡ false → stage.new.reader ≤ 16777216) }
+    ensures served { IfOk result (λ _. (stage.new.desk.console.state.asked ≡ false) ⊎ (stage.new.canvas.failed ≡ true)) }
+    ensures tied { IfOk result (λ _. IsTied stage.new.desk.console.state stage.new.canvas.painter) }
+    ensures turn { (b : Begun) (before old : Option (List ℕ)) → ((f : Option ℕ) → FailsBy stage.old.canvas.failed f (paints stage.old.desk.entries.items) → Goes (fails_at b f) scripts.now before old (record { state = stage.old.desk.console.state; entries = stage.old.desk.entries.items; replies = stage.old.desk.replies.items; workers = map (λ s. s.worker) seats.old; places = map (λ s. s.hands.places.items) seats.old; memories = map (λ s. map (λ b. memory_of (asked b) (last b) (kind b)) s.hands.chain.handlers.items) seats.old; slots = map (λ s. map (λ o. told_in (option_map (λ b. memory_of (asked b) (last b) (kind b)) o)) s.hands.rack.items) seats.old; side = stage.old.side; taken = stage.old.reader; left = I.left link.old; kept = stage.old.canvas.painter; ends = stage.old.canvas.ends.items; end = stage.old.canvas.end; failed = stage.old.canvas.failed; written = O.written term.old }))
+        → (f : Option ℕ) → FailsBy stage.new.canvas.failed f (paints stage.new.desk.entries.items) → RoundTurn result (fails_at b f) scripts.now before old stage.old.desk.entries.items (record { state = stage.new.desk.console.state; entries = stage.new.desk.entries.items; replies = stage.new.desk.replies.items; workers = map (λ s. s.worker) seats.new; places = map (λ s. s.hands.places.items) seats.new; memories = map (λ s. map (λ b. memory_of (asked b) (last b) (kind b)) s.hands.chain.handlers.items) seats.new; slots = map (λ s. map (λ o. told_in (option_map (λ b. memory_of (asked b) (last b) (kind b)) o)) s.hands.rack.items) seats.new; side = stage.new.side; taken = stage.new.reader; left = I.left link.new; kept = stage.new.canvas.painter; ends = stage.new.canvas.ends.items; end = stage.new.canvas.end; failed = stage.new.canvas.failed; written = O.written term.new }) }
+    ensures link { stage.new.side.end ≡ End.Link → (stage.old.side.end ≡ End.Link) ⊎ Rose (I.faults link.old) (I.faults link.new) }
+    ensures term { stage.new.canvas.failed ≡ true → (stage.old.canvas.failed ≡ true) ⊎ Rose (O.faults term.old) (O.faults term.new) }
+    ensures link_never_falls { I.faults link.old ≤ I.faults link.new }
+    ensures term_never_falls { O.faults term.old ≤ O.faults term.new }
+{
+    let failed = stage.canvas.failed;
+    let sent = terminal_turn(
+        &mut stage.desk,
+        &mut stage.reader,
+        link,
+        &mut stage.side,
+        failed,
+    )?;
+    let entered = clients_turn(&mut stage.desk, seats, scripts)?;
+    let painted = painter_turn(&mut stage.desk, &mut stage.canvas, term)?;
+    Ok(any_of(sent, entered, painted))
+}
+
+/// Rounds, until nobody has anything to do.
+fn rounds<I: Source, O: Sink>(
+    stage: &mut Stage,
+    seats: &mut [Seat],
+    scripts: &[Script],
+    link: &mut I,
+    term: &mut O,
+) -> Result<(), OutOfMemory>
+    requires few { length seats.old ≤ 64 }
+    requires scripts { length scripts.now ≡ length seats.old }
+    requires taken { stage.old.side.ended ≡ false → stage.old.reader ≤ 16777216 }
+    requires served { (stage.old.desk.console.state.asked ≡ false) ⊎ (stage.old.canvas.failed ≡ true) }
+    requires tied { IsTied stage.old.desk.console.state stage.old.canvas.painter }
+    requires going { (b : Begun) × (before : Option (List ℕ)) × (old : Option (List ℕ)) × ((f : Option ℕ) → FailsBy stage.old.canvas.failed f (paints stage.old.desk.entries.items) → Goes (fails_at b f) scripts.now before old (record { state = stage.old.desk.console.state; entries = stage.old.desk.entries.items; replies = stage.old.desk.replies.items; workers = map (λ s. s.worker) seats.old; places = map (λ s. s.hands.places.items) seats.old; memories = map (λ s. map (λ b. memory_of (asked b) (last b) (kind b)) s.hands.chain.handlers.items) seats.old; slots = map (λ s. map (λ o. told_in (option_map (λ b. memory_of (asked b) (last b) (kind b)) o)) s.hands.rack.items) seats.old; side = stage.old.side; taken = stage.old.reader; left = I.left link.old; kept = stage.old.canvas.painter; ends = stage.old.canvas.ends.items; end = stage.old.canvas.end; failed = stage.old.canvas.failed; written = O.written term.old })) }
+    ensures turn { (b : Begun) (before old : Option (List ℕ)) → ((f : Option ℕ) → FailsBy stage.old.canvas.failed f (paints stage.old.desk.entries.items) → Goes (fails_at b f) scripts.now before old (record { state = stage.old.desk.console.state; entries = stage.old.desk.entries.items; replies = stage.old.desk.replies.items; workers = map (λ s. s.worker) seats.old; places = map (λ s. s.hands.places.items) seats.old; memories = map (λ s. map (λ b. memory_of (asked b) (last b) (kind b)) s.hands.chain.handlers.items) seats.old; slots = map (λ s. map (λ o. told_in (option_map (λ b. memory_of (asked b) (last b) (kind b)) o)) s.hands.rack.items) seats.old; side = stage.old.side; taken = stage.old.reader; left = I.left link.old; kept = stage.old.canvas.painter; ends = stage.old.canvas.ends.items; end = stage.old.canvas.end; failed = stage.old.canvas.failed; written = O.written term.old }))
+        → (f : Option ℕ) → FailsBy stage.new.canvas.failed f (paints stage.new.desk.entries.items) → RoundsTurn result (fails_at b f) scripts.now before old (record { state = stage.new.desk.console.state; entries = stage.new.desk.entries.items; replies = stage.new.desk.replies.items; workers = map (λ s. s.worker) seats.new; places = map (λ s. s.hands.places.items) seats.new; memories = map (λ s. map (λ b. memory_of (asked b) (last b) (kind b)) s.hands.chain.handlers.items) seats.new; slots = map (λ s. map (λ o. told_in (option_map (λ b. memory_of (asked b) (last b) (kind b)) o)) s.hands.rack.items) seats.new; side = stage.new.side; taken = stage.new.reader; left = I.left link.new; kept = stage.new.canvas.painter; ends = stage.new.canvas.ends.items; end = stage.new.canvas.end; failed = stage.new.canvas.failed; written = O.written term.new }) }
+    ensures link { stage.new.side.end ≡ End.Link → (stage.old.side.end ≡ End.Link) ⊎ Rose (I.faults link.old) (I.faults link.new) }
+    ensures term { stage.new.canvas.failed ≡ true → (stage.old.canvas.failed ≡ true) ⊎ Rose (O.faults term.old) (O.faults term.new) }
+    ensures link_never_falls { I.faults link.old ≤ I.faults link.new }
+    ensures term_never_falls { O.faults term.old ≤ O.faults term.new }
+{
+    while round(stage, seats, scripts, link, term)? {}
+    Ok(())
+}
+
+// Why a session ended in which nobody has anything left to do.
+fn end_of(stage: &Stage) -> End
+    ensures { result ≡ end_by stage.now.canvas.failed stage.now.side.end }
+{
+    if stage.canvas.failed {
+        End::Term
+    } else {
+        stage.side.end
+    }
+}
+
+// What a stage leaves behind.
+fn left_by(stage: Stage, end: End) -> Outcome
+    ensures entries { result.entries ≡ stage.desk.entries.items }
+    ensures replies { result.replies ≡ stage.desk.replies.items }
+    ensures ends { result.ends ≡ stage.canvas.ends.items }
+    ensures end { result.end ≡ end }
+{
+    let Stage {
+        desk,
+        reader: _,
+        side: _,
+        canvas,
+    } = stage;
+    let Desk {
+        console: _,
+        entries,
+        replies,
+    } = desk;
+    Outcome {
+        entries: Entries(entries),
+        replies: Replies(replies),
+        ends: Ends(canvas.ends),
+        end,
+    }
+}
+
+// What is left where there was no memory to begin with.
+fn nothing_left(alloc: Global) -> Outcome
+    ensures entries { result.entries ≡ [] }
+    ensures replies { result.replies ≡ [] }
+    ensures ends { result.ends ≡ [] }
+    ensures end { result.end ≡ End.Memory }
+{
+    Outcome {
+        entries: Entries(Vec::new(alloc)),
+        replies: Replies(Vec::new(alloc)),
+        ends: Ends(Vec::new(alloc)),
+        end: End::Memory,
+    }
+}
+
+/// Runs a session by turns on one thread: rounds of the terminal's side, each client and the painter, until a round in which nobody acts.
+/// The handlers of `racks` are those that the clients may add, by place; a client behind the last rack has none.
+pub fn run_solo<I: Source, O: Sink>(
+    alloc: Global,
+    session: &Session,
+    link: &mut I,
+    term: &mut O,
+    racks: Vec<Vec<Box<dyn CtrlHandler + Send>>>,
+) -> Outcome
+    requires few { All (λ rack. length rack.items ≤ 255) racks.items }
+    ensures outcome { IsOutcome session.now (map (λ rack. map (λ b. told_kind (memory_of (asked b) (last b) (kind b))) rack.items) racks.items) result.entries result.replies result.ends result.end (I.left link.old) (I.left link.new) (O.written term.old) (O.written term.new) }
+    ensures link { result.end ≡ End.Link → Rose (I.faults link.old) (I.faults link.new) }
+    ensures term { result.end ≡ End.Term → Rose (O.faults term.old) (O.faults term.new) }
+    ensures link_never_falls { I.faults link.old ≤ I.faults link.new }
+    ensures term_never_falls { O.faults term.old ≤ O.faults term.new }
+{
+    let Ok((mut stage, mut seats)) = begun(alloc, session, racks) else {
+        return nothing_left(alloc);
+    };
+    match rounds(
+        &mut stage,
+        seats.as_mut_slice(),
+        session.scripts(),
+        link,
+        term,
+    ) {
+        Ok(()) => {
+            let end = end_of(&stage);
+            left_by(stage, end)
+        }
+        Err(OutOfMemory) => left_by(stage, End::Memory),
+    }
+}
