@@ -1,14 +1,22 @@
--- How the top call ends where the words are no form.
-use Rattle.std.proofs.Common.{◌≡◌, ℕ, List, [], Option, None, refl, arith, ◌⊎◌}
-use Rattle.con_outside.specs.Outside.{then_written, WroteFront, WrotePart}
-use Rattle.con_host.specs.declared.words.Form.{Form}
+-- How the top call ends, by what the words ask for.
+use Rattle.std.proofs.Common.{◌≡◌, ℕ, List, [], Option, Some, None, refl, sym, subst, ap, ◌∙◌, arith, ◌⊎◌, inl, inr}
+use Rattle.con_units.specs.declared.place.Size.{Size}
+use Rattle.con_outside.specs.Outside.{then_left, then_written, WroteFront, WrotePart}
+use Rattle.con_outside.specs.Laws.{then_left-none}
 use Rattle.con_host.specs.Ending.{end_line}
 use Rattle.con_host.specs.Hosting.{Hosted}
-use Rattle.con_host.proofs.Lines.{part_of}
+use Rattle.con_host.specs.Playing.{Played}
+use Rattle.con_host.specs.Solo.{Soloed}
+use Rattle.con_host.specs.Typing.{Typed}
+use Rattle.con_host.specs.Words.{Asked, typing, playing, solo}
+use Rattle.con_host.proofs.Ends.{no_memory as no_playing}
+use Rattle.con_host.proofs.Lines.{part_of, nothing_yet}
+use Rattle.con_host.proofs.SoloLemmas.{no_memory as no_running}
+use Rattle.con_host.proofs.Types.{no_memory as no_typing}
 
-pub no_form : (s : ℕ) (asked : Option Form) (left before before_report report : Option (List ℕ)) (failed : Type 0) → None ≡ asked → (s ≡ 2) ⊎ (s ≡ 9) → WroteFront (end_line 2) before_report report
-    → (s ≡ 2 → ¬ failed → report ≡ then_written before_report (end_line 2)) → (¬ (s ≡ 2) → WrotePart (end_line 2) before_report report) → Hosted s asked [] left before before before_report report failed
-no_form s asked left before before_report report failed is which front whole part = record {
+pub no_form : (s : ℕ) (asked : Option Asked) (files : Option (List ℕ → Option (List ℕ))) (files_failed : Type 0) (racks : List (List ℕ)) (before old before_report report : Option (List ℕ)) (failed : Type 0) → None ≡ asked → (s ≡ 2) ⊎ (s ≡ 9) → WroteFront (end_line 2) before_report report
+    → (s ≡ 2 → ¬ failed → report ≡ then_written before_report (end_line 2)) → (¬ (s ≡ 2) → WrotePart (end_line 2) before_report report) → Hosted s asked files files_failed racks before before old old before_report report failed
+no_form s asked files files_failed racks before old before_report report failed is which front whole part = record {
   usage = λ _. record {
     comes = which;
     nothing_taken = refl;
@@ -18,4 +26,67 @@ no_form s asked left before before_report report failed is which front whole par
   };
   typed = λ e. absurd (cc);
   played = λ size e. absurd (cc);
+  ran = λ name e. absurd (cc);
+}
+
+-- there was no memory for the words
+pub no_words : (asked : Option Asked) (files : Option (List ℕ → Option (List ℕ))) (files_failed : Type 0) (racks : List (List ℕ)) (before old before_report : Option (List ℕ)) (failed : Type 0) → Hosted 9 asked files files_failed racks before before old old before_report before_report failed
+no_words asked files files_failed racks before old before_report failed = record {
+  usage = λ _. record {
+    comes = inr refl;
+    nothing_taken = refl;
+    nothing_written = refl;
+    told = λ e. let bad : 9 ≡ 2 = e in absurd (omega arith);
+    memory = λ _. nothing_yet _ before_report;
+  };
+  typed = λ _. ([], then_left-none before, no_typing [] before old before_report failed (omega arith));
+  played = λ size _. (refl, ([], then_left-none before, no_playing size [] before before_report failed (omega arith)));
+  ran = λ name _. no_running files name files_failed racks before old before_report failed;
+}
+
+pub as_typed : (s : ℕ) (asked : Option Asked) (files : Option (List ℕ → Option (List ℕ))) (files_failed : Type 0) (racks : List (List ℕ)) (before left old now before_report report : Option (List ℕ)) (failed : Type 0) → Some typing ≡ asked
+    → (text : List ℕ) × (before ≡ then_left text left) × Typed s text left old now before_report report failed → Hosted s asked files files_failed racks before left old now before_report report failed
+as_typed s asked files files_failed racks before left old now before_report report failed is t = record {
+  usage = λ e. absurd (cc);
+  typed = λ _. t;
+  played = λ size e. absurd (cc);
+  ran = λ name e. absurd (cc);
+}
+
+size_in : Option Asked → Size → Size
+size_in None other = other
+size_in (Some typing) other = other
+size_in (Some (playing size)) other = size
+size_in (Some (solo name)) other = other
+
+name_in : Option Asked → List ℕ
+name_in None = []
+name_in (Some typing) = []
+name_in (Some (playing size)) = []
+name_in (Some (solo name)) = name
+
+same_size : (asked : Option Asked) (a b : Size) → Some (playing a) ≡ asked → asked ≡ Some (playing b) → a ≡ b
+unfolding size_in
+same_size asked a b e f = ap (λ o. size_in o a) (e ∙ f)
+
+same_name : (asked : Option Asked) (a b : List ℕ) → Some (solo a) ≡ asked → asked ≡ Some (solo b) → a ≡ b
+unfolding name_in
+same_name asked a b e f = ap name_in (e ∙ f)
+
+pub as_played : (s : ℕ) (size : Size) (asked : Option Asked) (files : Option (List ℕ → Option (List ℕ))) (files_failed : Type 0) (racks : List (List ℕ)) (before left old before_report report : Option (List ℕ)) (failed : Type 0) → Some (playing size) ≡ asked
+    → (text : List ℕ) × (before ≡ then_left text left) × Played s size text left before_report report failed → Hosted s asked files files_failed racks before left old old before_report report failed
+as_played s size asked files files_failed racks before left old before_report report failed is t = record {
+  usage = λ e. absurd (cc);
+  typed = λ e. absurd (cc);
+  played = λ other e. (refl, subst (λ z. (text : List ℕ) × (before ≡ then_left text left) × Played s z text left before_report report failed) (same_size asked size other is e) t);
+  ran = λ name e. absurd (cc);
+}
+
+pub as_ran : (s : ℕ) (name : List ℕ) (asked : Option Asked) (files : Option (List ℕ → Option (List ℕ))) (files_failed : Type 0) (racks : List (List ℕ)) (before left old now before_report report : Option (List ℕ)) (failed : Type 0) → Some (solo name) ≡ asked
+    → Soloed s files name files_failed racks before left old now before_report report failed → Hosted s asked files files_failed racks before left old now before_report report failed
+as_ran s name asked files files_failed racks before left old now before_report report failed is t = record {
+  usage = λ e. absurd (cc);
+  typed = λ e. absurd (cc);
+  played = λ size e. absurd (cc);
+  ran = λ other e. subst (λ n. Soloed s files n files_failed racks before left old now before_report report failed) (same_name asked name other is e) t;
 }

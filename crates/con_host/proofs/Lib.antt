@@ -6,3 +6,7 @@ pub mod WindowLemmas
 pub mod Types
 pub mod Heard
 pub mod Hosts
+pub mod Entered
+pub mod Forms
+pub mod SoloLemmas
+pub mod TellLemmas

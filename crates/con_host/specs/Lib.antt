@@ -1,13 +1,17 @@
--- What a reader must believe: the words, the link, the last line, and how typing, playing and the whole call end.
+-- What a reader must believe: the words, the link, the last line, and how typing, playing, a session by turns and the whole call end.
 pub mod Encoded
 pub mod Ending
 pub mod Hosting
 pub mod Link
 pub mod Playing
+pub mod Solo
 pub mod Typing
 pub mod Words
 -- The code's own words and laws: pieces of a text in turn, and the fields of what types.
 pub mod Ascii
+pub mod Command
+pub mod Naming
 pub mod PlayedInTurn
+pub mod Telling
 pub mod TypedInTurn
 pub mod TypistView

@@ -1,10 +1,16 @@
 -- Which words are a form.
-use Rattle.std.specs.Prelude.{ℕ, ◌+◌, ◌-◌, ◌*◌, ◌<◌, ◌≤◌, Bool, ◌&&◌, ◌==◌, nat_le, List, [], ◌∷◌, take, drop, Option, Some, None, codes, if◌then◌else◌}
-use Rattle.std.specs.List.{position}
+use Rattle.std.specs.Prelude.{ℕ, ◌+◌, ◌-◌, ◌*◌, ◌<◌, ◌≤◌, Bool, false, not, ◌&&◌, ◌==◌, nat_le, List, [], ◌∷◌, take, drop, Option, Some, None, codes, if◌then◌else◌}
+use Rattle.std.specs.List.{list_all, position}
 use Rattle.std.specs.Str.{bytes_eq}
 use Rattle.con_units.specs.declared.place.Size.{Size}
 use Rattle.con_host.specs.declared.words.Form.{Form}
 use Rattle.con_host.specs.declared.words.Form.TheVariants as form
+
+-- what the words ask for: a text to be typed, bytes to be played at a size, the session of a file by turns
+pub data Asked : Type 0 where
+  typing : Asked
+  playing : Size → Asked
+  solo : List ℕ → Asked
 
 -- '1' to '9'
 abbrev pub is_first : ℕ → Bool
@@ -56,19 +62,31 @@ IsWindow size = (0 < size.w) × (0 < size.h) × (size.w ≤ 512) × (size.h ≤ 
 abbrev pub IsWindowed : Form → Type 0
 IsWindowed form.Type = Unit {0}
 IsWindowed (form.Play size) = IsWindow size
+IsWindowed (form.Solo name) = Unit {0}
 
-abbrev pub played : Option Size → Option Form
-played None = None
-played (Some size) = Some (form.Play size)
+abbrev pub at_size : Option Size → Option Asked
+at_size None = None
+at_size (Some size) = Some (playing size)
 
-abbrev pub of_type : List ℕ → Option Form
-of_type word = if bytes_eq word (codes "type") then Some form.Type else None
+-- not empty, and does not begin with '-'
+abbrev pub is_word : List ℕ → Bool
+is_word [] = false
+is_word (byte ∷ bytes) = not (byte == 0x2D)
 
-abbrev pub of_play : List ℕ → List ℕ → Option Form
-of_play word size = if bytes_eq word (codes "play") then played (size_of size) else None
+abbrev pub alone : List ℕ → Option Asked
+alone name = if bytes_eq (codes "type") name then Some typing else None
 
--- the form that the words are
-abbrev pub form_of : List (List ℕ) → Option Form
-form_of (word ∷ []) = of_type word
-form_of (word ∷ size ∷ []) = of_play word size
-form_of _ = None
+abbrev pub with_word : List ℕ → List ℕ → Option Asked
+with_word name word =
+    if bytes_eq (codes "play") name then at_size (size_of word)
+    else if bytes_eq (codes "solo") name then Some (solo word)
+    else None
+
+abbrev pub of_words : List (List ℕ) → Option Asked
+of_words (name ∷ []) = alone name
+of_words (name ∷ word ∷ []) = with_word name word
+of_words _ = None
+
+-- what the words ask for; they are no form where one of them is empty or begins with '-'
+abbrev pub form_of : List (List ℕ) → Option Asked
+form_of words = if list_all is_word words then of_words words else None

@@ -1,39 +1,52 @@
 //! The top call.
 
-ghost use Rattle.std.specs.Prelude.{◌≡◌, ◌≢◌, ℕ, ◌+◌, ◌<◌, ◌≤◌, ◌⊎◌, ◌↔◌, List, [], length, map, Option, Some, None, IfSome, IsNone, IsTrue, string_bytes};
+ghost use Rattle.std.specs.Prelude.{◌≡◌, ◌≢◌, ℕ, ◌+◌, ◌<◌, ◌≤◌, ◌⊎◌, ◌↔◌, List, [], All, length, map, Option, Some, None, IfSome, IsNone, IsTrue, string_bytes};
+ghost use Rattle.con_handlers.specs.Delivery.{memory_of};
 ghost use Rattle.con_outside.specs.Outside.{Rose, then_left};
-ghost use Rattle.con_host.specs.Words.{form_of};
+ghost use Rattle.con_session.specs.Worker.{told_kind};
+ghost use Rattle.con_units.specs.declared.place.Size.{Size};
+ghost use Rattle.con_host.specs.Words.{form_of, typing, playing};
 ghost use Rattle.con_host.specs.Hosting.{Hosted};
 
-use crate::ending::{LINK, REPORT, TERMINAL, USAGE, finish};
+use crate::ending::{LINK, MEMORY, REPORT, TERMINAL, USAGE, finish};
 use crate::playing::host_play;
+use crate::solo::host_solo;
 use crate::typing::host_type;
 use crate::words::Form;
-use con_outside::{Sink, Source};
+use con_handlers::CtrlHandler;
+use con_outside::{Files, Sink, Source};
+use con_units::OutOfMemory;
 use std::alloc::Global;
 
-/// Does what the words say, and answers the status: 0 done, 2 the words are no form, 4 the link failed, 5 the terminal
-/// failed, 6 the report failed, 9 there was no memory, 10 the link has more than 16,777,216 bytes.
-pub fn console_host<I: Source, O: Sink, R: Sink>(
+/// Does what the words say, and answers the status: 0 done, 2 the words are no form, 3 the file is no session, 4 the link failed, 5 the
+/// terminal failed, 6 the report failed, 7 the file could not be read, 8 the link has no frame at a place, 9 there was no memory, 10 the
+/// link has more than 16,777,216 bytes. `racks` are the handlers that a session's clients may add, by place.
+pub fn console_host<F: Files, I: Source, O: Sink, R: Sink>(
     alloc: Global,
     words: &[String],
+    files: &mut F,
     link: &mut I,
     term: &mut O,
     report: &mut R,
+    racks: Vec<Vec<Box<dyn CtrlHandler + Send>>>,
 ) -> u8
-    ensures outcome { (text : List ℕ) × (I.left link.old ≡ then_left text (I.left link.new))
-        × Hosted result (form_of (map string_bytes words.now)) text (I.left link.new) (O.written term.old) (O.written term.new) (R.written report.old) (R.written report.new) (Rose (R.faults report.old) (R.faults report.new)) }
+    requires few { All (λ rack. length rack.items ≤ 255) racks.items }
+    ensures outcome { Hosted result (form_of (map string_bytes words.now)) (F.files files.old) (Rose (F.faults files.old) (F.faults files.new)) (map (λ rack. map (λ b. told_kind (memory_of (asked b) (last b) (kind b))) rack.items) racks.items) (I.left link.old) (I.left link.new) (O.written term.old) (O.written term.new) (R.written report.old) (R.written report.new) (Rose (R.faults report.old) (R.faults report.new)) }
     ensures usage { result ≡ USAGE → form_of (map string_bytes words.now) ≡ None }
     ensures no_form { form_of (map string_bytes words.now) ≡ None → (result ≡ USAGE) ⊎ (result ≡ 9) }
     ensures link_failed { result ≡ LINK → Rose (I.faults link.old) (I.faults link.new) }
     ensures term_failed { result ≡ TERMINAL → Rose (O.faults term.old) (O.faults term.new) }
     ensures report_failed { result ≡ REPORT → Rose (R.faults report.old) (R.faults report.new) }
-    ensures complete { form_of (map string_bytes words.now) ≢ None → ¬ (Rose (I.faults link.old) (I.faults link.new)) → ¬ (Rose (O.faults term.old) (O.faults term.new)) → ¬ (Rose (R.faults report.old) (R.faults report.new))
+    ensures type_complete { form_of (map string_bytes words.now) ≡ Some typing → ¬ (Rose (I.faults link.old) (I.faults link.new)) → ¬ (Rose (O.faults term.old) (O.faults term.new)) → ¬ (Rose (R.faults report.old) (R.faults report.new))
+        → IfSome (I.left link.old) (λ bytes. length bytes ≤ 16777216 → (result ≡ 0) ⊎ (result ≡ 9)) }
+    ensures play_complete { (size : Size) → form_of (map string_bytes words.now) ≡ Some (playing size) → ¬ (Rose (I.faults link.old) (I.faults link.new)) → ¬ (Rose (O.faults term.old) (O.faults term.new)) → ¬ (Rose (R.faults report.old) (R.faults report.new))
         → IfSome (I.left link.old) (λ bytes. length bytes ≤ 16777216 → (result ≡ 0) ⊎ (result ≡ 9)) }
 {
-    match Form::of(words) {
-        None => finish(report, USAGE),
-        Some(Form::Type) => host_type(alloc, link, term, report),
-        Some(Form::Play(size)) => host_play(alloc, size, link, report),
+    match Form::of(alloc, words) {
+        Err(OutOfMemory) => MEMORY,
+        Ok(None) => finish(alloc, report, USAGE),
+        Ok(Some(Form::Type)) => host_type(alloc, link, term, report),
+        Ok(Some(Form::Play(size))) => host_play(alloc, size, link, report),
+        Ok(Some(Form::Solo(name))) => host_solo(alloc, name, files, link, term, report, racks),
     }
 }

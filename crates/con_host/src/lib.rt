@@ -4,7 +4,9 @@
 //! - `type`: reads the link to its end as UTF-8 text, writes it on one screen of 80 by 25 where virtual terminal sequences
 //!   act, and writes one frame that shows it to the terminal ([`host_type`]);
 //! - `play WxH`: plays the link's bytes on the specified terminal of that size, and writes its dump to the report
-//!   ([`host_play`]).
+//!   ([`host_play`]);
+//! - `solo SESSION`: reads the session of a file, runs it by turns on one thread, and writes its history to the report
+//!   ([`host_solo`]).
 //!
 //! Its contract says, for each status that it answers, what was taken from the link, and what the terminal and the
 //! report have. Memory does not grow with the link: a piece of 4,096 bytes is read, heard and forgotten.
@@ -12,12 +14,15 @@
 //! Never promised: that memory is there, and that a read of the link returns.
 #![tactic(auto)]
 
+pub mod command;
 pub mod decoding;
 pub mod ending;
 pub mod framing;
 pub mod host;
 pub mod playing;
 pub mod reading;
+pub mod solo;
+pub mod telling;
 pub mod text;
 pub mod typing;
 pub mod words;
@@ -25,4 +30,5 @@ pub mod words;
 pub use ending::{DONE, LINK, MEMORY, REPORT, TERMINAL, TOO_LONG, USAGE};
 pub use host::console_host;
 pub use playing::host_play;
+pub use solo::host_solo;
 pub use typing::host_type;

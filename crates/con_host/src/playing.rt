@@ -55,8 +55,8 @@ pub fn host_play<I: Source, R: Sink>(alloc: Global, size: Size, link: &mut I, re
         return MEMORY;
     };
     match read_link(link, &mut terminal) {
-        Reading::Failed => return finish(report, LINK),
-        Reading::TooLong => return finish(report, TOO_LONG),
+        Reading::Failed => return finish(alloc, report, LINK),
+        Reading::TooLong => return finish(alloc, report, TOO_LONG),
         Reading::Memory => return MEMORY,
         Reading::End => {}
     }

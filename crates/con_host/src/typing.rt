@@ -149,8 +149,8 @@ pub fn host_type<I: Source, O: Sink, R: Sink>(
         return MEMORY;
     };
     match read_link(link, &mut typist) {
-        Reading::Failed => return finish(report, LINK),
-        Reading::TooLong => return finish(report, TOO_LONG),
+        Reading::Failed => return finish(alloc, report, LINK),
+        Reading::TooLong => return finish(alloc, report, TOO_LONG),
         Reading::Memory => return MEMORY,
         Reading::End => {}
     }
@@ -159,7 +159,7 @@ pub fn host_type<I: Source, O: Sink, R: Sink>(
     };
     match write_whole(term, bytes.as_slice()) {
         Ok(()) => DONE,
-        Err(Fault::Failed) => finish(report, TERMINAL),
+        Err(Fault::Failed) => finish(alloc, report, TERMINAL),
         Err(Fault::OutOfMemory) => MEMORY,
     }
 }

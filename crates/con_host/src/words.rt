@@ -1,58 +1,125 @@
 //! The words of the command line.
-ghost use Rattle.std.specs.Prelude.{◌≡◌, ℕ, ◌+◌, ◌*◌, ◌-◌, ◌≤◌, ◌<◌, ◌==◌, List, [], ◌∷◌, length, map, take, drop, Option, Some, None, IfSome, IsTrue, string_bytes};
+ghost use Rattle.std.specs.Prelude.{◌≡◌, ℕ, ◌+◌, ◌*◌, ◌-◌, ◌≤◌, ◌<◌, ◌==◌, List, [], ◌∷◌, length, map, take, drop, Option, Some, None, IfSome, IfOk, IsTrue, string_bytes};
 ghost use Rattle.std.specs.List.{position};
 
-use con_units::Size;
+use crate::command::{matches, met};
+use clap::ArgMatches;
+use clap::error::ErrorKind;
+use con_units::{OutOfMemory, Size};
+use std::alloc::Global;
 
 /// What the words ask for.
 #[derive(Clone, Copy, Debug, PartialEq, Eq, Drop)]
-pub enum Form {
+pub enum Form<'a> {
     /// `type`: the link's bytes are a text; one frame that shows it goes to the terminal.
     Type,
     /// `play WxH`: the link's bytes are played on a terminal of that size; its dump goes to the report.
     Play(Size),
+    /// `solo SESSION`: the session of the file of this name runs by turns; its history goes to the report.
+    Solo(&'a str),
 }
 
-impl Form {
+impl<'a> Form<'a> {
     ghost use Rattle.con_host.specs.Words.{form_of, IsWindowed};
+    ghost use Rattle.con_host.specs.Naming.{asked_of};
 
-    /// The form that the words are, and `None` where they are none: `type` alone, or `play` with a size of 1 to 512
-    /// by 1 to 256, in decimal digits without a sign or a leading zero, joined by `x`.
-    pub fn of(words: &[String]) -> Option<Form>
-        ensures form { result ≡ form_of (map string_bytes words.now) }
-        ensures window { IfSome result IsWindowed }
+    /// The form that the words are, and `None` where they are none: `type` alone, `play` with a size of 1 to 512
+    /// by 1 to 256, in decimal digits without a sign or a leading zero, joined by `x`, or `solo` with a name. An empty word and one that begins with `-`
+    /// stand in no form.
+    pub fn of(alloc: Global, words: &'a [String]) -> Result<Option<Form<'a>>, OutOfMemory>
+        ensures form { IfOk result (λ form. option_map asked_of form ≡ form_of (map string_bytes words.entry.now)) }
+        ensures window { IfOk result (λ form. IfSome form IsWindowed) }
     {
-        match words {
-            [word] => type_of(word.as_str()),
-            [word, size] => play_of(word.as_str(), size.as_str().as_bytes()),
-            _ => None,
+        if !are_few_words(words) {
+            return Ok(None);
+        }
+        match matches(alloc, words) {
+            Ok(found) => Ok(form_in(&found)),
+            Err(error) if is_memory(error.kind()) => Err(OutOfMemory),
+            Err(_) => Ok(None),
         }
     }
 }
 
-ghost use Rattle.con_host.specs.Words.{is_first, is_digit, number_of, side_of, size_of, is_x, of_type, of_play, digit_of, IsWindow, IsWindowed};
-ghost use Rattle.std.specs.Prelude.{true};
+ghost use Rattle.con_host.specs.Words.{is_word, is_first, is_digit, number_of, side_of, size_of, is_x, digit_of, IsWindow, IsWindowed};
+ghost use Rattle.con_host.specs.Naming.{are_few, asked_of, of_size, of_name, form_named, form_met};
+ghost use Rattle.std.specs.Prelude.{true, false, option_map};
+ghost use Rattle.std.specs.List.{list_all};
+ghost use Rattle.clap.specs.Words.{subcommand_rows_of};
 
-fn type_of(word: &str) -> Option<Form>
-    ensures form { result ≡ of_type word.now }
+fn is_memory(kind: ErrorKind) -> bool
+    ensures memory { result ≡ true → kind ≡ ErrorKind.OutOfMemory }
+    ensures other { result ≡ false → ¬ (kind ≡ ErrorKind.OutOfMemory) }
+{
+    kind == ErrorKind::OutOfMemory
+}
+
+fn word(word: &str) -> bool
+    ensures { result ≡ is_word word.now }
+{
+    match word.as_bytes() {
+        [] => false,
+        [byte, ..] => *byte != 0x2D,
+    }
+}
+
+// At most two words, of which none is empty or begins with '-'.
+fn are_few_words(words: &[String]) -> bool
+    ensures { result ≡ are_few (map string_bytes words.now) }
+{
+    match words {
+        [] => true,
+        [one] => word(one.as_str()),
+        [one, two] => word(one.as_str()) && word(two.as_str()),
+        _ => false,
+    }
+}
+
+// The form that the command met.
+fn form_in<'a>(found: &ArgMatches<'a>) -> Option<Form<'a>>
+    ensures form { option_map asked_of result ≡ form_met (subcommand_rows_of found.now) }
     ensures window { IfSome result IsWindowed }
 {
-    if word == "type" {
+    match met(found) {
+        Some((name, word)) => form_of_name(name, word),
+        None => None,
+    }
+}
+
+fn form_of_name<'a>(name: &str, word: Option<&'a str>) -> Option<Form<'a>>
+    ensures form { option_map asked_of result ≡ form_named (name.now, option_map (λ s. s.now) word.entry) }
+    ensures window { IfSome result IsWindowed }
+{
+    if name == "type" {
         Some(Form::Type)
+    } else if name == "play" {
+        playing(word)
+    } else if name == "solo" {
+        running(word)
     } else {
         None
     }
 }
 
-fn play_of(word: &str, size: &[u8]) -> Option<Form>
-    ensures form { result ≡ of_play word.now size.now }
+fn playing<'a>(word: Option<&'a str>) -> Option<Form<'a>>
+    ensures form { option_map asked_of result ≡ of_size (option_map (λ s. s.now) word.entry) }
     ensures window { IfSome result IsWindowed }
 {
-    if word != "play" {
+    let Some(word) = word else {
         return None;
-    }
-    match size_in(size) {
+    };
+    match size_in(word.as_bytes()) {
         Some(size) => Some(Form::Play(size)),
+        None => None,
+    }
+}
+
+fn running<'a>(word: Option<&'a str>) -> Option<Form<'a>>
+    ensures form { option_map asked_of result ≡ of_name (option_map (λ s. s.now) word.entry) }
+    ensures window { IfSome result IsWindowed }
+{
+    match word {
+        Some(name) => Some(Form::Solo(name)),
         None => None,
     }
 }

@@ -8,3 +8,5 @@ mod failing;
 mod rows;
 #[cfg(test)]
 mod runs;
+#[cfg(test)]
+mod sessions;

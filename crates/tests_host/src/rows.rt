@@ -155,13 +155,21 @@ fn is_refused(
 
 #[test]
 fn words_and_links_that_are_refused(rt: HostRuntime) -> Result<(), Fail> {
-    let forms: [&[&str]; 6] = [
+    let forms: [&[&str]; 14] = [
         &[],
+        &[""],
+        &["-"],
+        &["help"],
+        &["help", "type"],
+        &["--help"],
+        &["--version"],
         &["type", "x"],
+        &["play"],
         &["play", "0x5"],
         &["play", "513x1"],
         &["play", "05x5"],
-        &["--help"],
+        &["play", "3x1", "x"],
+        &["play", "--", "3x1"],
     ];
     for words in forms {
         let link = b"a".to_vec(rt.alloc())?;

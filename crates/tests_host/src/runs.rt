@@ -1,6 +1,9 @@
 // Runs in memory.
+ghost use Rattle.std.specs.Prelude.{◌≤◌, All, length};
+
+use con_handlers::CtrlHandler;
 use con_host::console_host;
-use con_outside::{MemorySink, MemorySource};
+use con_outside::{MemoryFiles, MemorySink, MemorySource};
 use con_units::Bytes;
 use std::alloc::Global;
 use std::test::Fail;
@@ -40,8 +43,32 @@ fn sink(alloc: Global, fail: u64) -> Result<MemorySink, Fail> {
     })
 }
 
-/// Runs the words over a link of these bytes.
+/// The handlers of each client.
+pub type Racks = Vec<Vec<Box<dyn CtrlHandler + Send>>>;
+
+/// Runs the words over a link of these bytes, with no file and no handlers.
 pub fn run(alloc: Global, words: &[&str], bytes: Vec<u8>, failing: Failing) -> Result<Ran, Fail> {
+    let mut files = MemoryFiles {
+        names: Vec::new(alloc),
+        texts: Vec::new(alloc),
+        fail: Vec::new(alloc),
+        calls: 0,
+        faults: 0,
+    };
+    run_with(alloc, words, &mut files, bytes, failing, Vec::new(alloc))
+}
+
+/// Runs the words with these files, over a link of these bytes, with these handlers. No rack has more than 255.
+pub fn run_with(
+    alloc: Global,
+    words: &[&str],
+    files: &mut MemoryFiles,
+    bytes: Vec<u8>,
+    failing: Failing,
+    racks: Racks,
+) -> Result<Ran, Fail>
+    requires { All (λ rack. length rack.items ≤ 255) racks.items }
+{
     let mut list = Vec::new(alloc);
     for word in words {
         list.push(format!(in alloc; "{word}")?)?;
@@ -55,7 +82,15 @@ pub fn run(alloc: Global, words: &[&str], bytes: Vec<u8>, failing: Failing) -> R
     };
     let mut term = sink(alloc, failing.term)?;
     let mut report = sink(alloc, failing.report)?;
-    let status = console_host(alloc, list.as_slice(), &mut link, &mut term, &mut report);
+    let status = console_host(
+        alloc,
+        list.as_slice(),
+        files,
+        &mut link,
+        &mut term,
+        &mut report,
+        racks,
+    );
     Ok(Ran {
         status,
         written: term.written,

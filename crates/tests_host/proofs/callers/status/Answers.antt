@@ -3,10 +3,10 @@ use Rattle.tests_host.proofs.callers.status.Goals as goal
 
 pub returns-clause-played : goal.returns-clause-played
 returns-clause-played c = λ size asked told.
-    let comes = (c.console_host.ensures.outcome.2.played size asked).1.comes in
+    let comes = (c.console_host.ensures.outcome.played size asked).1.2.comes in
     let never : false ≡ true = rw told at comes in
     absurd (cc)
 
 pub returns-clause-untouched : goal.returns-clause-untouched
 returns-clause-untouched c = λ size asked.
-    let same = (c.console_host.ensures.outcome.2.played size asked).0 in cc
+    let same = (c.console_host.ensures.outcome.played size asked).0 in cc

@@ -1,0 +1,234 @@
+-- What the command makes of at most two words.
+use Rattle.std.proofs.Common.{◌≡◌, ◌≢◌, ◌≤◌, ◌⊎◌, inl, inr, ℕ, Bool, true, false, nat_eq, List, [], ◌∷◌, length, codes, refl, ap, ◌∙◌, sym, subst, arith, Option, Some, None}
+use Rattle.std.specs.Prelude.{◌==◌, ◌&&◌, ◌||◌, not, find, if◌then◌else◌, option_map, option_and_then}
+use Rattle.std.specs.List.{list_all}
+use Rattle.std.proofs.lemmas.Bool.{and_parts}
+use Rattle.std.proofs.lemmas.Bool.Decides.{nat_tests}
+use Rattle.std.specs.Str.{bytes_eq}
+use Rattle.clap.specs.Walk.{Names, Rule, Walk, after_step, answers_to, idle, nothing_held, stop_after, subcommand_met, subcommand_or_other, walk_from, walked, walked_from}
+use Rattle.clap.specs.Simple.{built, entered}
+use Rattle.clap.specs.Words.{fault_of, subcommand_of, Text, Row, Kinds, IsAmong}
+use Rattle.clap.specs.declared.error.kind.ErrorKind.{ErrorKind}
+use Rattle.clap.specs.declared.error.kind.ErrorKind.TheVariants as kind
+use Rattle.clap.proofs.OnLiterals.{clap_on_literals}
+use Rattle.con_host.specs.Command.{host, first_word}
+use Rattle.con_host.specs.Naming.{form_named, form_met, are_few}
+use Rattle.con_host.specs.Words.{Asked, is_word, of_words, form_of}
+
+-- the words are a form, and the command takes them; or they are none, and it does not
+abbrev pub Reads : List Text → Type 0
+Reads ws = ((fault_of host ws ≡ []) × (form_met (subcommand_of host ws) ≡ of_words ws)) ⊎ ((fault_of host ws ≢ []) × (of_words ws ≡ None))
+
+nothing_refused : fault_of host [] ≢ []
+unfolding clap_on_literals
+nothing_refused h = cc
+
+-- `type`
+alone_taken : (x : ℕ) (xs : Text) → bytes_eq (codes "type") (x ∷ xs) ≡ true → fault_of host ((x ∷ xs) ∷ []) ≡ []
+unfolding clap_on_literals
+alone_taken x xs a = simp a
+
+-- ---- the subcommand that a first word names
+
+abbrev names : Names
+names = (codes "type", []) ∷ (codes "play", []) ∷ (codes "solo", []) ∷ []
+
+or_none : (b c : Bool) → b ≡ c → (b || false) ≡ c
+or_none true c e = e
+or_none false c e = e
+
+found_first : (p : Text × List Text → Bool) (a : Text × List Text) (rest : Names) → p a ≡ true → option_map (λ s. s.0) (find p (a ∷ rest)) ≡ Some a.0
+found_first p a rest e = rw e refl
+
+found_second : (p : Text × List Text → Bool) (a b : Text × List Text) (rest : Names) → p a ≡ false → p b ≡ true → option_map (λ s. s.0) (find p (a ∷ b ∷ rest)) ≡ Some b.0
+found_second p a b rest e f = rw (e, f) refl
+
+found_third : (p : Text × List Text → Bool) (a b c : Text × List Text) → p a ≡ false → p b ≡ false → p c ≡ true → option_map (λ s. s.0) (find p (a ∷ b ∷ c ∷ [])) ≡ Some c.0
+found_third p a b c e f g = rw (e, f, g) refl
+
+names_type : (w : Text) → bytes_eq (codes "type") w ≡ true → subcommand_met names idle w ≡ Some (codes "type")
+names_type w a = found_first (answers_to w) (codes "type", []) ((codes "play", []) ∷ (codes "solo", []) ∷ []) (or_none _ true a)
+
+names_play : (w : Text) → bytes_eq (codes "type") w ≡ false → bytes_eq (codes "play") w ≡ true → subcommand_met names idle w ≡ Some (codes "play")
+names_play w a b = found_second (answers_to w) (codes "type", []) (codes "play", []) ((codes "solo", []) ∷ []) (or_none _ false a) (or_none _ true b)
+
+names_solo : (w : Text) → bytes_eq (codes "type") w ≡ false → bytes_eq (codes "play") w ≡ false → bytes_eq (codes "solo") w ≡ true → subcommand_met names idle w ≡ Some (codes "solo")
+names_solo w a b c = found_third (answers_to w) (codes "type", []) (codes "play", []) (codes "solo", []) (or_none _ false a) (or_none _ false b) (or_none _ true c)
+
+-- the walk behind a first word that names this subcommand
+abbrev walk_by : List Rule → Text → Option Text → Walk
+walk_by c w m = let met = subcommand_or_other c m idle 1 w nothing_held in after_step c w (walk_from nothing_held) met.0 met.1
+
+-- the walk stops at it
+stops : (c : List Rule) (ns : Names) (w n : Text) → subcommand_met ns idle w ≡ Some n → stop_after c ns (w ∷ []) ≡ Some (n, [])
+unfolding walked
+stops c ns w n e = ap (λ (m : Option Text). (walk_by c w m).stopped) e
+
+stops_before : (c : List Rule) (ns : Names) (w v n : Text) → subcommand_met ns idle w ≡ Some n → stop_after c ns (w ∷ v ∷ []) ≡ Some (n, v ∷ [])
+unfolding walked
+stops_before c ns w v n e = ap (λ (m : Option Text). (walked_from c ns (walk_by c w m).stopped (walk_by c w m) v).stopped) e
+
+alone_met : (x : ℕ) (xs : Text) → bytes_eq (codes "type") (x ∷ xs) ≡ true → subcommand_of host ((x ∷ xs) ∷ []) ≡ Some (codes "type", [])
+unfolding clap_on_literals
+alone_met x xs a = ap (entered (built host)) (stops (built host).top.rules names (x ∷ xs) (codes "type") (names_type (x ∷ xs) a))
+
+-- `type` and more
+more_refused : (x y : ℕ) (xs ys : Text) → nat_eq y 45 ≡ false → bytes_eq (codes "type") (x ∷ xs) ≡ true → fault_of host ((x ∷ xs) ∷ (y ∷ ys) ∷ []) ≡ kind.UnknownArgument ∷ []
+unfolding clap_on_literals
+more_refused x y xs ys i a = simp (a, i)
+
+-- `play`
+play_refused : (x : ℕ) (xs : Text) → bytes_eq (codes "type") (x ∷ xs) ≡ false → bytes_eq (codes "play") (x ∷ xs) ≡ true → fault_of host ((x ∷ xs) ∷ []) ≡ kind.MissingRequiredArgument ∷ []
+unfolding clap_on_literals
+play_refused x xs a b = simp (a, b)
+
+play_taken : (x y : ℕ) (xs ys : Text) → nat_eq y 45 ≡ false → bytes_eq (codes "type") (x ∷ xs) ≡ false → bytes_eq (codes "play") (x ∷ xs) ≡ true → fault_of host ((x ∷ xs) ∷ (y ∷ ys) ∷ []) ≡ []
+unfolding clap_on_literals
+play_taken x y xs ys i a b = simp (a, b, i)
+
+play_enters : (y : ℕ) (ys : Text) → nat_eq y 45 ≡ false → option_map first_word (entered (built host) (Some (codes "play", (y ∷ ys) ∷ []))) ≡ Some (codes "play", Some (y ∷ ys))
+unfolding clap_on_literals
+play_enters y ys i = simp i
+
+play_met : (x y : ℕ) (xs ys : Text) → nat_eq y 45 ≡ false → bytes_eq (codes "type") (x ∷ xs) ≡ false → bytes_eq (codes "play") (x ∷ xs) ≡ true → option_map first_word (subcommand_of host ((x ∷ xs) ∷ (y ∷ ys) ∷ [])) ≡ Some (codes "play", Some (y ∷ ys))
+play_met x y xs ys i a b = ap (λ stop. option_map first_word (entered (built host) stop)) (stops_before (built host).top.rules names (x ∷ xs) (y ∷ ys) (codes "play") (names_play (x ∷ xs) a b)) ∙ play_enters y ys i
+
+-- `solo`
+solo_refused : (x : ℕ) (xs : Text) → bytes_eq (codes "type") (x ∷ xs) ≡ false → bytes_eq (codes "play") (x ∷ xs) ≡ false → bytes_eq (codes "solo") (x ∷ xs) ≡ true → fault_of host ((x ∷ xs) ∷ []) ≡ kind.MissingRequiredArgument ∷ []
+unfolding clap_on_literals
+solo_refused x xs a b c = simp (a, b, c)
+
+solo_taken : (x y : ℕ) (xs ys : Text) → nat_eq y 45 ≡ false → bytes_eq (codes "type") (x ∷ xs) ≡ false → bytes_eq (codes "play") (x ∷ xs) ≡ false → bytes_eq (codes "solo") (x ∷ xs) ≡ true → fault_of host ((x ∷ xs) ∷ (y ∷ ys) ∷ []) ≡ []
+unfolding clap_on_literals
+solo_taken x y xs ys i a b c = simp (a, b, c, i)
+
+solo_enters : (y : ℕ) (ys : Text) → nat_eq y 45 ≡ false → option_map first_word (entered (built host) (Some (codes "solo", (y ∷ ys) ∷ []))) ≡ Some (codes "solo", Some (y ∷ ys))
+unfolding clap_on_literals
+solo_enters y ys i = simp i
+
+solo_met : (x y : ℕ) (xs ys : Text) → nat_eq y 45 ≡ false → bytes_eq (codes "type") (x ∷ xs) ≡ false → bytes_eq (codes "play") (x ∷ xs) ≡ false → bytes_eq (codes "solo") (x ∷ xs) ≡ true
+    → option_map first_word (subcommand_of host ((x ∷ xs) ∷ (y ∷ ys) ∷ [])) ≡ Some (codes "solo", Some (y ∷ ys))
+solo_met x y xs ys i a b c = ap (λ stop. option_map first_word (entered (built host) stop)) (stops_before (built host).top.rules names (x ∷ xs) (y ∷ ys) (codes "solo") (names_solo (x ∷ xs) a b c)) ∙ solo_enters y ys i
+
+is_type : (w : Text) → bytes_eq (codes "type") w ≡ true → form_named (codes "type", None) ≡ of_words (w ∷ [])
+is_type w e = rw e refl
+
+is_play : (w v : Text) → bytes_eq (codes "play") w ≡ true → form_named (codes "play", Some v) ≡ of_words (w ∷ v ∷ [])
+is_play w v e = rw e refl
+
+is_solo : (w v : Text) → bytes_eq (codes "play") w ≡ false → bytes_eq (codes "solo") w ≡ true → form_named (codes "solo", Some v) ≡ of_words (w ∷ v ∷ [])
+is_solo w v e f = rw (e, f) refl
+
+-- another word
+other_refused : (x : ℕ) (xs : Text) (rest : List Text) → nat_eq x 45 ≡ false → bytes_eq (codes "type") (x ∷ xs) ≡ false → bytes_eq (codes "play") (x ∷ xs) ≡ false → bytes_eq (codes "solo") (x ∷ xs) ≡ false
+    → fault_of host ((x ∷ xs) ∷ rest) ≡ kind.UnknownArgument ∷ kind.InvalidSubcommand ∷ []
+unfolding clap_on_literals
+other_refused x xs rest h a b c = simp (a, b, c) (simp h)
+
+some_kinds : (ks : Kinds) (k : ErrorKind) (more : Kinds) → ks ≡ k ∷ more → ks ≢ []
+some_kinds ks k more e n = let bad : k ∷ more ≡ [] = sym e ∙ n in absurd (cc)
+
+none_alone : (x : ℕ) (xs : Text) → bytes_eq (codes "type") (x ∷ xs) ≡ false → of_words ((x ∷ xs) ∷ []) ≡ None
+none_alone x xs a = rw a refl
+
+none_with : (x : ℕ) (xs ys : Text) → bytes_eq (codes "play") (x ∷ xs) ≡ false → bytes_eq (codes "solo") (x ∷ xs) ≡ false → of_words ((x ∷ xs) ∷ ys ∷ []) ≡ None
+none_with x xs ys a b = rw (a, b) refl
+
+one_word : (x : ℕ) (xs : Text) (a b c : Bool) → nat_eq x 45 ≡ false → bytes_eq (codes "type") (x ∷ xs) ≡ a → bytes_eq (codes "play") (x ∷ xs) ≡ b → bytes_eq (codes "solo") (x ∷ xs) ≡ c → Reads ((x ∷ xs) ∷ [])
+one_word x xs true b c h p q r = inl (alone_taken x xs p, ap form_met (alone_met x xs p) ∙ is_type (x ∷ xs) p)
+one_word x xs false true c h p q r = inr (some_kinds _ _ _ (play_refused x xs p q), none_alone x xs p)
+one_word x xs false false true h p q r = inr (some_kinds _ _ _ (solo_refused x xs p q r), none_alone x xs p)
+one_word x xs false false false h p q r = inr (some_kinds _ _ _ (other_refused x xs [] h p q r), none_alone x xs p)
+
+-- no word is two of them
+two_letters : (x : ℕ) (r s : Bool) → (nat_eq 116 x && r) ≡ true → (nat_eq 112 x && s) ≡ false
+two_letters x r s p = grind (arith, nat_tests)
+
+no_play : (x : ℕ) (xs : Text) → bytes_eq (codes "type") (x ∷ xs) ≡ true → bytes_eq (codes "play") (x ∷ xs) ≡ false
+no_play x xs p = two_letters x _ _ p
+
+other_letters : (x : ℕ) (r s : Bool) → (nat_eq 116 x && r) ≡ true → (nat_eq 115 x && s) ≡ false
+other_letters x r s p = grind (arith, nat_tests)
+
+no_solo : (x : ℕ) (xs : Text) → bytes_eq (codes "type") (x ∷ xs) ≡ true → bytes_eq (codes "solo") (x ∷ xs) ≡ false
+no_solo x xs p = other_letters x _ _ p
+
+two_words : (x y : ℕ) (xs ys : Text) (a b c : Bool) → nat_eq x 45 ≡ false → nat_eq y 45 ≡ false → bytes_eq (codes "type") (x ∷ xs) ≡ a → bytes_eq (codes "play") (x ∷ xs) ≡ b → bytes_eq (codes "solo") (x ∷ xs) ≡ c
+    → Reads ((x ∷ xs) ∷ (y ∷ ys) ∷ [])
+two_words x y xs ys true b c h i p q r = inr (some_kinds _ _ _ (more_refused x y xs ys i p), none_with x xs (y ∷ ys) (no_play x xs p) (no_solo x xs p))
+two_words x y xs ys false true c h i p q r = inl (play_taken x y xs ys i p q, ap (option_and_then form_named) (play_met x y xs ys i p q) ∙ is_play (x ∷ xs) (y ∷ ys) q)
+two_words x y xs ys false false true h i p q r = inl (solo_taken x y xs ys i p q r, ap (option_and_then form_named) (solo_met x y xs ys i p q r) ∙ is_solo (x ∷ xs) (y ∷ ys) q r)
+two_words x y xs ys false false false h i p q r = inr (some_kinds _ _ _ (other_refused x xs ((y ∷ ys) ∷ []) h p q r), none_with x xs (y ∷ ys) q r)
+
+no_hyphen : (b : Bool) → not b ≡ true → b ≡ false
+no_hyphen false e = refl
+no_hyphen true e = absurd (cc)
+
+both_are : (a b : Bool) → a ≡ true → b ≡ true → (a && (b && true)) ≡ true
+both_are a b p q = rw (p, q) refl
+
+one_is : (a : Bool) → a ≡ true → (a && true) ≡ true
+one_is a p = rw p refl
+
+under_all : (ws : List Text) → list_all is_word ws ≡ true → form_of ws ≡ of_words ws
+under_all ws all = rw all refl
+
+-- of at most two words, of which none is empty or begins with '-'
+pub reads : (ws : List Text) → are_few ws ≡ true → Reads ws
+reads [] few = inr (nothing_refused, refl)
+reads ([] ∷ []) few = absurd (cc)
+reads ((x ∷ xs) ∷ []) few = one_word x xs _ _ _ (no_hyphen _ few) refl refl refl
+reads ([] ∷ v ∷ []) few = absurd (cc)
+reads ((x ∷ xs) ∷ [] ∷ []) few = let bad : false ≡ true = (and_parts (is_word (x ∷ xs)) false few).1 in absurd (cc)
+reads ((x ∷ xs) ∷ (y ∷ ys) ∷ []) few = let p = and_parts (is_word (x ∷ xs)) (is_word (y ∷ ys)) few in two_words x y xs ys _ _ _ (no_hyphen _ p.0) (no_hyphen _ p.1) refl refl refl
+reads (w ∷ v ∷ u ∷ rest) few = absurd (cc)
+
+plain_form : (ws : List Text) → are_few ws ≡ true → form_of ws ≡ of_words ws
+plain_form [] few = refl
+plain_form (w ∷ []) few = under_all (w ∷ []) (one_is _ few)
+plain_form (w ∷ v ∷ []) few = let p = and_parts (is_word w) (is_word v) few in under_all (w ∷ v ∷ []) (both_are _ _ p.0 p.1)
+plain_form (w ∷ v ∷ u ∷ rest) few = absurd (cc)
+
+-- other words are no form
+no_word : (w : Text) (b : Bool) → (is_word w && b) ≡ false → (if is_word w && b then of_words (w ∷ []) else None) ≡ None
+no_word w b e = rw e refl
+
+none_of : (b : Bool) (o : Option Asked) → b ≡ false → (if b then o else None) ≡ None
+none_of b o e = rw e refl
+
+one_not : (a : Bool) → a ≡ false → (a && true) ≡ false
+one_not a p = rw p refl
+
+two_not : (a b : Bool) → (a && b) ≡ false → (a && (b && true)) ≡ false
+two_not true b e = one_not b e
+two_not false b e = refl
+
+whatever : (b : Bool) → (if b then (let n : Option Asked = None in n) else None) ≡ None
+whatever true = refl
+whatever false = refl
+
+pub no_form : (ws : List Text) → are_few ws ≡ false → form_of ws ≡ None
+no_form [] e = absurd (cc)
+no_form (w ∷ []) e = none_of _ _ (one_not (is_word w) e)
+no_form (w ∷ v ∷ []) e = none_of _ _ (two_not (is_word w) (is_word v) e)
+no_form (w ∷ v ∷ u ∷ rest) e = whatever _
+
+-- what the command answers
+pub taken : (ws : List Text) (rows : Option (Text × List Row)) → are_few ws ≡ true → fault_of host ws ≡ [] → rows ≡ subcommand_of host ws → form_met rows ≡ form_of ws
+taken ws rows few ok is = elim (reads ws few) [
+  | inl r ↦ ap form_met is ∙ (r.1 ∙ sym (plain_form ws few))
+  | inr r ↦ absurd (r.0 ok)
+]
+
+no_kind : (k : ErrorKind) (ks : Kinds) → ks ≡ [] → IsAmong k ks → ⊥
+no_kind k [] e i = i
+no_kind k (x ∷ ks) e i = absurd (cc)
+
+pub refused : (ws : List Text) (k : ErrorKind) → are_few ws ≡ true → ¬ (k ≡ kind.OutOfMemory) → (k ≡ kind.OutOfMemory) ⊎ IsAmong k (fault_of host ws) → form_of ws ≡ None
+refused ws k few some why = elim why [
+  | inl e ↦ absurd (some e)
+  | inr among ↦ elim (reads ws few) [
+    | inl r ↦ absurd (no_kind k _ r.0 among)
+    | inr r ↦ plain_form ws few ∙ r.1
+  ]
+]

@@ -1,0 +1,40 @@
+-- The form that a subcommand and its word are.
+use Rattle.std.specs.Prelude.{ℕ, Bool, true, false, ◌&&◌, List, [], ◌∷◌, Option, Some, None, codes, option_and_then, option_map, if◌then◌else◌}
+use Rattle.std.specs.Str.{bytes_eq}
+use Rattle.clap.specs.Words.{Row, Text}
+use Rattle.con_host.specs.Command.{Named, first_word}
+use Rattle.con_host.specs.Words.{Asked, typing, playing, solo, at_size, is_word, size_of}
+use Rattle.con_host.specs.declared.words.Form.{Form}
+use Rattle.con_host.specs.declared.words.Form.TheVariants as form
+
+-- what a form asks for
+abbrev pub asked_of : Form → Asked
+asked_of form.Type = typing
+asked_of (form.Play size) = playing size
+asked_of (form.Solo name) = solo name.now
+
+abbrev pub of_size : Option Text → Option Asked
+of_size None = None
+of_size (Some word) = at_size (size_of word)
+
+abbrev pub of_name : Option Text → Option Asked
+of_name None = None
+of_name (Some word) = Some (solo word)
+
+abbrev pub form_named : Named → Option Asked
+form_named p =
+    if bytes_eq p.0 (codes "type") then Some typing
+    else if bytes_eq p.0 (codes "play") then of_size p.1
+    else if bytes_eq p.0 (codes "solo") then of_name p.1
+    else None
+
+-- what was met asks for
+abbrev pub form_met : Option (Text × List Row) → Option Asked
+form_met o = option_and_then form_named (option_map first_word o)
+
+-- at most two words, as forms have them
+abbrev pub are_few : List Text → Bool
+are_few [] = true
+are_few (word ∷ []) = is_word word
+are_few (word ∷ more ∷ []) = is_word word && is_word more
+are_few _ = false

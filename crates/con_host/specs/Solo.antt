@@ -1,0 +1,114 @@
+-- How a session by turns ends: from the bytes of its file and of its link to those of the terminal and of the report.
+use Rattle.std.specs.Prelude.{◌≡◌, ◌⊎◌, ℕ, ◌<◌, ◌≤◌, List, length, Option, IfSome, Some, None, Ok, Err, codes}
+use Rattle.con_events.specs.Session.{Clients}
+use Rattle.con_events.specs.declared.end.End.{End}
+use Rattle.con_events.specs.declared.end.End.TheVariants as ends
+use Rattle.con_events.specs.declared.entry.Entry.{Entry}
+use Rattle.con_events.specs.declared.reply.Reply.{Reply}
+use Rattle.con_outside.specs.Outside.{then_written, WroteFront, WrotePart}
+use Rattle.con_outside.specs.Named.{IsTooLong}
+use Rattle.con_script.specs.Document.{document, json_of, path}
+use Rattle.con_script.specs.Session.{Where}
+use Rattle.con_session.specs.Outcome.{IsOutcome}
+use Rattle.con_trace.specs.Ending.{Ending, alone, worded, at_frame, status_of, ending_of, ending_text}
+use Rattle.con_host.specs.declared.solo.Unrun.{Unrun}
+use Rattle.con_host.specs.declared.solo.Unrun.TheVariants as unrun
+use Rattle.con_trace.specs.Line.{ended}
+use Rattle.con_trace.specs.Report.{report, said}
+use Rattle.std.specs.Str.{encode_utf8_all}
+use Rattle.std.specs.Char.Utf16.{utf16_lossy_chars}
+
+-- ---- the session's end
+
+-- the last line of a session that ended so
+abbrev pub ending_after : End → Ending
+ending_after ends.Done = alone 0
+ending_after ends.Term = worded 5 (codes "term")
+ending_after ends.Link = worded 4 (codes "link")
+ending_after ends.TooLong = worded 10 (codes "too long")
+ending_after (ends.Bad place kind) = at_frame place kind
+ending_after ends.Memory = alone 9
+
+-- the report of a history with its answers and ends, up to this end
+abbrev pub report_text : List Entry → List Reply → List ℕ → End → List ℕ
+report_text h rs es end = report (said h rs es) (ending_after end)
+
+-- the status where the report failed: of several causes the session's comes first
+abbrev pub failed_after : End → ℕ
+failed_after ends.Done = 6
+failed_after ends.Term = 5
+failed_after ends.Link = 4
+failed_after ends.TooLong = 10
+failed_after (ends.Bad place kind) = 8
+failed_after ends.Memory = 9
+
+-- the status that its last line tells; 9 for want of memory for the report; 6 where all was done and the report failed
+abbrev pub IsStatus : ℕ → End → Type 0
+IsStatus status end = (status ≡ status_of (ending_after end)) ⊎ ((status ≡ 9) ⊎ ((status ≡ 6) × (end ≡ ends.Done)))
+
+-- The session ran: one history, with the promises of its outcome, and its report, which is whole unless the report failed or there was no memory.
+pub record Ran (status : ℕ) (session : Clients) (racks : List (List ℕ)) (before left old now before_report report' : Option (List ℕ)) (failed : Type 0) : Type 0 where
+  pub entries : List Entry
+  pub replies : List Reply
+  pub ends' : List ℕ
+  pub end : End
+  pub outcome : IsOutcome session racks entries replies ends' end before left old now
+  pub status_is : IsStatus status end
+  pub front : WroteFront (report_text entries replies ends' end) before_report report'
+  pub whole : ¬ (status ≡ 9) → ¬ (status ≡ 6) → ¬ failed → report' ≡ then_written before_report (report_text entries replies ends' end)
+  pub done : status ≡ 0 → report' ≡ then_written before_report (report_text entries replies ends' end)
+
+-- ---- no session
+
+-- the file of this name, where files are told, has these bytes
+abbrev pub IsFile : Option (List ℕ → Option (List ℕ)) → List ℕ → List ℕ → Type 0
+IsFile files name bytes = (length bytes ≤ 16777216) × IfSome files (λ find. find name ≡ Some bytes)
+
+-- why there is no session: no file has the name, the files failed, the file is too long, its bytes are no JSON, or no session
+pub data Reason : Type 0 where
+  missing : Reason
+  unread : Reason
+  too_long : Reason
+  no_json : List ℕ → Reason
+  no_session : List ℕ → Where → Reason
+
+abbrev pub Holds : Option (List ℕ → Option (List ℕ)) → List ℕ → Type 0 → Reason → Type 0
+Holds files name failed missing = IfSome files (λ find. find name ≡ None)
+Holds files name failed unread = failed
+Holds files name failed too_long = IfSome files (λ find. IsTooLong (find name))
+Holds files name failed (no_json bytes) = IsFile files name bytes × (json_of bytes ≡ None)
+Holds files name failed (no_session bytes w) = IsFile files name bytes × (document bytes ≡ Some (Err w))
+
+-- the last line that says so
+abbrev pub ending_for : Reason → Ending
+ending_for missing = worded 7 (codes "missing")
+ending_for unread = worded 7 (codes "failed")
+ending_for too_long = worded 3 (codes "length")
+ending_for (no_json bytes) = worded 3 (codes "json")
+ending_for (no_session bytes w) = worded 3 (encode_utf8_all (utf16_lossy_chars (path w)))
+
+-- a last line alone: whole unless the report failed; or there was no memory for it
+abbrev pub Tells : ℕ → Ending → Option (List ℕ) → Option (List ℕ) → Type 0 → Type 0
+Tells status last before now failed =
+    ((status ≡ status_of last) × WroteFront (ended (ending_text last)) before now × (¬ failed → now ≡ then_written before (ended (ending_text last))))
+    ⊎ ((status ≡ 9) × WrotePart (ended (ending_text last)) before now)
+
+-- Nothing was taken or written; the last line alone, unless the report failed; or there was no memory, for the session or for that line.
+pub record NotRun (status : ℕ) (files : Option (List ℕ → Option (List ℕ))) (name : List ℕ) (files_failed : Type 0) (before left old now before_report report' : Option (List ℕ)) (failed : Type 0) : Type 0 where
+  pub nothing_taken : left ≡ before
+  pub nothing_written : now ≡ old
+  pub told : ((status ≡ 9) × (report' ≡ before_report)) ⊎ ((why : Reason) × Holds files name files_failed why × Tells status (ending_for why) before_report report' failed)
+
+-- ---- all of it
+
+abbrev pub Soloed : ℕ → Option (List ℕ → Option (List ℕ)) → List ℕ → Type 0 → List (List ℕ) → Option (List ℕ) → Option (List ℕ) → Option (List ℕ) → Option (List ℕ) → Option (List ℕ) → Option (List ℕ) → Type 0 → Type 0
+Soloed status files name files_failed racks before left old now before_report report' failed =
+    NotRun status files name files_failed before left old now before_report report' failed
+    ⊎ ((bytes : List ℕ) × (session : Clients) × IsFile files name bytes × (document bytes ≡ Some (Ok session)) × Ran status session racks before left old now before_report report' failed)
+
+-- ---- the code's own words
+
+-- what an answer without a session says
+abbrev pub Explains : Option (List ℕ → Option (List ℕ)) → List ℕ → Type 0 → Unrun → Type 0
+Explains files name failed (unrun.Told line) = (why : Reason) × Holds files name failed why × (ending_of line ≡ ending_for why)
+Explains files name failed unrun.OutOfMemory = Unit {0}

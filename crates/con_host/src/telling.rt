@@ -1,0 +1,86 @@
+//! A whole report, written.
+
+ghost use Rattle.std.specs.Prelude.{◌≡◌, ◌≤◌, List, [], ◌∷◌, ◌++◌, OnOk, length, take, Option};
+ghost use Rattle.con_outside.specs.Outside.{Rose, then_written, WroteFront};
+ghost use Rattle.con_trace.specs.Ending.{ending_of};
+ghost use Rattle.con_trace.specs.Report.{said, end_of, ends_behind, report};
+ghost use Rattle.con_host.specs.Telling.{lines_text};
+
+use con_events::{Entry, Event, Reply};
+use con_outside::{Fault, Sink};
+use con_trace::{EndLine, write_end, write_entry};
+use std::alloc::Global;
+
+/// The stream's length after an event, out of those that are still to come. It is told of a picture; one that has none is told as 0.
+fn end_after(event: &Event, ends: &[u64]) -> u64
+    ensures { result ≡ end_of event.now ends.now }
+{
+    match event {
+        Event::Paint => match ends {
+            [end, ..] => *end,
+            [] => 0,
+        },
+        _ => 0,
+    }
+}
+
+/// The lengths that are still to come behind an event.
+fn behind<'a>(event: &Event, ends: &'a [u64]) -> &'a [u64]
+    ensures { result.now ≡ ends_behind event.now ends.now }
+{
+    match event {
+        Event::Paint => match ends {
+            [_, later @ ..] => later,
+            [] => ends,
+        },
+        _ => ends,
+    }
+}
+
+/// Writes a line for each event and its reply.
+fn write_lines<R: Sink>(
+    alloc: Global,
+    out: &mut R,
+    entries: &[Entry],
+    replies: &[Reply],
+    ends: &[u64],
+) -> Result<(), Fault>
+    ensures front { WroteFront (lines_text (said entries.now replies.now ends.now)) (R.written out.old) (R.written out.new) }
+    ensures whole { OnOk result (R.written out.new ≡ then_written (R.written out.old) (lines_text (said entries.now replies.now ends.now))) }
+    ensures failed { result ≡ Err Fault.Failed → Rose (R.faults out.old) (R.faults out.new) }
+    ensures never_falls { R.faults out.old ≤ R.faults out.new }
+{
+    let mut coming = entries;
+    let mut answers = replies;
+    let mut lengths = ends;
+    while let [entry, later @ ..] = coming {
+        let [reply, more @ ..] = answers else {
+            return Ok(());
+        };
+        let end = end_after(&entry.event, lengths);
+        write_entry(alloc, out, entry, reply, end)?;
+        lengths = behind(&entry.event, lengths);
+        answers = more;
+        coming = later;
+    }
+    Ok(())
+}
+
+/// Writes a report: a line for each event and its reply, with the stream's length after each picture, and then the last line.
+/// After a refusal a front of the report was written.
+pub fn write_report<R: Sink>(
+    alloc: Global,
+    out: &mut R,
+    entries: &[Entry],
+    replies: &[Reply],
+    ends: &[u64],
+    last: &EndLine,
+) -> Result<(), Fault>
+    ensures front { WroteFront (report (said entries.now replies.now ends.now) (ending_of last.now)) (R.written out.old) (R.written out.new) }
+    ensures whole { OnOk result (R.written out.new ≡ then_written (R.written out.old) (report (said entries.now replies.now ends.now) (ending_of last.now))) }
+    ensures failed { result ≡ Err Fault.Failed → Rose (R.faults out.old) (R.faults out.new) }
+    ensures never_falls { R.faults out.old ≤ R.faults out.new }
+{
+    write_lines(alloc, out, entries, replies, ends)?;
+    write_end(alloc, out, last)
+}
