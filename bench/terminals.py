@@ -1,0 +1,245 @@
+#!/usr/bin/env python3
+"""Shows frames of `type` on real terminals, each in a window of its own, and tells which show what they should.
+
+    terminals.py CONPTY FOLDER [TERMINAL..]
+
+CONPTY is the program; pictures go to FOLDER. Each frame is shown, and then the same picture cell by cell, by places and whole
+attributes, from the dump that `play` gives; both windows must have the same pixels. The frames with all indices of 16 to 255
+must have the colours of that table in them. It needs an X server (DISPLAY), ImageMagick's import, and the terminals; one that
+is not installed is left out. A terminal with colours of its own is told as such."""
+import os, random, re, shutil, subprocess, sys, time
+
+W, H = 80, 25
+FONT = "DejaVu Sans Mono"
+
+
+def run(words, stdin):
+    p = subprocess.run(words, input=stdin, capture_output=True)
+    return p.stdout, p.stderr, p.returncode
+
+
+def rgb(n):
+    """The colour of an index of 16 to 255."""
+    if n >= 232:
+        v = 8 + 10 * (n - 232)
+        return v, v, v
+    steps = (0, 95, 135, 175, 215, 255)
+    n -= 16
+    return steps[n // 36], steps[n // 6 % 6], steps[n % 6]
+
+
+def texts():
+    out = {}
+    t = ""
+    for n in range(16, 256):
+        t += f"\x1b[48;5;{n}m{'%-5d' % n if n % 3 else '     '}"
+    out["backgrounds"] = t
+    t = ""
+    for n in range(16, 256):
+        t += f"\x1b[38;5;{n}mooooo"
+    out["foregrounds"] = t
+    out["blocks"] = t.replace("o", "█")
+    r = random.Random(1)
+    t = ""
+    for _ in range(1900):
+        t += f"\x1b[38;5;{r.randrange(256)};48;5;{r.randrange(256)}m{chr(r.randrange(33, 127))}"
+    out["both"] = t
+    t = ""
+    for n in (20, 46, 100, 196, 226, 240, 255):
+        for code in ("", "1;", "4;", "7;", "1;4;7;"):
+            t += f"\x1b[0;{code}38;5;{n}mfore\x1b[39mplain\x1b[0;{code}48;5;{n}mback\x1b[49mplain\x1b[0m "
+    out["flags"] = t
+    t = ""
+    for n in range(16):
+        t += f"\x1b[0;38;5;{n}mfore{n}\x1b[0;48;5;{n}mback{n}\x1b[0m {n} "
+    out["first sixteen"] = t
+    t = ""
+    for n in (17, 52, 88, 124, 160, 196, 232, 250):
+        t += f"\x1b[48;5;{n}m\x1b[K{n}\r\n\x1b[0m"
+    t += "\x1b[15;10H\x1b[48;5;60m\x1b[1Jback"
+    out["erased"] = t
+    t = ""
+    for n in range(16, 60):
+        t += f"\x1b[38;5;{n}mline {n} \x1b[48;5;{n + 100}mand more\x1b[0m\r\n"
+    t += "\x1b[5;1H\x1b[48;5;90m\x1b[3L\x1b[12;1H\x1b[48;5;28m\x1b[2M\x1b[20;10H\x1b[4@\x1b[21;1H\x1b[3P"
+    out["moved"] = t
+    t = ""
+    for n in range(8):
+        for m in range(8):
+            t += f"\x1b[0;3{n};4{m}mab\x1b[1mc\x1b[9{m};10{n}md\x1b[4me\x1b[7mf"
+    out["plain colours"] = t
+    r = random.Random(7)
+    t = ""
+    for _ in range(700):
+        k = r.randrange(6)
+        if k == 0:
+            t += f"\x1b[{r.choice(('0', '1', '22', '4', '24', '7', '27', '39', '49', '31', '97', '42', '103'))}m"
+        elif k == 1:
+            t += f"\x1b[{r.choice('34')}8;5;{r.randrange(256)}m"
+        elif k == 2:
+            t += f"\x1b[{r.randrange(1, 26)};{r.randrange(1, 81)}H"
+        elif k == 3:
+            t += r.choice(("\x1b[K", "\x1b[1K", "\x1b[3X", "\x1b[2L", "\x1b[2M", "\x1b[2P", "\x1b[2@", "\x1b[S", "\x1b[T"))
+        else:
+            t += "".join(chr(r.randrange(32, 127)) for _ in range(r.randrange(1, 30)))
+    out["random"] = t
+    t = "text without colours\r\n" * 20 + "\x1b[38;5;208mone line of them\x1b[0m\r\n" + "more\r\n" * 3
+    out["lines"] = t
+    return out
+
+
+def cells(dump):
+    """The characters and the attributes of a dump's cells."""
+    lines = dump.decode().split("\n")
+    rows = [line[1:-1] for line in lines[1:1 + H]]
+    looks = [[(0x07, None, None)] * W for _ in range(H)]
+    for line in lines[1 + H:]:
+        m = re.fullmatch(r"@(\d+),(\d+)\+(\d+) ([0-9a-f]{4})(?: f(\d+))?(?: b(\d+))?", line)
+        if m:
+            y, x, n = int(m[1]), int(m[2]), int(m[3])
+            for k in range(n):
+                looks[y + (x + k) // W][(x + k) % W] = int(m[4], 16), m[5], m[6]
+    return rows, looks
+
+
+def near(n):
+    """The nibble of an index's nearest colour."""
+    if n >= 232:
+        return (0, 8, 7, 15)[(n - 232) // 6]
+    r, g, b = (n - 16) // 36, (n - 16) // 6 % 6, (n - 16) % 6
+    return 4 * (r >= 3) + 2 * (g >= 3) + (b >= 3) + 8 * (5 in (r, g, b))
+
+
+def ansi(nibble):
+    return (nibble >> 2 & 1) | (nibble & 2) | (nibble << 2 & 4), nibble >> 3
+
+
+def spelled(dump):
+    """The picture cell by cell."""
+    rows, looks = cells(dump)
+    out = "\x1b[0m\x1b[2J"
+    for y in range(H):
+        for x in range(W):
+            word, fore, back = looks[y][x]
+            codes = ["0"]
+            if word & 0xFF != 0x07 or fore or back:
+                c, bright = ansi(word & 15)
+                if fore and bright > near(int(fore)) >> 3:
+                    codes.append("1")
+                codes.append(f"38;5;{fore}" if fore else str((90 if bright else 30) + c))
+                c, bright = ansi(word >> 4 & 15)
+                codes.append(f"48;5;{back}" if back else str((100 if bright else 40) + c))
+            if word & 0x4000:
+                codes.append("7")
+            if word & 0x8000:
+                codes.append("4")
+            out += f"\x1b[{y + 1};{x + 1}H\x1b[{';'.join(codes)}m{rows[y][x]}"
+    return out.encode()
+
+
+def terminals(script):
+    sh = ["sh", script]
+    xterm = ["xterm", "-geometry", "80x25+0+0", "-fa", FONT, "-fs", "9", "-bc", "-e"]
+    return {
+        "xterm": xterm + sh,
+        "urxvt": ["urxvt", "-geometry", "80x25+0+0", "-fn", f"xft:{FONT}:size=9", "+sb", "-e"] + sh,
+        "st": ["st", "-g", "80x25+0+0", "-f", f"{FONT}:size=9", "-e"] + sh,
+        "mlterm": ["mlterm", "--geometry=80x25+0+0", "--sbmod=none", "-e"] + sh,
+        "pterm": ["pterm", "-geometry", "80x25+0+0", "-fn", f"client:{FONT} 9", "-sb-", "-e"] + sh,
+        "kitty": ["kitty", "--config", "NONE", "-o", "remember_window_size=no", "-o", "initial_window_width=80c", "-o", "initial_window_height=25c",
+                  "-o", "confirm_os_window_close=0", "-o", "cursor_blink_interval=0"] + sh,
+        "alacritty": ["alacritty", "-o", "window.dimensions.columns=80", "-o", "window.dimensions.lines=25", "-e"] + sh,
+        "konsole": ["konsole", "--separate", "--hide-menubar", "--hide-tabbar", "-p", "TerminalColumns=80", "-p", "TerminalRows=25", "-e"] + sh,
+        "xfce4-terminal": ["xfce4-terminal", "--disable-server", "--geometry=80x25+0+0", "--hide-menubar", "--hide-toolbar", "--hide-scrollbar", "-x"] + sh,
+        "qterminal": ["qterminal", "--geometry", "700x460+0+0", "-e", "sh " + script],
+        "tmux in xterm": xterm + ["tmux", "-f", "/dev/null", "-L", "frames", "new", "sh", script],
+        "screen in xterm": xterm + ["screen", "-c", "/dev/null", "-T", "screen-256color"] + sh,
+    }
+
+
+def picture(words, folder, stream, wait):
+    """The pixels of a terminal that shows a stream, and its size in rows and columns."""
+    path = f"{folder}/stream.bin"
+    with open(path, "wb") as it:
+        it.write(stream + b"\x1b[?25l")
+    script = f"{folder}/show.sh"
+    with open(script, "w") as it:
+        it.write(f"tmux -L frames set -g status off 2>/dev/null; sleep 0.6; stty size > {folder}/size.txt; cat {path}; touch {folder}/shown; sleep 60\n")
+    for name in ("size.txt", "shown"):
+        if os.path.exists(f"{folder}/{name}"):
+            os.remove(f"{folder}/{name}")
+    env = dict(os.environ, TERM="xterm-256color", LC_ALL="C.UTF-8", LIBGL_ALWAYS_SOFTWARE="1", XDG_RUNTIME_DIR=folder, TMUX="")
+    p = subprocess.Popen(words, env=env, stdout=subprocess.DEVNULL, stderr=open(f"{folder}/log", "w"), start_new_session=True)
+    try:
+        for _ in range(300):
+            if os.path.exists(f"{folder}/shown"):
+                break
+            time.sleep(0.1)
+        else:
+            return None, None
+        last = None
+        for _ in range(20):
+            time.sleep(wait)
+            image = subprocess.run(["import", "-silent", "-window", "root", "-depth", "8", "ppm:-"], capture_output=True).stdout
+            if image == last:
+                break
+            last = image
+        with open(f"{folder}/size.txt") as it:
+            return image, it.read().strip()
+    finally:
+        try:
+            os.killpg(p.pid, 9)
+        except OSError:
+            pass
+        subprocess.run(["tmux", "-L", "frames", "kill-server"], capture_output=True)
+        p.wait()
+
+
+def colours(image):
+    head = re.match(rb"P6\s+(\d+)\s+(\d+)\s+255\s", image)
+    data = image[head.end():]
+    count = {}
+    for i in range(0, len(data), 3):
+        c = data[i:i + 3]
+        count[c] = count.get(c, 0) + 1
+    return count
+
+
+def main():
+    conpty, folder = sys.argv[1:3]
+    only = sys.argv[3:]
+    os.makedirs(folder, exist_ok=True)
+    frames = {}
+    for name, text in texts().items():
+        frame, _, status = run([conpty, "type"], text.encode())
+        assert status == 0
+        _, dump, status = run([conpty, "play", f"{W}x{H}"], frame)
+        assert status == 0
+        frames[name] = frame, spelled(dump)
+    for name, words in terminals(f"{folder}/show.sh").items():
+        if shutil.which(words[0]) is None or only and name not in only:
+            continue
+        told = []
+        for frame, (stream, reference) in frames.items():
+            shown, size = picture(words, folder, stream, 0.4)
+            wanted, again = picture(words, folder, reference, 0.4)
+            if shown is None or wanted is None:
+                told.append(f"{frame}: shows nothing")
+                break
+            if size != again:
+                told.append(f"{frame}: {size}, then {again}")
+            # Cells that are filled to their edges may touch each other's edges, in another order: only their colours are looked at.
+            if shown != wanted and frame != "blocks":
+                told.append(f"{frame}: differs")
+                for label, it in (("shown", shown), ("wanted", wanted)):
+                    with open(f"{folder}/{name.replace(' ', '_')}.{frame.replace(' ', '_')}.{label}.ppm", "wb") as out:
+                        out.write(it)
+            if frame in ("backgrounds", "blocks"):
+                there = colours(shown)
+                missing = [n for n in range(16, 256) if there.get(bytes(rgb(n)), 0) < 100]
+                if missing:
+                    told.append(f"{frame}: {len(missing)} colours of 240 are others, as {missing[0]}")
+        print(f"{name} ({size}): " + ("; ".join(told) or f"{len(frames)} frames the same, all 240 colours right"), flush=True)
+
+
+main()
