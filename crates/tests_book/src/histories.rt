@@ -1,13 +1,16 @@
 //! Laws of histories at passes.
 
-ghost use Rattle.std.specs.Prelude.{◌≡◌, ℕ, ◌+◌, ◌<◌, List, ◌++◌, All, ◌⊎◌, ◌&&◌, true, false};
+ghost use Rattle.std.specs.Prelude.{◌≡◌, ℕ, ◌+◌, ◌<◌, List, ◌++◌, All, ◌⊎◌, ◌&&◌, true, false, length};
+ghost use Rattle.con_book.specs.Counted.{counting};
 ghost use Rattle.con_book.specs.History.{StartsWith, after, own, is_legal};
 ghost use Rattle.con_book.specs.Passes.{book_id, view_of, actor_of, seen};
 ghost use Rattle.con_book.specs.declared.history.Logged.{Logged};
+ghost use Rattle.con_book.specs.declared.room.Counted.{Counted};
 ghost use Rattle.tests_book.specs.Calls.{AtBook};
 
 use con_book::laws::{
-    a_greater_actor_has_no_pass, beginnings_begin_each_other, histories_are_joined,
+    a_count_changes_nothing, a_greater_actor_has_no_pass, beginnings_begin_each_other,
+    histories_are_joined,
 };
 use con_book::{Book, Machine, Pass};
 
@@ -40,4 +43,15 @@ pub fn next_actor<M: Machine>(book: &Book<M>, opening: &mut Pass<M>, actor: u32)
 {
     a_greater_actor_has_no_pass::<M>();
     book.pass(opening, actor)
+}
+
+/// Where a pass begins with a machine that counts, what it has seen does to the machine what it does without the count, and the count
+/// is as much higher.
+pub fn counted_alike<M: Machine>(pass: &Pass<M>)
+    ensures after { (c : Counted M.State) → c.state ≡ (view_of pass.now).start → (after (counting M.next) c (seen pass.now)).state ≡ after M.next (view_of pass.now).start (seen pass.now) }
+    ensures count { (c : Counted M.State) → (after (counting M.next) c (seen pass.now)).entered ≡ c.entered + length (seen pass.now) }
+    ensures legal { (c : Counted M.State) → c.state ≡ (view_of pass.now).start → is_legal (counting M.next) (λ c. M.is_ready c.state) c (seen pass.now) ≡ is_legal M.next M.is_ready (view_of pass.now).start (seen pass.now) }
+{
+    a_count_changes_nothing::<M>();
+    let _pass = pass;
 }
