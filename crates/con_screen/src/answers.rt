@@ -20,7 +20,7 @@ pub struct Answers {
 
 impl Model for Answers {
     ghost use Rattle.con_units.specs.Decimal.{decimal};
-ghost use Rattle.con_screen.specs.Told.{Answered};
+    ghost use Rattle.con_screen.specs.Told.{Answered};
 
     ghost Value = { Answered };
 
