@@ -27,10 +27,10 @@ use Rattle.con_session.specs.Sender.{LinkIs, LinkEnds, LinkTurn, SenderTurn, Fai
 use Rattle.con_session.specs.Solo.{AllIdle, Moment, Holds, Goes, HasRounds, BreaksOff, Stops, RoundTurn, RoundsTurn, fails_at}
 use Rattle.con_session.specs.declared.terminal.Side.{Side}
 use Rattle.con_session.specs.declared.worker.Worker.{Worker}
-use Rattle.con_session.proofs.CanvasLaws.{canvas_ends}
-use Rattle.con_session.proofs.DeskLaws.{stands_one, stands_still}
-use Rattle.con_session.proofs.LinkLaws.{link_other, link_stays}
-use Rattle.con_session.proofs.PaintCounts.{paints_next}
+use Rattle.con_session.specs.CanvasLaws.{canvas_ends}
+use Rattle.con_session.specs.DeskLaws.{stands_one, stands_still}
+use Rattle.con_session.specs.LinkLaws.{link_other, link_stays}
+use Rattle.con_session.specs.PaintCounts.{paints_next}
 use Rattle.con_session.proofs.Rounding.{not_yet, fails_before, whole_round, broken_round, broken_all, nobody_all, nobody_none, one_round, round_longer}
 use Rattle.con_session.proofs.SeatLaws.{all_other, all_still}
 use Rattle.con_session.proofs.Turning.{sent_holds, sent_turn, sent_paints, entered_holds, entered_paints, painted_holds, painted_serves, painted_turn, painted_count, clients_keep, numbered_on, canvas_on, some_on}

@@ -29,13 +29,13 @@ use Rattle.con_session.specs.Sender.{LinkIs, Sends, SenderTurn}
 use Rattle.con_session.specs.Solo.{AsksStand, Holds, Moment}
 use Rattle.con_session.specs.declared.terminal.Side.{Side}
 use Rattle.con_session.specs.declared.worker.Worker.{Worker}
-use Rattle.con_session.proofs.CanvasLaws.{canvas_ends}
-use Rattle.con_session.proofs.DeskLaws.{run_one, stands_one, stands_still}
-use Rattle.con_session.proofs.LinkLaws.{link_other, link_failed, link_stays}
-use Rattle.con_session.proofs.PaintCounts.{no_paint, paints_same, paints_next}
-use Rattle.con_session.proofs.PaintingLaws.{painter_other}
+use Rattle.con_session.specs.CanvasLaws.{canvas_ends}
+use Rattle.con_session.specs.DeskLaws.{run_one, stands_one, stands_still}
+use Rattle.con_session.specs.LinkLaws.{link_other, link_failed, link_stays}
+use Rattle.con_session.specs.PaintCounts.{no_paint, paints_same, paints_next}
+use Rattle.con_session.specs.PaintingLaws.{painter_other}
 use Rattle.con_session.proofs.SeatLaws.{all_other, all_still}
-use Rattle.con_session.proofs.TiedLaws.{served_paint, served_still}
+use Rattle.con_session.specs.TiedLaws.{served_paint, served_still}
 
 append_none : {A : Type 0} (xs : List A) → xs ++ [] ≡ xs
 append_none [] = refl

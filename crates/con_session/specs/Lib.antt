@@ -13,3 +13,29 @@ pub mod Painting
 pub mod Opening
 pub mod Solo
 pub mod Outcome
+-- Laws of these words, for the crates above: entries and runs,
+pub mod Replying
+pub mod DeskLaws
+pub mod RanLaws
+-- a client's turns, its rack and its chain,
+pub mod RackLaws
+pub mod WorkerLaws
+pub mod StepLaws
+pub mod HandsLaws
+pub mod ChainLaws
+pub mod HandlerTurns
+pub mod StandingLaws
+-- the terminal's side and its link,
+pub mod SenderLaws
+pub mod LinkLaws
+-- the painter, its frames and the terminal,
+pub mod RunLaws
+pub mod StreamLaws
+pub mod PaintingLaws
+pub mod CanvasLaws
+pub mod PaintTurns
+pub mod PaintCounts
+pub mod TiedLaws
+-- and a session's beginning and its end.
+pub mod OpeningLaws
+pub mod EndLaws

@@ -1,4 +1,4 @@
--- What a session leaves behind: what is promised of its history and answers, of the bytes of its terminal, and of its link.
+-- What a session leaves behind: what is promised of its history and answers, of the bytes of its terminal, and of its link; and of one by turns, its rounds.
 use Rattle.std.specs.Prelude.{◌≡◌, ◌⊎◌, ℕ, ◌+◌, ◌≤◌, Bool, true, false, List, [], ◌∷◌, ◌++◌, map, flat_map, length, Option, Err}
 use Rattle.std.specs.List.{list_all}
 use Rattle.con_units.specs.declared.view.Frame.{Frame}
@@ -52,7 +52,7 @@ last_end es = end_of 0 es
 
 -- Of a session and the kinds of its racks' handlers (0 for one that was asked before, or that tells nothing): the history, its answers, the ends of the frames
 -- and the session's end, what the link had left before and after, and what was written to the terminal before and after.
-pub record IsOutcome (session : Clients) (racks : List (List ℕ)) (h : List Entry) (rs : List Reply) (es : List ℕ) (end : End) (before left old now : Option (List ℕ)) : Type 0 where
+pub record Leaves (session : Clients) (racks : List (List ℕ)) (h : List Entry) (rs : List Reply) (es : List ℕ) (end : End) (before left old now : Option (List ℕ)) : Type 0 where
   -- each event is ready where it stands, and was answered as the one console answers it
   pub legal : is_legal (begun session racks) h ≡ true
   pub replies : rs ≡ map listed (replies_of (begun session racks) h)
@@ -63,9 +63,8 @@ pub record IsOutcome (session : Clients) (racks : List (List ℕ)) (h : List Ent
   pub taken : before ≡ then_left (flat_map spelling frames ++ text) left
   pub going : (list_all goes_on frames ≡ true) ⊎ IsLink frames left
   pub side : HasSent end frames text left (sent h)
-  -- the history follows the session and these frames, by rounds
+  -- the history follows the session and these frames
   pub follows : Follows (begun session racks) h session racks frames end
-  pub rounds : Rounds (begun session racks) h session racks end
   -- the bytes written: all of the stream, unless the terminal failed or there was no memory
   pub stream : List ℕ
   pub written : now ≡ then_written old stream
@@ -83,3 +82,8 @@ pub record IsOutcome (session : Clients) (racks : List (List ℕ)) (h : List Ent
   pub ended : is_memory end ≡ false → has_ended false (sent h) ≡ true
   -- and the terminal was shown all
   pub whole : is_lost end ≡ false → IsWhole (begun session racks) h session racks
+
+-- of a session by turns, besides: its history is rounds of these turns
+pub record IsOutcome (session : Clients) (racks : List (List ℕ)) (h : List Entry) (rs : List Reply) (es : List ℕ) (end : End) (before left old now : Option (List ℕ)) : Type 0 where
+  pub leaves : Leaves session racks h rs es end before left old now
+  pub rounds : Rounds (begun session racks) h session racks end

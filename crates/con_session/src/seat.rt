@@ -68,7 +68,7 @@ pub fn client_turn(
 }
 
 /// The turns of all clients in a round, each with its script, in the order of their numbers. Whether one of them entered an event.
-#[tactic(auto, using(crate::proofs::RanLaws::ran_then))]
+#[tactic(auto, using(crate::specs::RanLaws::ran_then))]
 pub fn clients_turn(
     desk: &mut Desk,
     seats: &mut [Seat],

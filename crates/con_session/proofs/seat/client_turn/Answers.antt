@@ -1,4 +1,4 @@
-use Rattle.con_session.proofs.WorkerLaws.{leaving_may, leaving_turn, with_hands}
+use Rattle.con_session.specs.WorkerLaws.{leaving_may, leaving_turn, with_hands}
 use Rattle.con_session.proofs.seat.client_turn.Goals as goal
 
 pub returns-then-seat-2-clause-turn : goal.returns-then-seat-2-clause-turn

@@ -1,6 +1,6 @@
 use Rattle.std.proofs.Common.{arith, refl, ap, ◌∙◌}
 use Rattle.con_events.specs.declared.script.Script.{Script}
-use Rattle.con_session.proofs.RanLaws.{ran_then, ran_same}
+use Rattle.con_session.specs.RanLaws.{ran_then, ran_same}
 use Rattle.con_session.proofs.SeatLaws.{clients_none, clients_step, clients_fail, clients_done}
 use Rattle.con_session.proofs.seat.clients_turn.Goals as goal
 

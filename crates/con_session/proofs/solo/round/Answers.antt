@@ -1,7 +1,7 @@
 use Rattle.std.proofs.Common.{sym, ◌∙◌, []}
 use Rattle.con_session.proofs.Going.{round_ok, round_err, sent_err, entered_err, painted_err}
-use Rattle.con_session.proofs.OpeningLaws.{all_follow}
-use Rattle.con_session.proofs.TiedLaws.{tied_ran}
+use Rattle.con_session.specs.OpeningLaws.{all_follow}
+use Rattle.con_session.specs.TiedLaws.{tied_ran}
 use Rattle.con_session.proofs.solo.round.Goals as goal
 
 pub painter_turn-requires : goal.painter_turn-requires

@@ -3,9 +3,9 @@ use Rattle.con_events.specs.declared.actor.Actor.TheVariants as actors
 use Rattle.con_events.specs.declared.event.Event.{Event}
 use Rattle.con_events.specs.declared.event.Event.TheVariants as events
 use Rattle.con_session.specs.Desk.{entry}
-use Rattle.con_session.proofs.RanLaws.{ran_same}
-use Rattle.con_session.proofs.LinkLaws.{link_hung, link_frame, link_fault, link_err, link_stops, no_ok, sender_err, failed_for}
-use Rattle.con_session.proofs.SenderLaws.{hangup_ready, hangs, sends, ended_idles, read_ready}
+use Rattle.con_session.specs.RanLaws.{ran_same}
+use Rattle.con_session.specs.LinkLaws.{link_hung, link_frame, link_fault, link_err, link_stops, no_ok, sender_err, failed_for}
+use Rattle.con_session.specs.SenderLaws.{hangup_ready, hangs, sends, ended_idles, read_ready}
 use Rattle.con_session.proofs.terminal.terminal_turn.Goals as goal
 
 pub returns-then-failed-clause-link : goal.returns-then-failed-clause-link

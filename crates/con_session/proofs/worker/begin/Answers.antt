@@ -1,5 +1,5 @@
-use Rattle.con_session.proofs.StepLaws.{began_turn_is}
-use Rattle.con_session.proofs.WorkerLaws.{begin_ready}
+use Rattle.con_session.specs.StepLaws.{began_turn_is}
+use Rattle.con_session.specs.WorkerLaws.{begin_ready}
 use Rattle.con_session.proofs.worker.begin.Goals as goal
 
 pub enter-requires-clause-ready : goal.enter-requires-clause-ready

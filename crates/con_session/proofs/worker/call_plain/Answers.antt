@@ -1,5 +1,5 @@
-use Rattle.con_session.proofs.StepLaws.{called_turn}
-use Rattle.con_session.proofs.WorkerLaws.{call_ready}
+use Rattle.con_session.specs.StepLaws.{called_turn}
+use Rattle.con_session.specs.WorkerLaws.{call_ready}
 use Rattle.con_session.proofs.worker.call_plain.Goals as goal
 
 pub enter-requires-clause-ready : goal.enter-requires-clause-ready

@@ -1,7 +1,7 @@
 use Rattle.std.proofs.Common.{true, false}
 use Rattle.con_events.specs.declared.call.Call.TheVariants as calls
-use Rattle.con_session.proofs.HandlerTurns.{removed_turn, refused_turn, fails_by}
-use Rattle.con_session.proofs.WorkerLaws.{call_ready}
+use Rattle.con_session.specs.HandlerTurns.{removed_turn, refused_turn, fails_by}
+use Rattle.con_session.specs.WorkerLaws.{call_ready}
 use Rattle.con_session.proofs.worker.call_remove.Goals as goal
 
 pub enter-requires-clause-ready : goal.enter-requires-clause-ready

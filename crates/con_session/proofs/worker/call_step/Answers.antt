@@ -1,6 +1,6 @@
 use Rattle.std.proofs.Common.{ap, ◌∙◌}
 use Rattle.con_events.specs.declared.event.Event.TheVariants as events
-use Rattle.con_session.proofs.WorkerLaws.{with_hands}
+use Rattle.con_session.specs.WorkerLaws.{with_hands}
 use Rattle.con_session.proofs.worker.call_step.Goals as goal
 
 pub returns-in_ok-call-in_default-clause-turn : goal.returns-in_ok-call-in_default-clause-turn

@@ -1,6 +1,6 @@
 use Rattle.std.proofs.Common.{sym, refl}
-use Rattle.con_session.proofs.RanLaws.{ran_same}
-use Rattle.con_session.proofs.WorkerLaws.{collected_turn, waiting_idles}
+use Rattle.con_session.specs.RanLaws.{ran_same}
+use Rattle.con_session.specs.WorkerLaws.{collected_turn, waiting_idles}
 use Rattle.con_session.proofs.worker.collect.Goals as goal
 
 pub returns-clause-turn : goal.returns-clause-turn

@@ -1,4 +1,4 @@
-use Rattle.con_session.proofs.WorkerLaws.{left_turn, exit_ready}
+use Rattle.con_session.specs.WorkerLaws.{left_turn, exit_ready}
 use Rattle.con_session.proofs.worker.leave.Goals as goal
 
 pub enter-requires-clause-ready : goal.enter-requires-clause-ready

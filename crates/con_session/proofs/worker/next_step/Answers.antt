@@ -2,8 +2,8 @@ use Rattle.std.proofs.Common.{sym, ap, ◌∙◌, ◌≡◌}
 use Rattle.con_events.specs.declared.event.Event.TheVariants as events
 use Rattle.con_machine.specs.Client.{event_of, next_event}
 use Rattle.con_machine.specs.Rounds.{client_at}
-use Rattle.con_session.proofs.StepLaws.{next_exit, at_step, may_step}
-use Rattle.con_session.proofs.WorkerLaws.{with_hands}
+use Rattle.con_session.specs.StepLaws.{next_exit, at_step, may_step}
+use Rattle.con_session.specs.WorkerLaws.{with_hands}
 use Rattle.con_session.proofs.worker.next_step.Goals as goal
 
 pub returns-then-worker-steps-clause-turn : goal.returns-then-worker-steps-clause-turn

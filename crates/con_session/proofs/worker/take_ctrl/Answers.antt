@@ -1,5 +1,5 @@
 use Rattle.std.proofs.Common.{sym, ap, ◌∙◌, subst, List}
-use Rattle.con_session.proofs.WorkerLaws.{took_turn_is, took_none_turn, IsEvent}
+use Rattle.con_session.specs.WorkerLaws.{took_turn_is, took_none_turn, IsEvent}
 use Rattle.con_session.proofs.worker.take_ctrl.Goals as goal
 
 pub returns-in-Ctrl-clause-turn : goal.returns-in-Ctrl-clause-turn

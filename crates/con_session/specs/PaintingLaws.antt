@@ -28,7 +28,7 @@ use Rattle.con_machine.specs.Turns.{is_paint}
 use Rattle.con_session.specs.Desk.{entry}
 use Rattle.con_session.specs.Painting.{IsTied, KeepsView, Reached, PainterStands}
 use Rattle.con_session.specs.Runs.{Painted, Matched, EachPiece, Reaches}
-use Rattle.con_session.proofs.RunLaws.{matched_paint, piece_paint, reach_paint, piece_none, matched_resize, piece_resize, reach_resize}
+use Rattle.con_session.specs.RunLaws.{matched_paint, piece_paint, reach_paint, piece_none, matched_resize, piece_resize, reach_resize}
 
 -- the same over plain lists and states
 pub record StandsOf (ss : List Sight) (s : State) (size : Size) (kept : Kept) (ps : List (List ℕ)) : Type 0 where
@@ -37,14 +37,14 @@ pub record StandsOf (ss : List Sight) (s : State) (size : Size) (kept : Kept) (p
   pub reach : (t : Terminal) → IsTerminal size.w size.h t → (u : Terminal) (l : Option View) → Reaches t None ss ps u l → Reached s kept u l
   pub keeps : is_fresh s ≡ false → KeepsView s kept
 
-of_stands : (b : Begun) (h : List Entry) (size : Size) (kept : Kept) (ps : List (List ℕ)) → PainterStands b h size kept ps → StandsOf (sights_of b.state h) (run b.state h) size kept ps
+pub of_stands : (b : Begun) (h : List Entry) (size : Size) (kept : Kept) (ps : List (List ℕ)) → PainterStands b h size kept ps → StandsOf (sights_of b.state h) (run b.state h) size kept ps
 of_stands b h size kept ps k = record { matched = k.matched; each = k.each; reach = k.reach; keeps = k.keeps }
 
-to_stands : (b : Begun) (h : List Entry) (size : Size) (kept : Kept) (ps : List (List ℕ)) → StandsOf (sights_of b.state h) (run b.state h) size kept ps → PainterStands b h size kept ps
+pub to_stands : (b : Begun) (h : List Entry) (size : Size) (kept : Kept) (ps : List (List ℕ)) → StandsOf (sights_of b.state h) (run b.state h) size kept ps → PainterStands b h size kept ps
 to_stands b h size kept ps k = record { matched = k.matched; each = k.each; reach = k.reach; keeps = k.keeps }
 
 -- one more entry
-step_stands : (b : Begun) (h g : List Entry) (x : Entry) (size : Size) (kept : Kept) (ps : List (List ℕ)) → g ≡ h ++ x ∷ []
+pub step_stands : (b : Begun) (h g : List Entry) (x : Entry) (size : Size) (kept : Kept) (ps : List (List ℕ)) → g ≡ h ++ x ∷ []
     → StandsOf (sights_of b.state h ++ sights_at (run b.state h) x.event) ((step (run b.state h) x.actor x.event).after) size kept ps → PainterStands b g size kept ps
 step_stands b h g x size kept ps e k =
     let P : List Entry → Type 0 = λ z. PainterStands b z size kept ps in
@@ -56,11 +56,11 @@ append_none : {A : Type 0} (xs : List A) → xs ++ [] ≡ xs
 append_none [] = refl
 append_none (x ∷ xs) = ap (λ ys. x ∷ ys) (append_none xs)
 
-fresh_same : (s t : State) → t.resized ≡ s.resized → t.painted ≡ s.painted → is_fresh t ≡ is_fresh s
+pub fresh_same : (s t : State) → t.resized ≡ s.resized → t.painted ≡ s.painted → is_fresh t ≡ is_fresh s
 fresh_same s t r p = ap (λ (b : Bool). b || is_none t.painted) r ∙ ap (λ (o : Option View). s.resized || is_none o) p
 
 -- an entry that neither sizes nor paints
-still : (ss : List Sight) (s t : State) (size : Size) (kept : Kept) (ps : List (List ℕ)) → t.resized ≡ s.resized → t.painted ≡ s.painted → t.buffers.w ≡ s.buffers.w → t.buffers.h ≡ s.buffers.h → StandsOf ss s size kept ps → StandsOf (ss ++ []) t size kept ps
+pub still : (ss : List Sight) (s t : State) (size : Size) (kept : Kept) (ps : List (List ℕ)) → t.resized ≡ s.resized → t.painted ≡ s.painted → t.buffers.w ≡ s.buffers.w → t.buffers.h ≡ s.buffers.h → StandsOf ss s size kept ps → StandsOf (ss ++ []) t size kept ps
 still ss s t size kept ps r p w h k =
     let f = fresh_same s t r p in
     let Q : List Sight → Type 0 = λ x. StandsOf x t size kept ps in
@@ -75,7 +75,7 @@ still ss s t size kept ps r p w h k =
     })
 
 -- a Resize
-resized : (ss : List Sight) (s t : State) (z : Size) (size : Size) (kept : Kept) (ps : List (List ℕ)) → t.resized ≡ true → t.buffers.w ≡ z.w → t.buffers.h ≡ z.h → StandsOf ss s size kept ps → StandsOf (ss ++ sights.Resize z ∷ []) t size kept ps
+pub resized : (ss : List Sight) (s t : State) (z : Size) (size : Size) (kept : Kept) (ps : List (List ℕ)) → t.resized ≡ true → t.buffers.w ≡ z.w → t.buffers.h ≡ z.h → StandsOf ss s size kept ps → StandsOf (ss ++ sights.Resize z ∷ []) t size kept ps
 resized ss s t z size kept ps r w h k =
     let f : is_fresh t ≡ true = ap (λ (b : Bool). b || is_none t.painted) r in
     record {
@@ -88,11 +88,11 @@ resized ss s t z size kept ps r w h k =
       keeps = λ e. absurd (let n = sym f ∙ e in cc);
     }
 
-plain : (ss : List Sight) (s : State) (a : Actor) (e : Event) (size : Size) (kept : Kept) (ps : List (List ℕ)) → Rattle.con_machine.specs.Moves.resizes_by s.resized e ≡ s.resized → Rattle.con_machine.specs.Moves.painted_by s e ≡ s.painted
+pub plain : (ss : List Sight) (s : State) (a : Actor) (e : Event) (size : Size) (kept : Kept) (ps : List (List ℕ)) → Rattle.con_machine.specs.Moves.resizes_by s.resized e ≡ s.resized → Rattle.con_machine.specs.Moves.painted_by s e ≡ s.painted
     → Rattle.con_machine.specs.Sizes.width_by s.buffers.w e ≡ s.buffers.w → Rattle.con_machine.specs.Sizes.height_by s.buffers.h e ≡ s.buffers.h → StandsOf ss s size kept ps → StandsOf (ss ++ []) ((step s a e).after) size kept ps
 plain ss s a e size kept ps r p w h k = let m = step_moves s a e in let z = step_keeps_size s a e in still ss s ((step s a e).after) size kept ps (m.sizes ∙ r) (m.paints ∙ p) (z.wide ∙ w) (z.high ∙ h) k
 
-other_by : (ss : List Sight) (s : State) (a : Actor) (e : Event) (size : Size) (kept : Kept) (ps : List (List ℕ)) → is_paint e ≡ false → StandsOf ss s size kept ps → StandsOf (ss ++ sights_at s e) ((step s a e).after) size kept ps
+pub other_by : (ss : List Sight) (s : State) (a : Actor) (e : Event) (size : Size) (kept : Kept) (ps : List (List ℕ)) → is_paint e ≡ false → StandsOf ss s size kept ps → StandsOf (ss ++ sights_at s e) ((step s a e).after) size kept ps
 other_by ss s a (events.Call c) size kept ps n k = plain ss s a (events.Call c) size kept ps refl refl refl refl k
 other_by ss s a (events.Begin w) size kept ps n k = plain ss s a (events.Begin w) size kept ps refl refl refl refl k
 other_by ss s a events.Collect size kept ps n k = plain ss s a events.Collect size kept ps refl refl refl refl k
@@ -117,7 +117,7 @@ abbrev pub readied : Bool → State → Kept → Kept
 readied true s kept = unpainted s.buffers.w s.buffers.h
 readied false s kept = kept
 
-prints_few : (kept : Kept) (v : View) (s : State) (bytes : List ℕ) (u : Terminal) (after : Kept) (fresh : Bool) (l : Option View) → is_fresh s ≡ fresh → (is_fresh s ≡ false → KeepsView s kept) → Reached s kept u l
+pub prints_few : (kept : Kept) (v : View) (s : State) (bytes : List ℕ) (u : Terminal) (after : Kept) (fresh : Bool) (l : Option View) → is_fresh s ≡ fresh → (is_fresh s ≡ false → KeepsView s kept) → Reached s kept u l
     → ((t : Terminal) → Allows (readied fresh s kept) t → Paints (readied fresh s kept) after v bytes t) → Painted l v bytes u × Allows after (play u bytes)
 prints_few kept v s bytes u after true l f keeps r paints =
     let q = r.fresh f in
@@ -134,10 +134,10 @@ prints_few kept v s bytes u after false l f keeps r paints =
     let L : List Glyph → Type 0 = λ c. (j : ℕ) → 0 < j → j ≤ v.size.h → IsLifted v.size.w v.size.h j v.rows c → printed u bytes ≤ v.size.w * j in
     (subst P (sym (q.1 ∙ k.painted')) (record { shows = p.shows; few = subst D k.cells (p.few k.known); new_rows = subst L k.cells (p.lifted k.known) }), p.allows)
 
-fresh_off : (t : State) (v : View) → t.resized ≡ false → t.painted ≡ Some v → is_fresh t ≡ false
+pub fresh_off : (t : State) (v : View) → t.resized ≡ false → t.painted ≡ Some v → is_fresh t ≡ false
 fresh_off t v r p = ap (λ (b : Bool). b || is_none t.painted) r ∙ ap (λ (o : Option View). is_none o) p
 
-painted_stands : (ss : List Sight) (s t : State) (v : View) (size : Size) (kept after : Kept) (ps : List (List ℕ)) (bytes : List ℕ) (fresh : Bool) → is_fresh s ≡ fresh
+pub painted_stands : (ss : List Sight) (s t : State) (v : View) (size : Size) (kept after : Kept) (ps : List (List ℕ)) (bytes : List ℕ) (fresh : Bool) → is_fresh s ≡ fresh
     → t.resized ≡ false → t.painted ≡ Some v → t.buffers.w ≡ s.buffers.w → t.buffers.h ≡ s.buffers.h
     → ((x : Terminal) → Allows (readied fresh s kept) x → Paints (readied fresh s kept) after v bytes x) → IsShown after v → after.w ≡ s.buffers.w → after.h ≡ s.buffers.h
     → StandsOf ss s size kept ps → StandsOf (ss ++ sights.Paint v ∷ []) t size after (ps ++ bytes ∷ [])

@@ -15,11 +15,11 @@ use Rattle.con_session.specs.Desk.{entry}
 
 -- ---- what is entered is the actor's
 
-actors_event : (s : State) (a : Actor) (e : Event) → is_ready s a e ≡ true → is_actors a e ≡ true
+pub actors_event : (s : State) (a : Actor) (e : Event) → is_ready s a e ≡ true → is_actors a e ≡ true
 unfolding is_ready
 actors_event s a e r = (and_parts (is_actors a e) (is_outside s a e || is_due s (client_of a) e) r).0
 
-no_paint_of : (a : Actor) (e : Event) → is_actors a e ≡ true → (a ≡ actors.Painter → ⊥) → is_paint e ≡ false
+pub no_paint_of : (a : Actor) (e : Event) → is_actors a e ≡ true → (a ≡ actors.Painter → ⊥) → is_paint e ≡ false
 no_paint_of a (events.Call c) i n = refl
 no_paint_of a (events.Begin w) i n = refl
 no_paint_of a events.Collect i n = refl

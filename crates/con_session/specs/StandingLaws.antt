@@ -25,8 +25,8 @@ use Rattle.con_machine.specs.State.{State}
 use Rattle.con_machine.specs.Step.{step}
 use Rattle.con_machine.specs.Turns.{Turn, turns, turn_of, is_client, is_pending}
 use Rattle.con_session.specs.Standing.{ClientStands, is_here}
-use Rattle.con_session.proofs.DeskLaws.{run_one}
-use Rattle.con_session.proofs.WorkerLaws.{client_own}
+use Rattle.con_session.specs.DeskLaws.{run_one}
+use Rattle.con_session.specs.WorkerLaws.{client_own}
 
 -- ---- another's entry
 
@@ -50,13 +50,13 @@ stands_other b h x p n c =
 
 -- ---- a client that is there and does not go stays
 
-here_verdict : (a d f : Bool) → is_here (if a then MustLeave else if d then MayLeave else if f then GoesOn else MustLeave) ≡ true
+pub here_verdict : (a d f : Bool) → is_here (if a then MustLeave else if d then MayLeave else if f then GoesOn else MustLeave) ≡ true
 here_verdict true d f = refl
 here_verdict false true f = refl
 here_verdict false false true = refl
 here_verdict false false false = refl
 
-here_took : (c : Client) (r : Reply) → is_here c.stance ≡ true → is_here (took c r).stance ≡ true
+pub here_took : (c : Client) (r : Reply) → is_here c.stance ≡ true → is_here (took c r).stance ≡ true
 here_took c (replies.Ctrl event) i = here_verdict (event == 2) c.doubtful (is_handled c.chain event)
 here_took c replies.Done i = i
 here_took c (replies.Fail code) i = i
@@ -69,11 +69,11 @@ here_took c (replies.Cells rect cells) i = i
 here_took c (replies.Lines ls) i = i
 
 -- handlers alone change
-record Alone (c d : Client) : Type 0 where
-  stance : d.stance ≡ c.stance
-  reading : d.reading ≡ c.reading
+pub record Alone (c d : Client) : Type 0 where
+  pub stance : d.stance ≡ c.stance
+  pub reading : d.reading ≡ c.reading
 
-alone : (d : Client) (call : Call) → Alone d (chained d call)
+pub alone : (d : Client) (call : Call) → Alone d (chained d call)
 alone x (calls.BufferCreate a) = record { stance = refl; reading = refl }
 alone x (calls.OpenOut a) = record { stance = refl; reading = refl }
 alone x (calls.OpenIn a) = record { stance = refl; reading = refl }
@@ -119,11 +119,11 @@ alone x (calls.Ignore a) = record { stance = refl; reading = refl }
 alone x (calls.HandlerAdd a) = record { stance = refl; reading = refl }
 alone x (calls.HandlerRemove a) = record { stance = refl; reading = refl }
 
-alone_by : (d : Client) (call : Call) (b : Bool) → Alone d (if b then d else chained d call)
+pub alone_by : (d : Client) (call : Call) (b : Bool) → Alone d (if b then d else chained d call)
 alone_by d call true = record { stance = refl; reading = refl }
 alone_by d call false = alone d call
 
-here_after : (c : Client) (e : Event) (r : Reply) → is_here c.stance ≡ true → attached_by e ≡ is_here (entered c e r).stance
+pub here_after : (c : Client) (e : Event) (r : Reply) → is_here c.stance ≡ true → attached_by e ≡ is_here (entered c e r).stance
 here_after c (events.Call call) r i = sym (ap is_here (alone_by (record c { left = drop 1 c.left; stance = GoesOn }) call (is_fail r)).stance)
 here_after c (events.Begin w) r i = refl
 here_after c events.Collect r i = refl
@@ -139,21 +139,21 @@ here_after c events.Paint r i = sym i
 
 -- ---- a read is due only where none is open
 
-begin_due : (c : Client) (w : Wanted) (reading : Bool) → events.Begin w ≡ (if reading then events.Collect else next_event c.left) → reading ≡ false
+pub begin_due : (c : Client) (w : Wanted) (reading : Bool) → events.Begin w ≡ (if reading then events.Collect else next_event c.left) → reading ≡ false
 begin_due c w true e = absurd (cc)
 begin_due c w false e = refl
 
-begin_goes : (c : Client) (w : Wanted) (b : Bool) → MayGoOn b c (events.Begin w) → c.reading ≡ false
+pub begin_goes : (c : Client) (w : Wanted) (b : Bool) → MayGoOn b c (events.Begin w) → c.reading ≡ false
 begin_goes c w true m = absurd (cc)
 begin_goes c w false m = elim m [ inl e ↦ absurd (cc) | inr e ↦ begin_due c w c.reading e ]
 
-begin_by : (c : Client) (w : Wanted) (s : Stance) → MayBy s c (events.Begin w) → c.reading ≡ false
+pub begin_by : (c : Client) (w : Wanted) (s : Stance) → MayBy s c (events.Begin w) → c.reading ≡ false
 begin_by c w GoesOn m = begin_goes c w c.pending m
 begin_by c w MayLeave m = elim m [ inl e ↦ absurd (cc) | inr g ↦ begin_goes c w c.pending g ]
 begin_by c w MustLeave m = absurd (cc)
 begin_by c w Gone m = absurd m
 
-read_took : (c : Client) (r : Reply) → (took c r).reading ≡ c.reading
+pub read_took : (c : Client) (r : Reply) → (took c r).reading ≡ c.reading
 read_took c (replies.Ctrl event) = refl
 read_took c replies.Done = refl
 read_took c (replies.Fail code) = refl
@@ -165,11 +165,11 @@ read_took c (replies.Records rs) = refl
 read_took c (replies.Cells rect cells) = refl
 read_took c (replies.Lines ls) = refl
 
-read_begin : (r refused : Bool) → r ≡ false → (if refused then r else true) ≡ not refused
+pub read_begin : (r refused : Bool) → r ≡ false → (if refused then r else true) ≡ not refused
 read_begin r true e = e
 read_begin r false e = refl
 
-read_after : (c : Client) (e : Event) (r : Reply) → MayBy c.stance c e → attached_by e ≡ true → reads_by c.reading e (is_fail r) ≡ (entered c e r).reading
+pub read_after : (c : Client) (e : Event) (r : Reply) → MayBy c.stance c e → attached_by e ≡ true → reads_by c.reading e (is_fail r) ≡ (entered c e r).reading
 read_after c (events.Call call) r m a = sym (alone_by (record c { left = drop 1 c.left; stance = GoesOn }) call (is_fail r)).reading
 read_after c (events.Begin w) r m a = read_begin c.reading (is_fail r) (begin_by c w c.stance m)
 read_after c events.Collect r m a = refl

@@ -25,14 +25,14 @@ use Rattle.con_machine.specs.Turns.{Turn, turns, turn_of, is_client, is_pending}
 use Rattle.con_session.specs.Desk.{Enters, Rests, brief_of, entry}
 use Rattle.con_session.specs.Standing.{is_here}
 use Rattle.con_session.specs.Worker.{IsStance, HandsAre, IsRack, HandsStand, places_in, IsWorker, ClientIs, Keeps, Acts, ClientTurn, HandsTurn}
-use Rattle.con_session.proofs.RackLaws.{hands_keep, rack_delivered}
+use Rattle.con_session.specs.RackLaws.{hands_keep, rack_delivered}
 use Rattle.con_session.specs.declared.desk.Brief.{Brief}
 use Rattle.con_session.specs.declared.desk.Brief.TheVariants as briefs
 use Rattle.con_session.specs.declared.worker.Worker.{Worker}
 
 -- ---- when a client's events are ready
 
-or_true : (b : Bool) → (b || true) ≡ true
+pub or_true : (b : Bool) → (b || true) ≡ true
 or_true true = refl
 or_true false = refl
 
@@ -48,51 +48,51 @@ pub call_ready : (s : State) (p : ℕ) (c : Rattle.con_events.specs.declared.cal
 unfolding is_ready is_due
 call_ready s p c = or_true (not (is_attached s.procs p))
 
-outside_none : (a x : Bool) → a ≡ true → (not a || x) ≡ x
+pub outside_none : (a x : Bool) → a ≡ true → (not a || x) ≡ x
 outside_none true x e = refl
 outside_none false x e = absurd (cc)
 
-take_ready : (s : State) (p : ℕ) → is_attached s.procs p ≡ true → is_ready s (actors.Client p) events.TakeCtrl ≡ is_pending s p
+pub take_ready : (s : State) (p : ℕ) → is_attached s.procs p ≡ true → is_ready s (actors.Client p) events.TakeCtrl ≡ is_pending s p
 unfolding is_ready is_due
 take_ready s p a = outside_none (is_attached s.procs p) (is_pending s p) a
 
-collect_ready : (s : State) (p : ℕ) → is_attached s.procs p ≡ true → is_ready s (actors.Client p) events.Collect ≡ has_done s.reads p
+pub collect_ready : (s : State) (p : ℕ) → is_attached s.procs p ≡ true → is_ready s (actors.Client p) events.Collect ≡ has_done s.reads p
 unfolding is_ready is_due
 collect_ready s p a = outside_none (is_attached s.procs p) (has_done s.reads p) a
 
 -- ---- the turn of a client that is there
 
-turn_there : (c : Client) (s : State) (p : ℕ) (a : Bool) (t : Option Event) → a ≡ true → ClientTurnBy c.stance s p c t → Rattle.con_machine.specs.Rounds.ClientTurn a s p c t
+pub turn_there : (c : Client) (s : State) (p : ℕ) (a : Bool) (t : Option Event) → a ≡ true → ClientTurnBy c.stance s p c t → Rattle.con_machine.specs.Rounds.ClientTurn a s p c t
 turn_there c s p true t e k = k
 turn_there c s p false t e k = absurd (cc)
 
-goes_turn : (s : State) (p : ℕ) (c : Client) (t : Option Event) (st : Stance) (gone : Bool) → IsStance st false gone → gone ≡ false → t ≡ client_turn s p c → ClientTurnBy st s p c t
+pub goes_turn : (s : State) (p : ℕ) (c : Client) (t : Option Event) (st : Stance) (gone : Bool) → IsStance st false gone → gone ≡ false → t ≡ client_turn s p c → ClientTurnBy st s p c t
 goes_turn s p c t GoesOn gone i n e = e
 goes_turn s p c t MayLeave gone i n e = inr e
 goes_turn s p c t MustLeave gone i n e = absurd (cc)
 goes_turn s p c t Gone gone i n e = absurd (cc)
 
-leaves_turn : (s : State) (p : ℕ) (c : Client) (st : Stance) (gone : Bool) → IsStance st true gone → gone ≡ false → ClientTurnBy st s p c (Some (events.Exit ctrl_exit))
+pub leaves_turn : (s : State) (p : ℕ) (c : Client) (st : Stance) (gone : Bool) → IsStance st true gone → gone ≡ false → ClientTurnBy st s p c (Some (events.Exit ctrl_exit))
 leaves_turn s p c GoesOn gone i n = absurd (cc)
 leaves_turn s p c MayLeave gone i n = inl refl
 leaves_turn s p c MustLeave gone i n = refl
 leaves_turn s p c Gone gone i n = absurd (cc)
 
-none_turn : (s : State) (p : ℕ) (c : Client) (a : Bool) → a ≡ false → Rattle.con_machine.specs.Rounds.ClientTurn a s p c None
+pub none_turn : (s : State) (p : ℕ) (c : Client) (a : Bool) → a ≡ false → Rattle.con_machine.specs.Rounds.ClientTurn a s p c None
 none_turn s p c true e = absurd (cc)
 none_turn s p c false e = refl
 
-taken_by : (s : State) (p : ℕ) (c : Client) (b : Bool) → b ≡ true → Some events.TakeCtrl ≡ (if b then Some events.TakeCtrl else if is_open s.reads p then (if has_done s.reads p then Some events.Collect else None) else Some (next_event c.left))
+pub taken_by : (s : State) (p : ℕ) (c : Client) (b : Bool) → b ≡ true → Some events.TakeCtrl ≡ (if b then Some events.TakeCtrl else if is_open s.reads p then (if has_done s.reads p then Some events.Collect else None) else Some (next_event c.left))
 taken_by s p c true e = refl
 taken_by s p c false e = absurd (cc)
 
-collected_by : (c : Client) (b o d : Bool) → b ≡ false → o ≡ true → d ≡ true → Some events.Collect ≡ (if b then Some events.TakeCtrl else if o then (if d then Some events.Collect else None) else Some (next_event c.left))
+pub collected_by : (c : Client) (b o d : Bool) → b ≡ false → o ≡ true → d ≡ true → Some events.Collect ≡ (if b then Some events.TakeCtrl else if o then (if d then Some events.Collect else None) else Some (next_event c.left))
 collected_by c b o d e f g = rw (e, f, g) refl
 
-waited_by : (c : Client) (b o d : Bool) → b ≡ false → o ≡ true → d ≡ false → None ≡ (if b then Some events.TakeCtrl else if o then (if d then Some events.Collect else None) else Some (next_event c.left))
+pub waited_by : (c : Client) (b o d : Bool) → b ≡ false → o ≡ true → d ≡ false → None ≡ (if b then Some events.TakeCtrl else if o then (if d then Some events.Collect else None) else Some (next_event c.left))
 waited_by c b o d e f g = rw (e, f, g) refl
 
-stepped_by : (c : Client) (b o d : Bool) (ev : Event) → b ≡ false → o ≡ false → ev ≡ next_event c.left → Some ev ≡ (if b then Some events.TakeCtrl else if o then (if d then Some events.Collect else None) else Some (next_event c.left))
+pub stepped_by : (c : Client) (b o d : Bool) (ev : Event) → b ≡ false → o ≡ false → ev ≡ next_event c.left → Some ev ≡ (if b then Some events.TakeCtrl else if o then (if d then Some events.Collect else None) else Some (next_event c.left))
 stepped_by c b o d ev e f g = rw (e, f, g) refl
 
 -- the client's own record is moved by its own entry
@@ -109,7 +109,7 @@ own_is b p s t h g rs qs e i n =
     subst P (sym i) (ap (λ k. client_at b k p) n.entries ∙ client_own b h (entry (actors.Client p) e) p n')
 
 -- a client that must leave, or may
-may_leave : (c : Client) (s : Stance) (gone : Bool) → IsStance s true gone → gone ≡ false → MayBy s c (events.Exit ctrl_exit)
+pub may_leave : (c : Client) (s : Stance) (gone : Bool) → IsStance s true gone → gone ≡ false → MayBy s c (events.Exit ctrl_exit)
 may_leave c GoesOn gone i n = absurd (cc)
 may_leave c MayLeave gone i n = inl refl
 may_leave c MustLeave gone i n = refl
@@ -119,7 +119,7 @@ pub leaving_may : (c : Client) (steps : List Step) (w : Worker) → IsWorker c s
 leaving_may c steps w k l n = let P : Bool → Type 0 = λ x. IsStance c.stance x w.gone in may_leave c c.stance w.gone (subst P l k.stance) n
 
 -- a client that need not leave goes on
-goes_by : (c : Client) (e : Event) (s : Stance) (gone : Bool) → IsStance s false gone → gone ≡ false → MayGoOn c.pending c e → MayBy s c e
+pub goes_by : (c : Client) (e : Event) (s : Stance) (gone : Bool) → IsStance s false gone → gone ≡ false → MayGoOn c.pending c e → MayBy s c e
 goes_by c e GoesOn gone i n m = m
 goes_by c e MayLeave gone i n m = inr m
 goes_by c e MustLeave gone i n m = absurd (cc)
@@ -128,14 +128,14 @@ goes_by c e Gone gone i n m = absurd (cc)
 pub going_may : (c : Client) (steps : List Step) (w : Worker) (e : Event) → IsWorker c steps w → w.leaving ≡ false → w.gone ≡ false → MayGoOn c.pending c e → MayBy c.stance c e
 going_may c steps w e k l n m = let P : Bool → Type 0 = λ x. IsStance c.stance x w.gone in goes_by c e c.stance w.gone (subst P l k.stance) n m
 
-take_by : (c : Client) (b : Bool) → MayGoOn b c events.TakeCtrl
+pub take_by : (c : Client) (b : Bool) → MayGoOn b c events.TakeCtrl
 take_by c true = refl
 take_by c false = inl refl
 
 pub taking_may : (c : Client) → MayGoOn c.pending c events.TakeCtrl
 taking_may c = take_by c c.pending
 
-due_by : (c : Client) (b : Bool) (e : Event) → b ≡ false → e ≡ due c → MayGoOn b c e
+pub due_by : (c : Client) (b : Bool) (e : Event) → b ≡ false → e ≡ due c → MayGoOn b c e
 due_by c true e n d = absurd (cc)
 due_by c false e n d = inr d
 
@@ -143,7 +143,7 @@ pub due_may : (c : Client) (e : Event) → c.pending ≡ false → e ≡ due c �
 due_may c e n d = due_by c c.pending e n d
 
 -- a client that is not gone is there
-here_by : (s : Stance) (leaving gone : Bool) → IsStance s leaving gone → gone ≡ false → is_here s ≡ true
+pub here_by : (s : Stance) (leaving gone : Bool) → IsStance s leaving gone → gone ≡ false → is_here s ≡ true
 here_by GoesOn leaving gone i n = refl
 here_by MayLeave leaving gone i n = refl
 here_by MustLeave leaving gone i n = refl
@@ -153,7 +153,7 @@ pub is_there : (b : Begun) (p : ℕ) (s : State) (h : List Entry) (steps : List 
 is_there b p s h steps w k n = ap (λ z. is_attached z.procs p) k.state ∙ (k.stands.here ∙ here_by (client_at b h p).stance w.leaving w.gone k.worker.stance n)
 
 -- one that is gone is not
-gone_by : (s : Stance) (leaving gone : Bool) → IsStance s leaving gone → gone ≡ true → is_here s ≡ false
+pub gone_by : (s : Stance) (leaving gone : Bool) → IsStance s leaving gone → gone ≡ true → is_here s ≡ false
 gone_by GoesOn leaving gone i n = absurd (cc)
 gone_by MayLeave leaving gone i n = absurd (cc)
 gone_by MustLeave leaving gone i n = absurd (cc)
@@ -180,7 +180,7 @@ leaving_turn b p s h steps w k n l =
     turn_there c (run b.state h) p (is_attached (run b.state h).procs p) (Some (events.Exit ctrl_exit)) (subst P k.state (is_there b p s h steps w k n)) (leaves_turn (run b.state h) p c c.stance w.gone (subst R l k.worker.stance) n)
 
 -- no TakeCtrl is ready for a client that is there, so nothing was pending at its last entry
-contra : (x y : Bool) → (x ≡ true → y ≡ true) → y ≡ false → x ≡ false
+pub contra : (x y : Bool) → (x ≡ true → y ≡ true) → y ≡ false → x ≡ false
 contra true y f n = absurd (let e = f refl in cc)
 contra false y f n = refl
 
@@ -192,7 +192,7 @@ none_pending b p s h steps w k n r =
     (q, contra (client_at b h p).pending (is_pending s p) (λ x. ap (λ z. is_pending z p) k.state ∙ k.stands.pending x) q)
 
 -- the console has an open read of a client that is there where its worker has
-open_is : (b : Begun) (p : ℕ) (s : State) (h : List Entry) (steps : List Step) (w : Worker) → ClientIs b p s h steps w → w.gone ≡ false → is_open s.reads p ≡ w.reading
+pub open_is : (b : Begun) (p : ℕ) (s : State) (h : List Entry) (steps : List Step) (w : Worker) → ClientIs b p s h steps w → w.gone ≡ false → is_open s.reads p ≡ w.reading
 open_is b p s h steps w k n =
     let P : State → Type 0 = λ z. is_attached z.procs p ≡ true in
     ap (λ (z : State). is_open z.reads p) k.state ∙ (k.stands.reading (subst P k.state (is_there b p s h steps w k n)) ∙ k.worker.reading)
@@ -250,13 +250,13 @@ with_hands (Ok false) b p s t h g rs qs steps w places ms slots a k = (k.0, k.1,
 with_hands (Err e) b p s t h g rs qs steps w places ms slots a k = k
 
 -- an event was taken
-verdict_by : (two d f handled : Bool) → (d ≡ false → handled ≡ f) → IsStance (if two then MustLeave else if d then MayLeave else if f then GoesOn else MustLeave) (two || not handled) false
+pub verdict_by : (two d f handled : Bool) → (d ≡ false → handled ≡ f) → IsStance (if two then MustLeave else if d then MayLeave else if f then GoesOn else MustLeave) (two || not handled) false
 verdict_by true d f handled i = (refl, refl)
 verdict_by false true f handled i = refl
 verdict_by false false true handled i = let e = i refl in (rw e refl, refl)
 verdict_by false false false handled i = let e = i refl in (rw e refl, refl)
 
-ctrl_is : (r : Reply) (event : ℕ) → brief_of r ≡ briefs.Ctrl event → r ≡ replies.Ctrl event
+pub ctrl_is : (r : Reply) (event : ℕ) → brief_of r ≡ briefs.Ctrl event → r ≡ replies.Ctrl event
 ctrl_is (replies.Ctrl n) event e = cc
 ctrl_is replies.Done event e = absurd (cc)
 ctrl_is (replies.Fail code) event e = absurd (cc)
@@ -298,7 +298,7 @@ IsEvent (briefs.Ctrl event) = true
 IsEvent briefs.Fine = false
 IsEvent briefs.Refused = false
 
-took_none : (c : Client) (r : Reply) → IsEvent (brief_of r) ≡ false → took c r ≡ c
+pub took_none : (c : Client) (r : Reply) → IsEvent (brief_of r) ≡ false → took c r ≡ c
 took_none c (replies.Ctrl n) e = absurd (cc)
 took_none c replies.Done e = refl
 took_none c (replies.Fail code) e = refl

@@ -87,7 +87,7 @@ sizes_same f g (x ∷ xs) = ap (λ (n : ℕ). n ∷ map (λ ys. length ys) (map 
 one_of : (n k : ℕ) → k < n → (nat_lt 0 (k + 1) && nat_le (k + 1) n) ≡ true
 one_of n k l = grind (arith, nat_tests)
 
-opens_stands : (session : Clients) (racks : List (List ℕ)) (f : Option ℕ) (k : ℕ) → k < length session.scripts → ClientStands (begins session racks f) [] (k + 1)
+pub opens_stands : (session : Clients) (racks : List (List ℕ)) (f : Option ℕ) (k : ℕ) → k < length session.scripts → ClientStands (begins session racks f) [] (k + 1)
 opens_stands session racks f k l =
     let o = opens session racks in
     record {
@@ -98,7 +98,7 @@ opens_stands session racks f k l =
       pending = λ e. absurd (cc);
     }
 
-seated_fresh : (session : Clients) (racks : List (List ℕ)) (f : Option ℕ) (k : ℕ) (script : Script) (w : Worker) (places : List ℕ) (ms : List Memory) (slots : List ℕ) → k < length session.scripts → slice_get session.scripts k ≡ Some script → w ≡ fresh
+pub seated_fresh : (session : Clients) (racks : List (List ℕ)) (f : Option ℕ) (k : ℕ) (script : Script) (w : Worker) (places : List ℕ) (ms : List Memory) (slots : List ℕ) → k < length session.scripts → slice_get session.scripts k ≡ Some script → w ≡ fresh
     → ((b : Begun) (p : ℕ) → kinds_of b.racks p ≡ get_or racks (0 + k) [] → HandsStand b p [] places ms slots) → Seated (begins session racks f) k (begun session racks) [] script w places ms slots
 seated_fresh session racks f k script w places ms slots l e i hands =
     let b = begins session racks f in
@@ -110,18 +110,18 @@ seated_fresh session racks f k script w places ms slots l e i hands =
       hands = hands b (k + 1) (ap (λ (z : ℕ). get_or racks z []) (let z : k + 1 - 1 ≡ 0 + k = omega arith in z));
     }
 
-get_below : {A : Type 0} (xs : List A) (k : ℕ) (x : A) → slice_get xs k ≡ Some x → k < length xs
+pub get_below : {A : Type 0} (xs : List A) (k : ℕ) (x : A) → slice_get xs k ≡ Some x → k < length xs
 get_below [] k x e = absurd (cc)
 get_below (y ∷ ys) zero x e = omega arith
 get_below (y ∷ ys) (suc k) x e = let l = get_below ys k x e in omega arith
 
-all_fresh : {A : Type 0} (worker : A → Worker) (places : A → List ℕ) (mems : A → List Memory) (slots : A → List ℕ) (session : Clients) (racks : List (List ℕ)) (f : Option ℕ) (seats : List A) → AreFresh worker places mems slots racks 0 seats
+pub all_fresh : {A : Type 0} (worker : A → Worker) (places : A → List ℕ) (mems : A → List Memory) (slots : A → List ℕ) (session : Clients) (racks : List (List ℕ)) (f : Option ℕ) (seats : List A) → AreFresh worker places mems slots racks 0 seats
     → AllStand (begins session racks f) (begun session racks) [] session.scripts (map worker seats) (map places seats) (map mems seats) (map slots seats)
 all_fresh worker places mems slots session racks f seats are = λ k script w xs m ys e a b c d.
     let q = fresh_at worker places mems slots racks 0 seats are k w xs m ys a b c d in
     seated_fresh session racks f k script w xs m ys (get_below session.scripts k script e) e q.0 q.1
 
-open_link : (before : Option (List ℕ)) (failed : Bool) → LinkIs [] (record { ended = false; end = ends.Done }) failed before before 0
+pub open_link : (before : Option (List ℕ)) (failed : Bool) → LinkIs [] (record { ended = false; end = ends.Done }) failed before before 0
 open_link before failed = record {
   frames = [];
   extra = [];
@@ -136,7 +136,7 @@ open_link before failed = record {
   whole = λ c e. absurd (cc);
 }
 
-open_canvas : (session : Clients) (racks : List (List ℕ)) (f : Option ℕ) (kept : Kept) (old : Option (List ℕ)) (failed : Bool) → CanvasIs (begins session racks f) [] session.size kept [] [] 0 old old failed
+pub open_canvas : (session : Clients) (racks : List (List ℕ)) (f : Option ℕ) (kept : Kept) (old : Option (List ℕ)) (failed : Bool) → CanvasIs (begins session racks f) [] session.size kept [] [] 0 old old failed
 open_canvas session racks f kept old failed =
     let o = opens session racks in
     let s = begun session racks in
@@ -217,12 +217,12 @@ goes_tied b scripts before old m k =
 
 -- ---- each client follows its script
 
-some_at : {A : Type 0} (xs : List A) (k : ℕ) → k < length xs → (x : A) × (slice_get xs k ≡ Some x)
+pub some_at : {A : Type 0} (xs : List A) (k : ℕ) → k < length xs → (x : A) × (slice_get xs k ≡ Some x)
 some_at [] k l = absurd (let none : k < 0 = l in omega arith)
 some_at (x ∷ xs) zero l = (x, refl)
 some_at (x ∷ xs) (suc k) l = some_at xs k (omega arith)
 
-get_map : {A B : Type 0} (f : A → B) (xs : List A) (k : ℕ) (x : A) → slice_get xs k ≡ Some x → slice_get (map f xs) k ≡ Some (f x)
+pub get_map : {A B : Type 0} (f : A → B) (xs : List A) (k : ℕ) (x : A) → slice_get xs k ≡ Some x → slice_get (map f xs) k ≡ Some (f x)
 get_map f [] k x e = absurd (cc)
 get_map f (y ∷ ys) zero x e = let q : y ≡ x = cc in ap (λ (z : _). Some (f z)) q
 get_map f (y ∷ ys) (suc k) x e = get_map f ys k x e

@@ -22,9 +22,9 @@ use Rattle.con_machine.specs.Step.{step, is_ready, is_actors}
 use Rattle.con_machine.specs.Turns.{moved, is_paint}
 use Rattle.con_session.specs.Desk.{Enters, Ran, is_painter}
 use Rattle.con_session.specs.Painting.{IsTied, Pictures}
-use Rattle.con_session.proofs.PaintCounts.{no_paint}
+use Rattle.con_session.specs.PaintCounts.{no_paint}
 
-same_tied : (s t : State) (kept : Kept) → t.resized ≡ s.resized → t.painted ≡ s.painted → t.buffers.w ≡ s.buffers.w → t.buffers.h ≡ s.buffers.h → IsTied s kept → IsTied t kept
+pub same_tied : (s t : State) (kept : Kept) → t.resized ≡ s.resized → t.painted ≡ s.painted → t.buffers.w ≡ s.buffers.w → t.buffers.h ≡ s.buffers.h → IsTied s kept → IsTied t kept
 same_tied s t kept r p w h k =
     let f : is_fresh t ≡ is_fresh s = ap (λ (b : Bool). b || is_none t.painted) r ∙ ap (λ (o : Option View). s.resized || is_none o) p in
     record {
@@ -34,7 +34,7 @@ same_tied s t kept r p w h k =
       high = λ e. k.high (sym f ∙ e) ∙ sym h;
     }
 
-fresh_tied : (t : State) (kept : Kept) → is_fresh t ≡ true → IsTied t kept
+pub fresh_tied : (t : State) (kept : Kept) → is_fresh t ≡ true → IsTied t kept
 fresh_tied t kept f = record {
   known = λ e. absurd (let z = sym f ∙ e in cc);
   cells = λ e. absurd (let z = sym f ∙ e in cc);
@@ -42,10 +42,10 @@ fresh_tied t kept f = record {
   high = λ e. absurd (let z = sym f ∙ e in cc);
 }
 
-plain_tied : (s : State) (a : Actor) (e : Event) (kept : Kept) → resizes_by s.resized e ≡ s.resized → painted_by s e ≡ s.painted → width_by s.buffers.w e ≡ s.buffers.w → height_by s.buffers.h e ≡ s.buffers.h → IsTied s kept → IsTied (step s a e).after kept
+pub plain_tied : (s : State) (a : Actor) (e : Event) (kept : Kept) → resizes_by s.resized e ≡ s.resized → painted_by s e ≡ s.painted → width_by s.buffers.w e ≡ s.buffers.w → height_by s.buffers.h e ≡ s.buffers.h → IsTied s kept → IsTied (step s a e).after kept
 plain_tied s a e kept r p w h k = let m = step_moves s a e in let z = step_keeps_size s a e in same_tied s ((step s a e).after) kept (m.sizes ∙ r) (m.paints ∙ p) (z.wide ∙ w) (z.high ∙ h) k
 
-tied_step : (s : State) (a : Actor) (e : Event) (kept : Kept) → is_paint e ≡ false → IsTied s kept → IsTied (step s a e).after kept
+pub tied_step : (s : State) (a : Actor) (e : Event) (kept : Kept) → is_paint e ≡ false → IsTied s kept → IsTied (step s a e).after kept
 tied_step s a (events.Call c) kept n k = plain_tied s a (events.Call c) kept refl refl refl refl k
 tied_step s a (events.Begin w) kept n k = plain_tied s a (events.Begin w) kept refl refl refl refl k
 tied_step s a events.Collect kept n k = plain_tied s a events.Collect kept refl refl refl refl k
@@ -60,12 +60,12 @@ tied_step s a events.Hangup kept n k = plain_tied s a events.Hangup kept refl re
 tied_step s a events.Drained kept n k = plain_tied s a events.Drained kept refl refl refl refl k
 tied_step s a events.Paint kept n k = absurd (cc)
 
-no_painter : (a : Actor) → not (is_painter a) ≡ true → a ≡ actors.Painter → ⊥
+pub no_painter : (a : Actor) → not (is_painter a) ≡ true → a ≡ actors.Painter → ⊥
 no_painter (actors.Client p) n e = cc
 no_painter actors.Terminal n e = cc
 no_painter actors.Painter n e = cc
 
-tied_run : (s : State) (r : List Entry) (kept : Kept) → is_legal s r ≡ true → list_all (λ x. not (is_painter x.actor)) r ≡ true → IsTied s kept → IsTied (run s r) kept
+pub tied_run : (s : State) (r : List Entry) (kept : Kept) → is_legal s r ≡ true → list_all (λ x. not (is_painter x.actor)) r ≡ true → IsTied s kept → IsTied (run s r) kept
 tied_run s [] kept l o k = k
 tied_run s (x ∷ xs) kept l o k =
     let p = and_parts (is_ready s x.actor x.event) (is_legal (moved s x) xs) l in
@@ -94,7 +94,7 @@ tied_paint s t h g rs qs v fresh kept n p shown sizes =
 pub served_paint : (s t : State) (h g : List Entry) (rs qs : List Reply) → Enters s t h g rs qs actors.Painter events.Paint → t.asked ≡ false
 served_paint s t h g rs qs n = ap (λ (z : State). z.asked) n.state ∙ (step_moves s actors.Painter events.Paint).asks
 
-not_asked : (s : State) (a : Bool) → s.asked ≡ a → is_ready s actors.Painter events.Paint ≡ false → a ≡ false
+pub not_asked : (s : State) (a : Bool) → s.asked ≡ a → is_ready s actors.Painter events.Paint ≡ false → a ≡ false
 not_asked s false e r = refl
 not_asked s true e r = absurd (let z = sym (asked_is_due s e) ∙ r in cc)
 

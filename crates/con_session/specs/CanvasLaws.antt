@@ -27,25 +27,25 @@ use Rattle.con_machine.specs.State.{State}
 use Rattle.con_session.specs.Desk.{Rests, entry}
 use Rattle.con_session.specs.Painting.{Written, EntersPaint, PainterStands, CanvasIs, CanvasEnds, PaintTurn, Pictures}
 use Rattle.con_session.specs.Runs.{Matched, joined, ends_from}
-use Rattle.con_session.proofs.PaintingLaws.{painter_paint, none_each, readied}
+use Rattle.con_session.specs.PaintingLaws.{painter_paint, none_each, readied}
 
 append_none : {A : Type 0} (xs : List A) → xs ++ [] ≡ xs
 append_none [] = refl
 append_none (x ∷ xs) = ap (λ ys. x ∷ ys) (append_none xs)
 
-joined_more : (ps : List (List ℕ)) (p : List ℕ) → joined (ps ++ p ∷ []) ≡ joined ps ++ p
+pub joined_more : (ps : List (List ℕ)) (p : List ℕ) → joined (ps ++ p ∷ []) ≡ joined ps ++ p
 joined_more [] p = append_none p
 joined_more (q ∷ qs) p = ap (λ (x : List ℕ). q ++ x) (joined_more qs p) ∙ sym (append_assoc q (joined qs) p)
 
-ends_more : (n : ℕ) (ps : List (List ℕ)) (p : List ℕ) → ends_from n (ps ++ p ∷ []) ≡ ends_from n ps ++ (n + length (joined ps) + length p) ∷ []
+pub ends_more : (n : ℕ) (ps : List (List ℕ)) (p : List ℕ) → ends_from n (ps ++ p ∷ []) ≡ ends_from n ps ++ (n + length (joined ps) + length p) ∷ []
 ends_more n [] p = ap (λ (m : ℕ). (m + length p) ∷ []) (let e : n ≡ n + 0 = omega arith in e)
 ends_more n (q ∷ qs) p = ap (λ (x : List ℕ). (n + length q) ∷ x) (ends_more (n + length q) qs p
     ∙ ap (λ (m : ℕ). ends_from (n + length q) qs ++ (m + length p) ∷ []) (let e : n + length q + length (joined qs) ≡ n + length (q ++ joined qs) = omega (arith, length-append q (joined qs)) in e))
 
-take_all : (xs : List ℕ) → take (length xs) xs ≡ xs
+pub take_all : (xs : List ℕ) → take (length xs) xs ≡ xs
 take_all xs = take-length xs
 
-take_past : (xs ys : List ℕ) (n : ℕ) → take (length xs + n) (xs ++ ys) ≡ xs ++ take n ys
+pub take_past : (xs ys : List ℕ) (n : ℕ) → take (length xs + n) (xs ++ ys) ≡ xs ++ take n ys
 take_past xs ys n = take-append-add xs ys n
 
 pub written_more : (before now later : Option (List ℕ)) (ps : List (List ℕ)) (p : List ℕ) (n : ℕ) (failed : Bool) → Written before now ps false → n ≤ length p → later ≡ then_written now (take n p) → (failed ≡ false → n ≡ length p) → Written before later (ps ++ p ∷ []) failed
@@ -60,7 +60,7 @@ written_more before now later ps p n failed w l e f =
       whole = λ x. ap (λ (m : ℕ). length (joined ps) + m) (f x) ∙ (sym (length-append (joined ps) p) ∙ ap (λ (x' : List ℕ). length x') (sym j));
     }
 
-readied_is : (s : State) (v : View) (kept : Kept) (fresh : Bool) → v.size.w ≡ s.buffers.w → v.size.h ≡ s.buffers.h → (if fresh then unpainted v.size.w v.size.h else kept) ≡ readied fresh s kept
+pub readied_is : (s : State) (v : View) (kept : Kept) (fresh : Bool) → v.size.w ≡ s.buffers.w → v.size.h ≡ s.buffers.h → (if fresh then unpainted v.size.w v.size.h else kept) ≡ readied fresh s kept
 readied_is s v kept true w h = ap (λ (x : ℕ). unpainted x v.size.h) w ∙ ap (λ (x : ℕ). unpainted s.buffers.w x) h
 readied_is s v kept false w h = refl
 
@@ -92,14 +92,14 @@ pictures [] = 0
 pictures (sights.Resize z ∷ ss) = pictures ss
 pictures (sights.Paint v ∷ ss) = 1 + pictures ss
 
-matched_count : (ss : List Sight) (ps : List (List ℕ)) → Matched ss ps → length ps ≡ pictures ss
+pub matched_count : (ss : List Sight) (ps : List (List ℕ)) → Matched ss ps → length ps ≡ pictures ss
 matched_count [] [] m = refl
 matched_count [] (q ∷ qs) m = absurd m
 matched_count (sights.Resize z ∷ ss) ps m = matched_count ss ps m
 matched_count (sights.Paint v ∷ ss) [] m = absurd m
 matched_count (sights.Paint v ∷ ss) (q ∷ qs) m = let e = matched_count ss qs m in omega arith
 
-one_sight : (s : State) (e : Event) (ss : List Sight) → pictures (sights_at s e ++ ss) ≡ (if is_paint e then 1 else 0) + pictures ss
+pub one_sight : (s : State) (e : Event) (ss : List Sight) → pictures (sights_at s e ++ ss) ≡ (if is_paint e then 1 else 0) + pictures ss
 one_sight s (events.Call c) ss = sym (zero-add (pictures ss))
 one_sight s (events.Begin w) ss = sym (zero-add (pictures ss))
 one_sight s events.Collect ss = sym (zero-add (pictures ss))
@@ -113,7 +113,7 @@ one_sight s events.Hangup ss = sym (zero-add (pictures ss))
 one_sight s events.Drained ss = sym (zero-add (pictures ss))
 one_sight s events.Paint ss = refl
 
-pictures_are : (s : State) (h : List Entry) → pictures (sights_of s h) ≡ paints h
+pub pictures_are : (s : State) (h : List Entry) → pictures (sights_of s h) ≡ paints h
 pictures_are s [] = refl
 pictures_are s (x ∷ xs) = one_sight s x.event (sights_of (moved s x) xs) ∙ ap (λ (n : ℕ). (if is_paint x.event then 1 else 0) + n) (pictures_are (moved s x) xs)
 
@@ -128,7 +128,7 @@ canvas_ends b h size kept ps ends end before now failed k = record { pieces = ps
 pub canvas_none : (b : Begun) (h g : List Entry) (size : Size) (kept : Kept) (ps : List (List ℕ)) (ends : List ℕ) (end : ℕ) (before now : Option (List ℕ)) (failed : Bool) → g ≡ h ++ entry actors.Painter events.Paint ∷ [] → CanvasIs b h size kept ps ends end before now failed → CanvasEnds b g size ends before now
 canvas_none b h g size kept ps ends end before now failed e k = record { pieces = ps; each = none_each b h g size kept ps e k.stands; ends' = k.ends'; count = inr (ap (λ (n : ℕ). n + 1) (painted_count b h size kept ps k.stands) ∙ sym (ap paints e ∙ paints-append h (entry actors.Painter events.Paint ∷ []))); failed = failed; written = k.written }
 
-was_fine : (b : Begun) (h : List Entry) (size : Size) (kept : Kept) (ps : List (List ℕ)) (ends : List ℕ) (end : ℕ) (before now : Option (List ℕ)) (failed : Bool) → failed ≡ false → CanvasIs b h size kept ps ends end before now failed → CanvasIs b h size kept ps ends end before now false
+pub was_fine : (b : Begun) (h : List Entry) (size : Size) (kept : Kept) (ps : List (List ℕ)) (ends : List ℕ) (end : ℕ) (before now : Option (List ℕ)) (failed : Bool) → failed ≡ false → CanvasIs b h size kept ps ends end before now failed → CanvasIs b h size kept ps ends end before now false
 was_fine b h size kept ps ends end before now failed e k = let P : Bool → Type 0 = λ x. CanvasIs b h size kept ps ends end before now x in subst P e k
 
 -- a frame that was taken whole

@@ -24,14 +24,14 @@ use Rattle.con_machine.specs.Rounds.{Begun}
 use Rattle.con_machine.specs.State.{State}
 use Rattle.con_session.specs.Desk.{Rests, entry}
 use Rattle.con_session.specs.Sender.{SideStands, LinkIs, LinkEnds, LinkTurn, SenderTurn, end_for}
-use Rattle.con_session.proofs.SenderLaws.{side_frame, side_hung, side_other}
+use Rattle.con_session.specs.SenderLaws.{side_frame, side_hung, side_other}
 use Rattle.con_session.specs.declared.terminal.Side.{Side}
 
 append_none : {A : Type 0} (xs : List A) → xs ++ [] ≡ xs
 append_none [] = refl
 append_none (x ∷ xs) = ap (λ ys. x ∷ ys) (append_none xs)
 
-open_side : (h : List Entry) (coming : List Frame) (cut ended : Bool) → cut ≡ false → ended ≡ false → SideStands h coming cut ended → SideStands h coming false false
+pub open_side : (h : List Entry) (coming : List Frame) (cut ended : Bool) → cut ≡ false → ended ≡ false → SideStands h coming cut ended → SideStands h coming false false
 open_side h coming cut ended c e k =
     let P : Bool → Type 0 = λ x. SideStands h coming x ended in let Q : Bool → Type 0 = λ x. SideStands h coming false x in
     subst Q e (subst P c k)
@@ -66,10 +66,10 @@ link_hung h g side failed before now taken n f e k =
       whole = λ x. absurd (cc);
     }
 
-all_more : (p : Frame → Bool) (fs : List Frame) (f : Frame) → list_all p fs ≡ true → p f ≡ true → list_all p (fs ++ f ∷ []) ≡ true
+pub all_more : (p : Frame → Bool) (fs : List Frame) (f : Frame) → list_all p fs ≡ true → p f ≡ true → list_all p (fs ++ f ∷ []) ≡ true
 all_more p fs f a b = list_all-append p fs (f ∷ []) ∙ (ap (λ (x : Bool). x && (p f && true)) a ∙ ap (λ (x : Bool). x && true) b)
 
-spelled_more : (fs : List Frame) (f : Frame) → flat_map spelling (fs ++ f ∷ []) ≡ flat_map spelling fs ++ spelling f
+pub spelled_more : (fs : List Frame) (f : Frame) → flat_map spelling (fs ++ f ∷ []) ≡ flat_map spelling fs ++ spelling f
 spelled_more fs f = flat_map-append spelling fs (f ∷ []) ∙ ap (λ (x : List ℕ). flat_map spelling fs ++ x) (append_none (spelling f))
 
 pub link_frame : (h g : List Entry) (side : Side) (failed : Bool) (before old now : Option (List ℕ)) (taken later : ℕ) (f : Frame) (ended : Bool) → side.ended ≡ false → g ≡ h ++ entry actors.Terminal (sent_by f) ∷ [] → ended ≡ ends_link f
@@ -96,7 +96,7 @@ link_frame h g side failed before old now taken later f ended n e d (text, l, c,
       whole = λ x y. ((k.frames, f, refl, k.open' n, sym d ∙ y, a.2), refl, let b : taken + length text ≤ 16777216 = a.3 in let P' : ℕ → Type 0 = λ z. z ≤ 16777216 in subst P' (ap (λ (z : ℕ). z + length text) p.1 ∙ (sym (length-append spelt text) ∙ ap length (sym now'))) b);
     }
 
-cut_for : (f : LinkFault) → is_cut (end_for f) ≡ true
+pub cut_for : (f : LinkFault) → is_cut (end_for f) ≡ true
 cut_for faults.Failed = refl
 cut_for faults.TooLong = refl
 cut_for (faults.Bad place kind) = refl
@@ -134,7 +134,7 @@ failed_for faults.OutOfMemory e = absurd (cc)
 
 -- ---- where there is no memory
 
-going_by : (ended cut : Bool) (frames : List Frame) (now : Option (List ℕ)) → (ended ≡ false → list_all goes_on frames ≡ true) → (cut ≡ true → list_all goes_on frames ≡ true) → (cut ≡ false → ended ≡ true → IsLink frames now)
+pub going_by : (ended cut : Bool) (frames : List Frame) (now : Option (List ℕ)) → (ended ≡ false → list_all goes_on frames ≡ true) → (cut ≡ true → list_all goes_on frames ≡ true) → (cut ≡ false → ended ≡ true → IsLink frames now)
     → (list_all goes_on frames ≡ true) ⊎ IsLink frames now
 going_by false cut frames now o w i = inl (o refl)
 going_by true true frames now o w i = inl (w refl)

@@ -36,7 +36,7 @@ pub record SideStandsOf (es : List Event) (coming : List Frame) (cut ended : Boo
   pub ended' : has_ended false es ≡ ended
   pub all' : es ≡ map sent_by coming ++ hung cut
 
-to_side : (h : List Entry) (coming : List Frame) (cut ended : Bool) → SideStandsOf (sent h) coming cut ended → SideStands h coming cut ended
+pub to_side : (h : List Entry) (coming : List Frame) (cut ended : Bool) → SideStandsOf (sent h) coming cut ended → SideStands h coming cut ended
 to_side h coming cut ended k = record { follows = k.follows; after' = k.after'; ended' = k.ended'; all' = k.all' }
 
 -- another's entry
@@ -46,21 +46,21 @@ side_other h x coming cut ended n k =
     to_side (h ++ x ∷ []) coming cut ended (subst P (sym (sent-other h x n)) (record { follows = k.follows; after' = k.after'; ended' = k.ended'; all' = k.all' }))
 
 -- a frame's event
-one_more : (coming : List Frame) (f : Frame) (more : List Frame) → (coming ++ f ∷ []) ++ more ≡ coming ++ f ∷ more
+pub one_more : (coming : List Frame) (f : Frame) (more : List Frame) → (coming ++ f ∷ []) ++ more ≡ coming ++ f ∷ more
 one_more coming f more = append_assoc coming (f ∷ []) more
 
 append_none : {A : Type 0} (xs : List A) → xs ++ [] ≡ xs
 append_none [] = refl
 append_none (x ∷ xs) = ap (λ ys. x ∷ ys) (append_none xs)
 
-mapped_more : (coming : List Frame) (f : Frame) → map sent_by (coming ++ f ∷ []) ≡ map sent_by coming ++ sent_by f ∷ []
+pub mapped_more : (coming : List Frame) (f : Frame) → map sent_by (coming ++ f ∷ []) ≡ map sent_by coming ++ sent_by f ∷ []
 mapped_more [] f = refl
 mapped_more (x ∷ xs) f = ap (λ (es : List Event). sent_by x ∷ es) (mapped_more xs f)
 
 abbrev pub sender : List Frame → Bool → Sender
 sender coming ended = record { coming = coming; ended = ended }
 
-frame_follows : (es : List Event) (coming : List Frame) (f : Frame) → SideStandsOf es coming false false → SideStandsOf (es ++ sent_by f ∷ []) (coming ++ f ∷ []) false (is_last_sent (sent_by f))
+pub frame_follows : (es : List Event) (coming : List Frame) (f : Frame) → SideStandsOf es coming false false → SideStandsOf (es ++ sent_by f ∷ []) (coming ++ f ∷ []) false (is_last_sent (sent_by f))
 frame_follows es coming f k = record {
   follows = λ c i more. let begun : Sender = record { coming = coming ++ f ∷ more; ended = false } in
       let P : List Frame → Type 0 = λ fs. Along (MaySend c) sent_one (record { coming = fs; ended = false }) (es ++ sent_by f ∷ []) in
@@ -81,7 +81,7 @@ side_frame h coming f k =
     subst Q (ends_same f) (to_side (h ++ x ∷ []) (coming ++ f ∷ []) false (is_last_sent (sent_by f)) (subst P (sym (sent-own h x refl)) (frame_follows (sent h) coming f (record { follows = k.follows; after' = k.after'; ended' = k.ended'; all' = k.all' }))))
 
 -- a Hangup that is no frame
-hang_follows : (es : List Event) (coming : List Frame) → SideStandsOf es coming false false → SideStandsOf (es ++ events.Hangup ∷ []) coming true true
+pub hang_follows : (es : List Event) (coming : List Frame) → SideStandsOf es coming false false → SideStandsOf (es ++ events.Hangup ∷ []) coming true true
 hang_follows es coming k = record {
   follows = λ c i more. let begun : Sender = record { coming = coming ++ more; ended = false } in
       let Q : Sender → Type 0 = λ s. MaySend c s events.Hangup in
@@ -100,7 +100,7 @@ side_hung h coming k =
 -- ---- the turn of the terminal's side
 
 -- the event of a frame is ready where no Ask is out
-both_true : (a b : Bool) → a ≡ true → b ≡ true → (a && b) ≡ true
+pub both_true : (a b : Bool) → a ≡ true → b ≡ true → (a && b) ≡ true
 both_true a b e f = rw (e, f) refl
 
 pub frame_ready : (s : State) (f : Frame) → is_frame f ≡ true → s.asked ≡ false → is_ready s actors.Terminal (sent_by f) ≡ true
@@ -116,19 +116,19 @@ pub hangup_ready : (s : State) → is_ready s actors.Terminal events.Hangup ≡ 
 unfolding is_ready is_due
 hangup_ready s = refl
 
-failed_now : (n : ℕ) → nat_le n n ≡ true
+pub failed_now : (n : ℕ) → nat_le n n ≡ true
 failed_now n = grind (arith, nat_tests)
 
-ended_turn : (ended failed : Bool) → ended ≡ true → SideTurn ended failed None
+pub ended_turn : (ended failed : Bool) → ended ≡ true → SideTurn ended failed None
 ended_turn true failed e = refl
 ended_turn false failed e = absurd (cc)
 
-hung_turn : (ended failed : Bool) → ended ≡ false → failed ≡ true → SideTurn ended failed (Some events.Hangup)
+pub hung_turn : (ended failed : Bool) → ended ≡ false → failed ≡ true → SideTurn ended failed (Some events.Hangup)
 hung_turn false true e f = refl
 hung_turn false false e f = tt
 hung_turn true failed e f = absurd (cc)
 
-sent_turn : (ended failed : Bool) (ev : Event) → ended ≡ false → failed ≡ false → SideTurn ended failed (Some ev)
+pub sent_turn : (ended failed : Bool) (ev : Event) → ended ≡ false → failed ≡ false → SideTurn ended failed (Some ev)
 sent_turn false false ev e f = tt
 sent_turn false true ev e f = absurd (cc)
 sent_turn true failed ev e f = absurd (cc)
@@ -150,7 +150,7 @@ hangs b h ended failed e i f k = hung_turn (has_ended false (sent h)) (is_failed
 pub sends : (b : Begun) (h : List Entry) (ended failed : Bool) (ev : Event) → has_ended false (sent h) ≡ ended → ended ≡ false → failed ≡ false → FailsBy failed b.failed (paints h) → IsTurn b h actors.Terminal (Some ev)
 sends b h ended failed ev e i f k = sent_turn (has_ended false (sent h)) (is_failed b.failed (paints h)) ev (e ∙ i) (fails_false failed b.failed (paints h) f k)
 
-none_asked : (a f : Bool) → (a ≡ false) ⊎ (f ≡ true) → f ≡ false → a ≡ false
+pub none_asked : (a f : Bool) → (a ≡ false) ⊎ (f ≡ true) → f ≡ false → a ≡ false
 none_asked a f (inl e) n = e
 none_asked a true (inr e) n = absurd (cc)
 none_asked a false (inr e) n = absurd (cc)

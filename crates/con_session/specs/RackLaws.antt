@@ -30,7 +30,7 @@ or_none true = refl
 or_none false = refl
 
 -- what was added is what was, and what the entry adds
-added_one : (i : ℕ) (ts : List Turn) (t : Turn) → has_added i (ts ++ t ∷ []) ≡ (has_added i ts || adds i t.event t.reply)
+pub added_one : (i : ℕ) (ts : List Turn) (t : Turn) → has_added i (ts ++ t ∷ []) ≡ (has_added i ts || adds i t.event t.reply)
 added_one i ts t = has_added-append i ts (t ∷ []) ∙ ap (λ (b : Bool). has_added i ts || b) (or_none (adds i t.event t.reply))
 
 neither : (a b : Bool) → (a || b) ≡ false → (a ≡ false) × (b ≡ false)
@@ -56,7 +56,7 @@ apart : (a b : Bool) → (a && b) ≡ true → (a ≡ true) × (b ≡ true)
 apart true b e = (refl, e)
 apart false b e = absurd (cc)
 
-still_added : (ts : List Turn) (t : Turn) (xs : List ℕ) → list_all (λ i. has_added i ts) xs ≡ true → list_all (λ i. has_added i (ts ++ t ∷ [])) xs ≡ true
+pub still_added : (ts : List Turn) (t : Turn) (xs : List ℕ) → list_all (λ i. has_added i ts) xs ≡ true → list_all (λ i. has_added i (ts ++ t ∷ [])) xs ≡ true
 still_added ts t [] a = refl
 still_added ts t (x ∷ xs) a =
     let k = apart (has_added x ts) (list_all (λ i. has_added i ts) xs) a in
@@ -80,7 +80,7 @@ none_among ts i (x ∷ xs) a n =
     by true e m = let same : i ≡ x = grind (arith, nat_tests) in let P : ℕ → Type 0 = λ z. has_added z ts ≡ true in let yes = subst P (sym same) (apart (has_added x ts) (list_all (λ j. has_added j ts) xs) a).0 in absurd (cc)
     by false e m = m
 
-any_append : (p : ℕ → Bool) (xs : List ℕ) (y : ℕ) → list_any p (xs ++ y ∷ []) ≡ (list_any p xs || p y)
+pub any_append : (p : ℕ → Bool) (xs : List ℕ) (y : ℕ) → list_any p (xs ++ y ∷ []) ≡ (list_any p xs || p y)
 any_append p [] y = or_none (p y)
 any_append p (x ∷ xs) y = ap (λ (b : Bool). p x || b) (any_append p xs y) ∙ or_assoc (p x) (list_any p xs) (p y)
   where
@@ -88,7 +88,7 @@ any_append p (x ∷ xs) y = ap (λ (b : Bool). p x || b) (any_append p xs y) ∙
     or_assoc true b c = refl
     or_assoc false b c = refl
 
-once_more : (xs : List ℕ) (i : ℕ) → stand_once xs ≡ true → list_any (λ y. i == y) xs ≡ false → stand_once (xs ++ i ∷ []) ≡ true
+pub once_more : (xs : List ℕ) (i : ℕ) → stand_once xs ≡ true → list_any (λ y. i == y) xs ≡ false → stand_once (xs ++ i ∷ []) ≡ true
 once_more [] i o n = refl
 once_more (x ∷ xs) i o n =
     let k = apart (not (list_any (λ y. y == x) xs)) (stand_once xs) o in
@@ -114,7 +114,7 @@ rack_added ts t kinds slots left places i n a same k = record {
 abbrev pub without : ℕ → List ℕ → List ℕ
 without i xs = filter (λ x. not (x == i)) xs
 
-all_without : (p : ℕ → Bool) (i : ℕ) (xs : List ℕ) → list_all p xs ≡ true → list_all p (without i xs) ≡ true
+pub all_without : (p : ℕ → Bool) (i : ℕ) (xs : List ℕ) → list_all p xs ≡ true → list_all p (without i xs) ≡ true
 all_without p i [] a = refl
 all_without p i (x ∷ xs) a = let k = apart (p x) (list_all p xs) a in by (not (x == i)) k.0 (all_without p i xs k.1)
   where
@@ -122,7 +122,7 @@ all_without p i (x ∷ xs) a = let k = apart (p x) (list_all p xs) a in by (not 
     by true e m = both (p x) (list_all p (without i xs)) e m
     by false e m = m
 
-any_without : (p : ℕ → Bool) (i : ℕ) (xs : List ℕ) → list_any p xs ≡ false → list_any p (without i xs) ≡ false
+pub any_without : (p : ℕ → Bool) (i : ℕ) (xs : List ℕ) → list_any p xs ≡ false → list_any p (without i xs) ≡ false
 any_without p i [] a = refl
 any_without p i (x ∷ xs) a = let k = neither (p x) (list_any p xs) a in by (not (x == i)) k.0 (any_without p i xs k.1)
   where
@@ -134,7 +134,7 @@ not_true : (b : Bool) → not b ≡ true → b ≡ false
 not_true true e = absurd (cc)
 not_true false e = refl
 
-once_without : (i : ℕ) (xs : List ℕ) → stand_once xs ≡ true → stand_once (without i xs) ≡ true
+pub once_without : (i : ℕ) (xs : List ℕ) → stand_once xs ≡ true → stand_once (without i xs) ≡ true
 once_without i [] o = refl
 once_without i (x ∷ xs) o =
     let k = apart (not (list_any (λ y. y == x) xs)) (stand_once xs) o in

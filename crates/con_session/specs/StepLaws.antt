@@ -20,7 +20,7 @@ use Rattle.con_machine.specs.State.{State}
 use Rattle.con_machine.specs.Step.{step, is_ready}
 use Rattle.con_session.specs.Desk.{Enters, brief_of, is_refused}
 use Rattle.con_session.specs.Worker.{IsStance, IsWorker, ClientIs, ClientTurn, is_handlers}
-use Rattle.con_session.proofs.WorkerLaws.{own_is, going_may, due_may, begin_ready, call_ready, step_turn, none_pending}
+use Rattle.con_session.specs.WorkerLaws.{own_is, going_may, due_may, begin_ready, call_ready, step_turn, none_pending}
 use Rattle.con_session.specs.declared.desk.Brief.{Brief}
 use Rattle.con_session.specs.declared.worker.Worker.{Worker}
 
@@ -43,7 +43,7 @@ drop_one at steps = drop-drop 1 at steps
 pub due_next : (c : Client) (steps : List Step) (w : Worker) (ev : Event) → IsWorker c steps w → w.reading ≡ false → ev ≡ next_event c.left → ev ≡ due c
 due_next c steps w ev k r d = let P : Bool → Type 0 = λ x. ev ≡ (if x then events.Collect else next_event c.left) in subst P (sym (k.reading ∙ r)) d
 
-drop_end : (at : ℕ) (steps : List Step) → length steps ≤ at → drop at steps ≡ []
+pub drop_end : (at : ℕ) (steps : List Step) → length steps ≤ at → drop at steps ≡ []
 drop_end at steps m = grind (arith, common_steps)
 
 pub next_exit : (c : Client) (steps : List Step) (w : Worker) → IsWorker c steps w → length steps ≤ w.at → events.Exit 0 ≡ next_event c.left
@@ -89,7 +89,7 @@ began_turn_is b p s t h g rs qs steps w wanted brief reading i br k n l r u d en
     )
 
 -- a call that adds and removes no handler leaves the chain alone
-plain_chain : (d : Client) (call : Call) → is_handlers call ≡ false → chained d call ≡ d
+pub plain_chain : (d : Client) (call : Call) → is_handlers call ≡ false → chained d call ≡ d
 plain_chain x (calls.BufferCreate a) e = refl
 plain_chain x (calls.OpenOut a) e = refl
 plain_chain x (calls.OpenIn a) e = refl
@@ -135,7 +135,7 @@ plain_chain x (calls.Ignore a) e = refl
 plain_chain x (calls.HandlerAdd a) e = absurd (cc)
 plain_chain x (calls.HandlerRemove a) e = absurd (cc)
 
-plain_by : (d : Client) (call : Call) (b : Bool) → is_handlers call ≡ false → (if b then d else chained d call) ≡ d
+pub plain_by : (d : Client) (call : Call) (b : Bool) → is_handlers call ≡ false → (if b then d else chained d call) ≡ d
 plain_by d call true e = refl
 plain_by d call false e = plain_chain d call e
 

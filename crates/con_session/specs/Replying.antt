@@ -6,7 +6,7 @@ use Rattle.con_events.specs.declared.reply.Reply.TheVariants as replies
 use Rattle.con_machine.specs.Marks.{told}
 use Rattle.con_session.specs.Desk.{brief_of, listed}
 
-brief_told : (r : Reply) → brief_of (told r) ≡ brief_of r
+pub brief_told : (r : Reply) → brief_of (told r) ≡ brief_of r
 brief_told (replies.View v marks fresh) = refl
 brief_told replies.Done = refl
 brief_told (replies.Fail why) = refl
@@ -18,7 +18,7 @@ brief_told (replies.Cells rect cells) = refl
 brief_told (replies.Lines ls) = refl
 brief_told (replies.Ctrl n) = refl
 
-listed_told : (r : Reply) → listed (told r) ≡ listed r
+pub listed_told : (r : Reply) → listed (told r) ≡ listed r
 listed_told (replies.View v marks fresh) = refl
 listed_told replies.Done = refl
 listed_told (replies.Fail why) = refl

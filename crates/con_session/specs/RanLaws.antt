@@ -16,7 +16,7 @@ pub append_none : {A : Type 0} (xs : List A) → xs ++ [] ≡ xs
 append_none [] = refl
 append_none (x ∷ xs) = ap (λ ys. x ∷ ys) (append_none xs)
 
-ran_here : (s : State) (h : List Entry) → Ran s s h h
+pub ran_here : (s : State) (h : List Entry) → Ran s s h h
 ran_here s h = record { entries = []; after' = sym (append_none h); state = refl; legal = refl; others = refl }
 
 pub ran_same : (s t : State) (h g : List Entry) → t ≡ s → g ≡ h → Ran s t h g

@@ -71,13 +71,13 @@ without_is (h ∷ hs) i o =
     same : list_any (λ y. y == h.place) (places_in hs) ≡ false → (h.place == i) ≡ true → list_any (λ y. y == i) (places_in hs) ≡ false
     same n e = let one : h.place ≡ i = grind (arith, nat_tests) in let P : ℕ → Type 0 = λ z. list_any (λ y. y == z) (places_in hs) ≡ false in subst P one n
 
-map_remove : {A B : Type 0} (f : A → B) (xs : List A) (k : ℕ) → map f (remove xs k) ≡ remove (map f xs) k
+pub map_remove : {A B : Type 0} (f : A → B) (xs : List A) (k : ℕ) → map f (remove xs k) ≡ remove (map f xs) k
 map_remove f [] zero = refl
 map_remove f [] (suc k) = refl
 map_remove f (x ∷ xs) zero = refl
 map_remove f (x ∷ xs) (suc k) = ap (λ ys. f x ∷ ys) (map_remove f xs k)
 
-all_remove : (p : Memory → Bool) (xs : List Memory) (k : ℕ) → list_all p xs ≡ true → list_all p (remove xs k) ≡ true
+pub all_remove : (p : Memory → Bool) (xs : List Memory) (k : ℕ) → list_all p xs ≡ true → list_all p (remove xs k) ≡ true
 all_remove p [] zero a = refl
 all_remove p [] (suc k) a = refl
 all_remove p (x ∷ xs) zero a = (apart (p x) (list_all p xs) a).1
@@ -127,7 +127,7 @@ absent_hands hs doubtful places ms i e once are =
     few f m = let P : List ℕ → Type 0 = λ xs. length xs ≤ position_or_len (λ y. y == i) places in let q = subst P (sym (are.places' f)) m in let l : length (places_in hs) ≡ length hs = length-map hs (λ h. h.place) in omega (arith, q, l)
 
 -- a handler that is dropped, if there is one at the index
-dropped_by : {B : Type 0} (old new : List B) (k : ℕ) (b : Bool) (r : Result (Unit {0}) Code) → nat_lt k (length old) ≡ b → r ≡ (if b then Ok tt else Err code.BadArgument) → OnOk r (new ≡ remove old k) → OnErr r (new ≡ old) → new ≡ remove old k
+pub dropped_by : {B : Type 0} (old new : List B) (k : ℕ) (b : Bool) (r : Result (Unit {0}) Code) → nat_lt k (length old) ≡ b → r ≡ (if b then Ok tt else Err code.BadArgument) → OnOk r (new ≡ remove old k) → OnErr r (new ≡ old) → new ≡ remove old k
 dropped_by old new k true (Ok u) e f ok err = ok
 dropped_by old new k true (Err why) e f ok err = absurd (cc)
 dropped_by old new k false (Ok u) e f ok err = absurd (cc)
@@ -138,7 +138,7 @@ dropped_is old new r k e ok err = dropped_by old new k (nat_lt k (length old)) r
 
 -- ---- before the first entry
 
-full_slots : {B : Type 0} (memory : B → Memory) (xs : List B) → slots_of memory (map Some xs) ≡ map (λ x. told_kind (memory x)) xs
+pub full_slots : {B : Type 0} (memory : B → Memory) (xs : List B) → slots_of memory (map Some xs) ≡ map (λ x. told_kind (memory x)) xs
 full_slots memory [] = refl
 full_slots memory (x ∷ xs) = ap (λ (ks : List ℕ). told_kind (memory x) ∷ ks) (full_slots memory xs)
 

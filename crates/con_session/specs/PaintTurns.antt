@@ -21,11 +21,11 @@ use Rattle.con_machine.specs.Step.{is_ready}
 use Rattle.con_machine.specs.Turns.{paints}
 use Rattle.con_session.specs.Painting.{IsTied, Pictures}
 use Rattle.con_session.specs.Sender.{FailsBy}
-use Rattle.con_session.proofs.SenderLaws.{fails_true, fails_false}
+use Rattle.con_session.specs.SenderLaws.{fails_true, fails_false}
 
 -- ---- a picture for the painter
 
-row_last : (o : Option View) (v : View) (y : ℕ) (cells : List Glyph) → option_map (λ x. x.rows) o ≡ Some cells → IsSameRow o v y → row_of v.size.w v.rows y ≡ row_of v.size.w cells y
+pub row_last : (o : Option View) (v : View) (y : ℕ) (cells : List Glyph) → option_map (λ x. x.rows) o ≡ Some cells → IsSameRow o v y → row_of v.size.w v.rows y ≡ row_of v.size.w cells y
 row_last None v y cells e k = absurd k
 row_last (Some last) v y cells e k = k ∙ ap (λ (c : List Glyph). row_of v.size.w c y) (let f : last.rows ≡ cells = cc in f)
 

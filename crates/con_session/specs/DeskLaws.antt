@@ -20,7 +20,7 @@ pub entered_run : (start s t : State) (h g : List Entry) (rs qs : List Reply) (a
 entered_run start s t h g rs qs a e i n =
     n.state ∙ (ap (λ (z : State). moved z (entry a e)) i ∙ (sym (run_one start h (entry a e)) ∙ ap (λ (z : List Entry). run start z) (sym n.entries)))
 
-listed_one : (start : State) (h : List Entry) (x : Entry) → map listed (replies_of start (h ++ x ∷ [])) ≡ map listed (replies_of start h) ++ listed (step (run start h) x.actor x.event).reply ∷ []
+pub listed_one : (start : State) (h : List Entry) (x : Entry) → map listed (replies_of start (h ++ x ∷ [])) ≡ map listed (replies_of start h) ++ listed (step (run start h) x.actor x.event).reply ∷ []
 listed_one start h x = ap (λ (rs : List Reply). map listed rs) (replies-append start h (x ∷ [])) ∙ map-append listed (replies_of start h) (replies_of (run start h) (x ∷ []))
 
 pub stands_one : (start s t : State) (h g : List Entry) (rs qs : List Reply) (a : Actor) (e : Event) → Enters s t h g rs qs a e → is_ready s a e ≡ true → Stands start s h rs → Stands start t g qs

@@ -24,9 +24,9 @@ use Rattle.con_machine.specs.Step.{step, is_ready}
 use Rattle.con_machine.specs.Turns.{Turn, turns, turn_of, is_pending}
 use Rattle.con_session.specs.Desk.{Enters, entry, brief_of, is_refused}
 use Rattle.con_session.specs.Worker.{IsStance, IsWorker, ClientIs, Acts, ClientTurn, HandsAre, HandsStand, HandsTurn, IsRack, places_in}
-use Rattle.con_session.proofs.RackLaws.{own_turns, rack_added, rack_removed, without}
-use Rattle.con_session.proofs.StepLaws.{due_next, drop_one, refused_is}
-use Rattle.con_session.proofs.WorkerLaws.{own_is, going_may, due_may, call_ready, step_turn, none_pending, with_hands}
+use Rattle.con_session.specs.RackLaws.{own_turns, rack_added, rack_removed, without}
+use Rattle.con_session.specs.StepLaws.{due_next, drop_one, refused_is}
+use Rattle.con_session.specs.WorkerLaws.{own_is, going_may, due_may, call_ready, step_turn, none_pending, with_hands}
 use Rattle.con_session.specs.declared.desk.Brief.{Brief}
 use Rattle.con_session.specs.declared.worker.Worker.{Worker}
 
@@ -48,7 +48,7 @@ call_acts b p s t h g rs qs steps w call k n l r u d en =
     }
 
 -- the client after it, but for its handlers
-stepped : (c d : Client) (steps : List Step) (w : Worker) → IsWorker c steps w → w.gone ≡ false → w.leaving ≡ false → d.left ≡ drop 1 c.left → d.reading ≡ c.reading → d.stance ≡ GoesOn → IsWorker d steps (record w { at = w.at + 1 })
+pub stepped : (c d : Client) (steps : List Step) (w : Worker) → IsWorker c steps w → w.gone ≡ false → w.leaving ≡ false → d.left ≡ drop 1 c.left → d.reading ≡ c.reading → d.stance ≡ GoesOn → IsWorker d steps (record w { at = w.at + 1 })
 stepped c d steps w k n l left reading stance = record {
   left = left ∙ (ap (λ (x : List Step). drop 1 x) k.left ∙ drop_one w.at steps);
   reading = reading ∙ k.reading;
@@ -57,14 +57,14 @@ stepped c d steps w k n l left reading stance = record {
 
 -- ---- one that was refused
 
-refused_entry : (c : Client) (call : Call) (r : Reply) → is_fail r ≡ true → entered c (events.Call call) r ≡ record c { left = drop 1 c.left; stance = GoesOn }
+pub refused_entry : (c : Client) (call : Call) (r : Reply) → is_fail r ≡ true → entered c (events.Call call) r ≡ record c { left = drop 1 c.left; stance = GoesOn }
 refused_entry c call r e = by (is_fail r) e
   where
     by : (b : Bool) → b ≡ true → (if b then record c { left = drop 1 c.left; stance = GoesOn } else chained (record c { left = drop 1 c.left; stance = GoesOn }) call) ≡ record c { left = drop 1 c.left; stance = GoesOn }
     by true e = refl
     by false e = absurd (cc)
 
-granted_entry : (c : Client) (call : Call) (r : Reply) → is_fail r ≡ false → entered c (events.Call call) r ≡ chained (record c { left = drop 1 c.left; stance = GoesOn }) call
+pub granted_entry : (c : Client) (call : Call) (r : Reply) → is_fail r ≡ false → entered c (events.Call call) r ≡ chained (record c { left = drop 1 c.left; stance = GoesOn }) call
 granted_entry c call r e = by (is_fail r) e
   where
     by : (b : Bool) → b ≡ false → (if b then record c { left = drop 1 c.left; stance = GoesOn } else chained (record c { left = drop 1 c.left; stance = GoesOn }) call) ≡ chained (record c { left = drop 1 c.left; stance = GoesOn }) call
@@ -97,7 +97,7 @@ refused_turn b p s t h g rs qs steps w call places ms slots f k n l r u d en are
 
 -- ---- one that was done
 
-adds_here : (place j : ℕ) (r : Reply) → is_fail r ≡ false → adds j (events.Call (calls.HandlerAdd place)) r ≡ (place == j)
+pub adds_here : (place j : ℕ) (r : Reply) → is_fail r ≡ false → adds j (events.Call (calls.HandlerAdd place)) r ≡ (place == j)
 adds_here place j r f = by (place == j) (is_fail r) f
   where
     by : (x y : Bool) → y ≡ false → (x && not y) ≡ x
@@ -137,7 +137,7 @@ added_turn b p s t h g rs qs steps w place places now ms after' slots left f k n
       },
     )
 
-places_without : (hs : List Handler) (place : ℕ) → places_in (without_handler hs place) ≡ without place (places_in hs)
+pub places_without : (hs : List Handler) (place : ℕ) → places_in (without_handler hs place) ≡ without place (places_in hs)
 places_without [] place = refl
 places_without (h ∷ hs) place = by (not (h.place == place)) (places_without hs place)
   where
