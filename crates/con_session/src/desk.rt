@@ -40,7 +40,8 @@ pub struct Picture {
     pub fresh: bool,
 }
 
-fn brief_for(reply: &Reply) -> Brief
+/// What a client looks at in this reply.
+pub fn brief_for(reply: &Reply) -> Brief
     ensures { result ≡ brief_of reply.now }
 {
     match reply {
@@ -50,7 +51,8 @@ fn brief_for(reply: &Reply) -> Brief
     }
 }
 
-fn as_listed(reply: Reply) -> Reply
+/// A reply as a session lists it.
+pub fn as_listed(reply: Reply) -> Reply
     ensures { result ≡ listed reply }
 {
     match reply {

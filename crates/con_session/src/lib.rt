@@ -14,6 +14,10 @@
 //!
 //! [`run_solo`] runs a whole session by rounds of these turns, on one thread, and leaves an [`Outcome`].
 //!
+//! A session that goes another way than by rounds begins by [`begun`], too, and finds the parts of a turn here: [`draw`] with
+//! [`frame_length`] and [`end_after`], [`event_for`] with [`ends_the_link`] and [`end_by_fault`], [`brief_for`] with [`is_granted`] and [`must_leave`].
+//! The laws of these turns stand beside their words.
+//!
 //! Where there is no memory a turn entered nothing, or one event that it may, and says so.
 #![tactic(auto)]
 
@@ -28,13 +32,14 @@ mod terminal;
 mod worker;
 
 pub use copying::{copied_call, copied_wanted};
-pub use desk::{Brief, Desk, Picture};
+pub use desk::{Brief, Desk, Picture, as_listed, brief_for};
 pub use hands::Hands;
-pub use painting::{Canvas, painter_turn};
+pub use painting::{Canvas, draw, end_after, frame_length, painter_turn};
 pub use seat::{Seat, client_turn, clients_turn};
-pub use solo::{Outcome, run_solo};
-pub use terminal::{Side, terminal_turn};
+pub use solo::{Outcome, nothing_left, run_solo};
+pub use stage::{Stage, begun};
+pub use terminal::{Side, end_by_fault, ends_the_link, event_for, terminal_turn};
 pub use worker::{
-    CTRL_EXIT, Worker, begin, call_add, call_plain, call_remove, collect, leave, next_step,
-    take_ctrl,
+    CTRL_EXIT, Worker, begin, call_add, call_plain, call_remove, collect, is_granted, leave,
+    must_leave, next_step, take_ctrl,
 };

@@ -42,8 +42,8 @@ fn ready_for(painter: &mut Painter, size: Size, fresh: bool) -> Result<(), OutOf
     Ok(())
 }
 
-// A frame of the picture.
-fn frame(painter: &mut Painter, out: &mut Vec<u8>, picture: &Picture) -> Result<(), OutOfMemory>
+/// Writes a frame of the picture to `out`, in the place of what was there. The painter then knows the terminal to show it.
+pub fn draw(painter: &mut Painter, out: &mut Vec<u8>, picture: &Picture) -> Result<(), OutOfMemory>
     requires whole { IsWhole picture.now.view }
     requires window { IsWindow picture.now.view.size.w picture.now.view.size.h }
     requires marks { length picture.now.marks ≡ picture.now.view.size.h }
@@ -64,13 +64,15 @@ fn frame(painter: &mut Painter, out: &mut Vec<u8>, picture: &Picture) -> Result<
     Ok(())
 }
 
-fn length_of(out: &Vec<u8>) -> usize
+/// How many bytes a frame has.
+pub fn frame_length(out: &Vec<u8>) -> usize
     ensures { result ≡ length out.now.items }
 {
     out.as_slice().len()
 }
 
-fn and_after(end: u64, more: usize) -> Result<u64, OutOfMemory>
+/// Where a frame of so many bytes ends in the stream, if the one before it ends here.
+pub fn end_after(end: u64, more: usize) -> Result<u64, OutOfMemory>
     ensures { IfOk result (λ n. n ≡ end + more) }
 {
     match end.checked_add(more as u64) {
@@ -106,8 +108,8 @@ pub fn painter_turn<O: Sink>(
         return Err(OutOfMemory);
     }
     let picture = desk.paint()?;
-    frame(&mut canvas.painter, &mut canvas.out, &picture)?;
-    let end = and_after(canvas.end, length_of(&canvas.out))?;
+    draw(&mut canvas.painter, &mut canvas.out, &picture)?;
+    let end = end_after(canvas.end, frame_length(&canvas.out))?;
     canvas.end = end;
     canvas.ends.push_reserved(end);
     match write_whole(term, canvas.out.as_slice()) {

@@ -137,8 +137,8 @@ fn left_by(stage: Stage, end: End) -> Outcome
     }
 }
 
-// What is left where there was no memory to begin with.
-fn nothing_left(alloc: Global) -> Outcome
+/// What is left where there was no memory to begin with.
+pub fn nothing_left(alloc: Global) -> Outcome
     ensures entries { result.entries ≡ [] }
     ensures replies { result.replies ≡ [] }
     ensures ends { result.ends ≡ [] }

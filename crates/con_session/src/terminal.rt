@@ -21,13 +21,15 @@ pub struct Side {
     pub end: End,
 }
 
-fn ends(frame: &Frame) -> bool
+/// Whether no frame comes behind this one.
+pub fn ends_the_link(frame: &Frame) -> bool
     ensures { result ≡ ends_link frame.now }
 {
     matches!(frame, Frame::End | Frame::Hangup)
 }
 
-fn event_for(frame: Frame) -> Event
+/// What the terminal's side enters for a frame.
+pub fn event_for(frame: Frame) -> Event
     ensures { result ≡ sent_by frame }
 {
     match frame {
@@ -41,7 +43,7 @@ fn event_for(frame: Frame) -> Event
 }
 
 /// How a session ends where no frame was read.
-fn end_by(fault: LinkFault) -> End
+pub fn end_by_fault(fault: LinkFault) -> End
     ensures { result ≡ end_for fault }
 {
     match fault {
@@ -81,7 +83,7 @@ pub fn terminal_turn<I: Source>(
     }
     match reader.next(link) {
         Ok(frame) => {
-            let ends = ends(&frame);
+            let ends = ends_the_link(&frame);
             desk.enter(Actor::Terminal, event_for(frame))?;
             side.ended = ends;
             Ok(true)
@@ -90,7 +92,7 @@ pub fn terminal_turn<I: Source>(
         Err(fault) => {
             desk.enter(Actor::Terminal, Event::Hangup)?;
             side.ended = true;
-            side.end = end_by(fault);
+            side.end = end_by_fault(fault);
             Ok(true)
         }
     }

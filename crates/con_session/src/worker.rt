@@ -73,7 +73,8 @@ pub fn collect(
     Ok(true)
 }
 
-fn must_leave(event: u32, handled: bool) -> bool
+/// Whether a control event calls for the exit: where no handler handled it, and where it is the close event.
+pub fn must_leave(event: u32, handled: bool) -> bool
     ensures { result ≡ ((event == 2) || not handled) }
 {
     event == 2 || !handled
@@ -107,7 +108,8 @@ pub fn take_ctrl(
     }
 }
 
-fn is_granted(brief: Brief) -> bool
+/// Whether a reply is no refusal.
+pub fn is_granted(brief: Brief) -> bool
     ensures { result ≡ not (is_refused brief) }
 {
     !matches!(brief, Brief::Refused)

@@ -13,15 +13,15 @@ returns-then-failed-clause-link g c = λ before k. link_hung _ _ _ _ _ _ _ c.if-
 
 pub returns-in_ok-enter-in-Ok-clause-link : goal.returns-in_ok-enter-in-Ok-clause-link
 returns-in_ok-enter-in-Ok-clause-link g c = λ before k. link_frame _ _ _ _ _ _ _ _ _ c.in-Ok.frame _ c.if-side.false
-    (c.in_ok-enter-in-Ok.ensures.entered.entries ∙ ap (λ (e : Event). c.args.desk.now.entries.items ++ entry actors.Terminal e ∷ []) c.event_for.ensures) c.ends-ends.ensures c.in-Ok.ensures.took k
+    (c.in_ok-enter-in-Ok.ensures.entered.entries ∙ ap (λ (e : Event). c.args.desk.now.entries.items ++ entry actors.Terminal e ∷ []) c.event_for.ensures) c.ends_the_link-ends.ensures c.in-Ok.ensures.took k
 
 pub returns-in_ok-enter-in-Err : goal.returns-in_ok-enter-in-Err
 returns-in_ok-enter-in-Err g c = record {
   few = λ e. absurd (cc);
   ran = c.in_ok-enter-in-Err.ensures.ran;
   turn = λ b f e. record { event = events.Hangup; enters = c.in_ok-enter-in-Err.ensures.entered; ready = hangup_ready c.args.desk.now.console.state; turn = sends b c.args.desk.now.entries.items _ _ events.Hangup e c.if-side.false c.if-failed.false f };
-  link = λ before k. link_fault _ _ _ _ _ _ _ _ _ c.in-Err.fault _ c.if-side.false c.in_ok-enter-in-Err.ensures.entered.entries c.end_by-side.ensures c.in-Err.ensures.took k;
-  failed = λ e. inr (c.in-Err.ensures.failed (ap (λ f. Err f) (failed_for c.in-Err.fault (sym c.end_by-side.ensures ∙ e))));
+  link = λ before k. link_fault _ _ _ _ _ _ _ _ _ c.in-Err.fault _ c.if-side.false c.in_ok-enter-in-Err.ensures.entered.entries c.end_by_fault-side.ensures c.in-Err.ensures.took k;
+  failed = λ e. inr (c.in-Err.ensures.failed (ap (λ f. Err f) (failed_for c.in-Err.fault (sym c.end_by_fault-side.ensures ∙ e))));
   never_falls = c.in-Err.ensures.never_falls;
 }
 
