@@ -1,7 +1,7 @@
 -- A refused call on aliases leaves them as they are.
 use Rattle.std.proofs.Common.{◌≡◌, ◌||◌, Bool, true, false, cond, List, [], ◌∷◌, ◌++◌, ℕ, Option, Some, None, is_some, Ok, Err, refl, sym, ap, ◌∙◌}
 use Rattle.con_alias.proofs.Entries.{with-full}
-use Rattle.con_alias.specs.Aliases.{Entry, AliasList, entry_of, find_entry, without_entry, with_entry, is_full, entries_in, is_known, changed_in, empty_list, is_bad, is_no_source, is_over, alias_at, added, add_answer, removed, remove_answer}
+use Rattle.con_alias.specs.Aliases.{Entry, AliasList, entry_of, find_entry, without_entry, with_entry, is_full, entries_in, is_known, changed_in, is_bad, is_no_source, is_over, alias_at, added, add_answer, removed, remove_answer}
 use Rattle.con_units.specs.Units.{same_units}
 use Rattle.con_alias.specs.Aliases.{same_name}
 use Rattle.con_units.specs.declared.code.Code.TheVariants as code

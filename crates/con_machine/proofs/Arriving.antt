@@ -1,5 +1,5 @@
 -- What comes from the terminal leaves alone, and bytes one after the other.
-use Rattle.std.proofs.Common.{◌≡◌, ℕ, zero, suc, ◌+◌, ◌-◌, ◌*◌, ◌<◌, ◌≤◌, Bool, true, false, not, ◌&&◌, cond, List, [], ◌∷◌, ◌++◌, length, map, drop, get_or, Option, None, Some, refl, sym, ap, ◌∙◌, arith, length-append}
+use Rattle.std.proofs.Common.{◌≡◌, ℕ, suc, ◌+◌, ◌-◌, ◌*◌, ◌<◌, ◌≤◌, Bool, true, false, not, ◌&&◌, cond, List, [], ◌∷◌, ◌++◌, length, map, drop, get_or, Option, None, Some, refl, sym, ap, ◌∙◌, arith, length-append}
 use Rattle.std.specs.Prelude.{fold, option_to_list, if◌then◌else◌}
 use Rattle.std.proofs.Math.Seq.{drop-cons}
 use Rattle.std.proofs.lemmas.List.{length-map, drop_all}
@@ -12,16 +12,16 @@ use Rattle.con_cooked.specs.declared.cooked.Cooked.{Cooked}
 use Rattle.con_mouse.specs.Reports.{report_of}
 use Rattle.con_mouse.specs.declared.report.Report.{Report}
 use Rattle.con_readers.specs.Act.{Act, began, typed, passed, ended, woke}
-use Rattle.con_readers.specs.Reads.{Settled, settled}
+use Rattle.con_readers.specs.Reads.{settled}
 use Rattle.con_vtin.specs.Keys.{grammar, is_front, whole}
 use Rattle.con_vtin.specs.Pieces.{Piece, Typed, Ended, piece_grammar, typed as keys_typed, ended_piece, ended_by, is_control, gives_none, IsReadInPieces}
 use Rattle.con_vtin.specs.Sequences.{key_units, sent}
 use Rattle.con_machine.specs.State.{State, noted_of}
 use Rattle.con_machine.specs.Outcome.{has_bit}
 use Rattle.con_machine.specs.ScreenCalls.{reported}
-use Rattle.con_machine.specs.Serving.{followed, line_shown, line_finished, line_woken, shows_line, with_echo, settled_from, settled_state}
+use Rattle.con_machine.specs.Serving.{followed, line_shown, line_finished, shows_line, settled_state}
 use Rattle.con_machine.specs.Signals.{signalled_to}
-use Rattle.con_machine.specs.Terminal.{is_break, key_taken, by_report, report_taken, sequence_taken, piece_taken, records_of, released_key, fed}
+use Rattle.con_machine.specs.Terminal.{is_break, key_taken, by_report, sequence_taken, piece_taken, records_of, released_key, fed}
 use Rattle.con_machine.specs.Feeding.{byte_taken, stored_count, told_report, report_taken_in}
 use Rattle.con_machine.specs.declared.noted.Noted.{Noted}
 

@@ -1,5 +1,5 @@
 -- Worked histories with the fates of their records, computed on the definitions.
-use Rattle.std.specs.Prelude.{ℕ, ◌≡◌, refl, true, List, [], ◌∷◌, ◌++◌, length, map, codes, Option, Some, None, Bool, false}
+use Rattle.std.specs.Prelude.{ℕ, ◌≡◌, refl, true, List, [], ◌∷◌, ◌++◌, length, map, codes, Option, Some, None, false}
 use Rattle.std.specs.Prelude.{ℕ, ◌≡◌, refl, true, List, ◌∷◌, ◌++◌, codes, Some, None}
 use Rattle.con_units.specs.Split.{next, split_after}
 use Rattle.con_units.specs.declared.code.Code.TheVariants as code

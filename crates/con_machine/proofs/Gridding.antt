@@ -1,5 +1,5 @@
 -- Other cells on a screen that was lent.
-use Rattle.std.proofs.Common.{◌≡◌, ℕ, ◌+◌, ◌<◌, ◌≤◌, List, Option, Ok, Err, refl, sym, ap, subst, ◌∙◌}
+use Rattle.std.proofs.Common.{◌≡◌, ℕ, ◌+◌, ◌<◌, ◌≤◌, List, Option, Ok, Err, sym, ap, subst, ◌∙◌}
 use Rattle.std.specs.Prelude.{Result, IfOk, IfErr, OnErr}
 use Rattle.con_units.specs.Glyph.{Glyph}
 use Rattle.con_units.specs.declared.code.Code.{Code}

@@ -1,15 +1,14 @@
 -- What is known of the view that was painted last, where it is seen in the same place.
-use Rattle.std.proofs.Common.{◌≡◌, ℕ, zero, suc, ◌+◌, ◌<◌, inl, inr, Bool, true, false, not, ◌||◌, cond, List, [], ◌∷◌, ◌++◌, length, map, get_or, replicate, Option, None, Some, refl, sym, ap, subst, ◌∙◌, arith}
+use Rattle.std.proofs.Common.{◌≡◌, ℕ, zero, suc, ◌+◌, ◌<◌, inl, inr, Bool, true, false, not, ◌||◌, List, [], ◌∷◌, ◌++◌, length, map, get_or, replicate, Option, None, Some, refl, sym, ap, subst, ◌∙◌, arith}
 use Rattle.std.specs.Prelude.{IsSome, IfSome, ◌↔◌, is_none}
 use Rattle.std.specs.Option.{option_map}
 use Rattle.std.proofs.Math.Seq.{get_or-append_seam}
 use Rattle.std.proofs.lemmas.Bool.{cases_eq}
 use Rattle.std.proofs.lemmas.Grind.{replicate_next}
 use Rattle.std.proofs.lemmas.List.{get_or_append_left}
-use Rattle.con_units.specs.View.{row_of}
 use Rattle.con_units.specs.declared.view.View.{View}
 use Rattle.con_screen.specs.Alternate.{Sides, sides}
-use Rattle.con_screens.specs.Buffers.{Buffers, AreBuffers, buffer_at, screen_at, is_alternate}
+use Rattle.con_screens.specs.Buffers.{Buffers, AreBuffers, buffer_at, screen_at}
 use Rattle.con_screens.specs.Stamps.{Remembered, remembered, all_remembered, WasShown, IsAsShown}
 use Rattle.con_screens.specs.StampLaws.{remembers_shown}
 use Rattle.con_screens.specs.View.{view_of}

@@ -1,5 +1,5 @@
 -- A handle is opened, or closed: buffers count it.
-use Rattle.std.proofs.Common.{◌≡◌, ◌≢◌, ℕ, ◌+◌, ◌<◌, ◌≤◌, Bool, true, false, cond, List, Option, None, Some, Ok, Err, refl, sym, ap, subst, ◌∙◌, arith}
+use Rattle.std.proofs.Common.{◌≡◌, ◌≢◌, ℕ, ◌+◌, ◌<◌, Bool, true, false, cond, List, Option, None, Some, Ok, Err, refl, sym, ap, subst, ◌∙◌, arith}
 use Rattle.std.specs.Prelude.{Result, ◌==◌}
 use Rattle.std.proofs.lemmas.Bool.Decides.{nat_tests}
 use Rattle.con_units.specs.declared.code.Code.{Code}
@@ -11,7 +11,7 @@ use Rattle.con_handles.specs.Tables.{IsTable, tally, on}
 use Rattle.con_handles.specs.declared.handle.Handle.{Handle}
 use Rattle.con_handles.specs.declared.handle.Object.{Object}
 use Rattle.con_handles.specs.declared.handle.Object.TheVariants as object
-use Rattle.con_screens.specs.Buffers.{Buffers, IsLive, handles_of, created, free_id}
+use Rattle.con_screens.specs.Buffers.{Buffers, handles_of, created, free_id}
 use Rattle.con_screens.specs.HandleLaws.{retained_handles, released_handles, created_handles}
 use Rattle.con_machine.specs.HandleCalls.{retained, released, created_buffer, buffer_made}
 use Rattle.con_machine.specs.Outcome.{refused, are_rights}

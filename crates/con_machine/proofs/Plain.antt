@@ -1,5 +1,5 @@
 -- No answer of a step has a mark: none but a Paint's is a view, and that has none in the definition.
-use Rattle.std.proofs.Common.{◌≡◌, ℕ, ℤ, pos, ◌&&◌, ◌==◌, ◌++◌, Bool, true, false, cond, not, min, nat_lt, nat_le, List, [], length, map, take, Option, None, Some, refl}
+use Rattle.std.proofs.Common.{◌≡◌, ℕ, pos, ◌&&◌, ◌==◌, ◌++◌, Bool, true, false, cond, not, min, nat_lt, nat_le, List, [], length, map, take, Option, None, Some, refl}
 use Rattle.std.specs.Prelude.{Result, Ok, Err, slice_get}
 use Rattle.con_units.specs.Attr.{plain}
 use Rattle.con_units.specs.Glyph.{Glyph, cell_of}
@@ -45,7 +45,7 @@ use Rattle.con_machine.specs.LineCalls.{info_numbers, history_configured, told_a
 use Rattle.con_machine.specs.Marks.{told}
 use Rattle.con_machine.specs.Outcome.{Outcome, refused, answered, done, by_answer, by_result, checked, while_open, guard, has_bit, with_object, on_input, on_buffer, buffer_of, are_rights}
 use Rattle.con_machine.specs.ProcessCalls.{is_no_signal, on_place}
-use Rattle.con_machine.specs.Reads.{began, began_line, began_units, history_used, with_read, read_answer, records_answer, collected, took_ctrl, answer_told, units_told}
+use Rattle.con_machine.specs.Reads.{began, began_line, began_units, history_used, with_read, read_answer, records_answer, collected, took_ctrl, answer_told}
 use Rattle.con_machine.specs.ScreenCalls.{page_of, with_page, with_screen, mode_in, is_input_mode, mode_changed, numbers_of, is_size, refitted_at, is_place, is_origin, cursor_numbers, written_to}
 use Rattle.con_machine.specs.Signals.{signalled_to}
 use Rattle.con_machine.specs.State.{State, id_of, noted_of, without_noted}

@@ -3,7 +3,7 @@ use Rattle.std.proofs.Common.{◌≡◌, ℕ, zero, suc, List, [], ◌∷◌, ma
 use Rattle.std.specs.Option.{option_map, option_map_or}
 use Rattle.con_units.specs.declared.place.Size.{Size}
 use Rattle.con_handles.specs.declared.handle.Handle.{Handle}
-use Rattle.con_screens.specs.Buffers.{Buffers, handles_of}
+use Rattle.con_screens.specs.Buffers.{Buffers}
 use Rattle.con_screens.specs.Resize.{buffer_resized, all_resized}
 use Rattle.con_screens.specs.declared.buffer.Buffer.{Buffer}
 use Rattle.con_machine.specs.Sound.{AreCounted}

@@ -1,5 +1,5 @@
 -- Worked histories, computed on the definitions.
-use Rattle.std.specs.Prelude.{ℕ, ℤ, pos, negsuc, ◌≡◌, refl, true, false, List, [], ◌∷◌, ◌++◌, replicate, codes, Some, None}
+use Rattle.std.specs.Prelude.{ℕ, ℤ, pos, negsuc, ◌≡◌, refl, true, false, List, [], ◌∷◌, ◌++◌, codes}
 use Rattle.con_units.specs.Split.{next, split_after}
 use Rattle.con_units.specs.declared.code.Code.TheVariants as code
 use Rattle.con_events.specs.declared.actor.Actor.TheVariants as actors
@@ -32,7 +32,7 @@ use Rattle.con_readers.specs.Reads.{settled}
 use Rattle.con_readers.specs.Serving.{served}
 use Rattle.con_readers.specs.Wants.{units_of, rest_of}
 use Rattle.con_machine.specs.State.{State, opening}
-use Rattle.con_machine.specs.History.{run, replies_of, is_legal}
+use Rattle.con_machine.specs.History.{replies_of, is_legal}
 use Rattle.con_machine.specs.Step.{step, effect, is_due, is_ready}
 use Rattle.con_machine.specs.Call.{called}
 use Rattle.con_machine.specs.Serving.{settled_state}

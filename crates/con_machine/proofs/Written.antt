@@ -1,13 +1,13 @@
 -- A text that is written on a buffer: what it tells, and what stays.
-use Rattle.std.proofs.Common.{◌≡◌, ℕ, zero, suc, ◌+◌, ◌*◌, ◌≤◌, Bool, true, false, cond, List, [], ◌∷◌, length, get_or, set, Option, None, Some, refl, sym, ap, subst, ◌∙◌, arith}
+use Rattle.std.proofs.Common.{◌≡◌, ℕ, zero, suc, ◌+◌, ◌*◌, ◌≤◌, Bool, true, false, List, [], ◌∷◌, length, get_or, set, Option, None, Some, refl, sym, subst, ◌∙◌, arith}
 use Rattle.std.specs.Prelude.{fold}
 use Rattle.std.specs.Option.{option_map, option_map_or}
 use Rattle.con_handles.specs.declared.handle.Handle.{Handle}
 use Rattle.con_screen.specs.Laws.{IsToldWithin}
 use Rattle.con_screen.specs.Told.{nothing_told}
 use Rattle.con_screen.specs.Written.{written, switches}
-use Rattle.con_screens.specs.Buffer.{BufferStage, alternate_on, alternate_off, turned, carried, unit_written, written_on, buffer_written, told_on}
-use Rattle.con_screens.specs.Buffers.{Buffers, buffer_at, handles_of, with_buffer}
+use Rattle.con_screens.specs.Buffer.{BufferStage, turned, carried, unit_written, written_on, buffer_written, told_on}
+use Rattle.con_screens.specs.Buffers.{Buffers, with_buffer}
 use Rattle.con_screens.specs.declared.buffer.Buffer.{Buffer}
 use Rattle.con_machine.specs.Sound.{AreCounted}
 

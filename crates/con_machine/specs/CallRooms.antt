@@ -1,10 +1,9 @@
 -- The memory that each call is given.
-use Rattle.std.specs.Prelude.{ℕ, ◌≡◌, ◌≤◌, ◌<◌, ◌*◌, Bool, true, false, List, length, Option, IsTrue}
+use Rattle.std.specs.Prelude.{ℕ, ◌≡◌, ◌≤◌, ◌<◌, ◌*◌, Bool, true, false, List, length, IsTrue}
 use Rattle.con_alias.specs.Room.{room_for, has_room}
 use Rattle.con_events.specs.declared.call.Call.{Call}
 use Rattle.con_events.specs.declared.call.Call.TheVariants as calls
 use Rattle.con_events.specs.declared.call.Words.{Words}
-use Rattle.con_events.specs.declared.reply.Reply.{Reply}
 use Rattle.con_handles.specs.declared.handle.Kind.TheVariants as kind
 use Rattle.con_history.specs.Histories.{room_for_configure}
 use Rattle.con_screen.specs.Told.{nothing_told}

@@ -1,5 +1,5 @@
 -- Calls on the cells of the shown screen of a buffer: rectangles and runs.
-use Rattle.std.specs.Prelude.{ℕ, ℤ, ◌==◌, ◌&&◌, Bool, true, not, nat_lt, List, [], ◌∷◌, length, map, replicate, Option, Result, Ok, Err, if◌then◌else◌}
+use Rattle.std.specs.Prelude.{ℕ, ℤ, ◌==◌, ◌&&◌, Bool, true, nat_lt, List, [], ◌∷◌, length, map, replicate, Option, Result, Ok, Err, if◌then◌else◌}
 use Rattle.con_units.specs.Attr.{plain}
 use Rattle.con_units.specs.Glyph.{Glyph, cell_of}
 use Rattle.con_units.specs.declared.code.Code.{Code}

@@ -1,5 +1,5 @@
 -- A history: events of actors, one after another.
-use Rattle.std.specs.Prelude.{ℕ, ◌&&◌, Bool, true, List, [], ◌∷◌}
+use Rattle.std.specs.Prelude.{◌&&◌, Bool, true, List, [], ◌∷◌}
 use Rattle.con_machine.specs.State.{State}
 use Rattle.con_machine.specs.Step.{step, is_ready}
 use Rattle.con_events.specs.declared.entry.Entry.{Entry}

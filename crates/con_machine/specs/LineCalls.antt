@@ -1,5 +1,5 @@
 -- Calls on histories and aliases.
-use Rattle.std.specs.Prelude.{ℕ, ℤ, pos, not, List, [], ◌∷◌, ◌++◌, map, Option, None, Some, if◌then◌else◌}
+use Rattle.std.specs.Prelude.{ℕ, ℤ, pos, not, List, [], ◌∷◌, ◌++◌, map, Option, None, Some}
 use Rattle.con_units.specs.declared.code.Code.TheVariants as code
 use Rattle.con_procs.specs.Procs.{program_of}
 use Rattle.con_history.specs.Histories.{lines_of, cleared, configured, is_refused}

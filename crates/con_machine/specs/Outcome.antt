@@ -1,5 +1,5 @@
 -- What an event comes to, and what stands before each call.
-use Rattle.std.specs.Prelude.{ℕ, ◌==◌, ◌&&◌, Bool, not, nat_le, nat_lt, List, Option, None, Some, Result, Ok, Err, bit_and, if◌then◌else◌}
+use Rattle.std.specs.Prelude.{ℕ, ◌==◌, ◌&&◌, Bool, not, nat_le, nat_lt, Result, Ok, Err, bit_and, if◌then◌else◌}
 use Rattle.con_units.specs.declared.code.Code.{Code}
 use Rattle.con_units.specs.declared.code.Code.TheVariants as code
 use Rattle.con_units.specs.declared.view.BufferId.{BufferId}

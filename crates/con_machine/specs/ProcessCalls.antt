@@ -1,5 +1,5 @@
 -- Calls on processes, control events and handlers.
-use Rattle.std.specs.Prelude.{ℕ, ℤ, pos, ◌==◌, ◌&&◌, ◌||◌, Bool, not, nat_lt, nat_le, List, map, if◌then◌else◌}
+use Rattle.std.specs.Prelude.{ℕ, pos, ◌==◌, ◌&&◌, ◌||◌, Bool, not, nat_lt, nat_le, List, map, if◌then◌else◌}
 use Rattle.con_units.specs.declared.code.Code.TheVariants as code
 use Rattle.con_procs.specs.Procs.{ids_of, group_known, ignoring, add_answer, handler_added, remove_answer, handler_removed}
 use Rattle.con_procs.specs.declared.proc.Proc.{Proc}

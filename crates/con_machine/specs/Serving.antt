@@ -1,5 +1,5 @@
 -- Open reads are served, and what happens shows on the screen.
-use Rattle.std.specs.Prelude.{ℕ, ℤ, pos, ◌+◌, ◌-◌, ◌*◌, ◌/◌, ◌-ℤ◌, ◌==◌, ◌&&◌, Bool, true, false, List, [], ◌∷◌, fold, Option, None, Some, if◌then◌else◌}
+use Rattle.std.specs.Prelude.{ℕ, pos, ◌+◌, ◌-◌, ◌*◌, ◌/◌, ◌-ℤ◌, ◌==◌, ◌&&◌, Bool, true, false, List, fold, Option, None, Some, if◌then◌else◌}
 use Rattle.std.specs.Option.{option_map_or}
 use Rattle.con_units.specs.Units.{changed_where}
 use Rattle.con_cooked.specs.declared.cooked.Cooked.{Cooked}

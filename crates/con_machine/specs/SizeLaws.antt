@@ -1,11 +1,9 @@
 -- What each event does to the window's size: a Resize alone gives another one.
-use Rattle.std.proofs.Common.{◌≡◌, ℕ, ℤ, Bool, true, false, List, [], ◌∷◌, Option, Some, None, Result, Ok, Err, refl, ap, ◌∙◌}
-use Rattle.std.specs.Prelude.{if◌then◌else◌, fold, ◌+◌, ◌-◌, filter, ◌||◌, ◌&&◌, ◌==◌, ◌++◌, nat_lt, nat_le, not, length, slice_get}
+use Rattle.std.proofs.Common.{◌≡◌, ℕ, Bool, true, false, List, [], ◌∷◌, Option, Some, None, Result, Ok, Err, refl, ◌∙◌}
+use Rattle.std.specs.Prelude.{if◌then◌else◌, fold, ◌+◌, ◌-◌, filter, ◌&&◌, ◌==◌, ◌++◌, nat_lt, nat_le, not, length, slice_get}
 use Rattle.con_units.specs.declared.code.Code.{Code}
 use Rattle.con_units.specs.declared.code.Code.TheVariants as code
-use Rattle.con_units.specs.declared.view.View.{View}
 use Rattle.con_events.specs.declared.actor.Actor.{Actor}
-use Rattle.con_events.specs.declared.actor.Actor.TheVariants as actors
 use Rattle.con_events.specs.declared.call.Call.{Call}
 use Rattle.con_events.specs.declared.call.Call.TheVariants as calls
 use Rattle.con_events.specs.declared.event.Event.{Event}
@@ -63,9 +61,9 @@ use Rattle.con_machine.specs.Signals.{signalled_to}
 use Rattle.con_machine.specs.Closing.{hung_up, closing}
 use Rattle.con_machine.specs.Reads as waits
 use Rattle.con_machine.specs.Reads.{history_used, answered_with, with_read, line_begun, rest_answered, is_empty}
-use Rattle.con_machine.specs.Terminal.{key_taken, is_break, records_of, sequence_taken, by_report, piece_taken, fed, quiet, resized, size_told, size_record}
-use Rattle.con_machine.specs.Painting.{painted, view_now, differs}
-use Rattle.con_machine.specs.Step.{step, effect, is_outside, finished, client_of, is_ready, is_due}
+use Rattle.con_machine.specs.Terminal.{key_taken, is_break, records_of, by_report, piece_taken, fed, quiet, resized, size_told, size_record}
+use Rattle.con_machine.specs.Painting.{painted}
+use Rattle.con_machine.specs.Step.{step, effect, is_outside, finished, client_of}
 use Rattle.con_machine.specs.Sizes.{SizedBy}
 use Rattle.con_machine.specs.declared.noted.Noted.{Noted}
 

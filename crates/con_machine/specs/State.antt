@@ -1,5 +1,5 @@
 -- The console as contracts see it: lists, numbers and texts, and no room.
-use Rattle.std.specs.Prelude.{ℕ, ◌+◌, ◌==◌, ◌&&◌, Bool, true, false, not, List, [], ◌∷◌, ◌++◌, map, filter, Option, None, Some, if◌then◌else◌}
+use Rattle.std.specs.Prelude.{ℕ, ◌+◌, ◌==◌, ◌&&◌, Bool, false, not, List, [], ◌∷◌, ◌++◌, map, filter, Option, None, Some, if◌then◌else◌}
 use Rattle.std.specs.List.{find, list_any}
 use Rattle.con_units.specs.Units.{changed_where}
 use Rattle.con_units.specs.declared.view.View.{View}

@@ -1,13 +1,11 @@
 -- One step of the console: an event of an actor gives a new console and a reply. And when an event may be entered.
-use Rattle.std.specs.Prelude.{ℕ, ◌&&◌, ◌||◌, Bool, true, false, not, nat_lt, nat_le, is_some, [], Option, None, Some, if◌then◌else◌}
+use Rattle.std.specs.Prelude.{ℕ, ◌&&◌, ◌||◌, Bool, true, false, not, is_some, [], if◌then◌else◌}
 use Rattle.con_units.specs.declared.code.Code.TheVariants as code
-use Rattle.con_units.specs.declared.place.Size.{Size}
 use Rattle.con_events.specs.Session.{is_size}
 use Rattle.con_events.specs.declared.actor.Actor.{Actor}
 use Rattle.con_events.specs.declared.actor.Actor.TheVariants as actors
 use Rattle.con_events.specs.declared.event.Event.{Event}
 use Rattle.con_events.specs.declared.event.Event.TheVariants as events
-use Rattle.con_events.specs.declared.reply.Reply.{Reply}
 use Rattle.con_events.specs.declared.reply.Reply.TheVariants as replies
 use Rattle.con_procs.specs.Procs.{is_attached, first_pending}
 use Rattle.con_readers.specs.Reads.{has_done}

@@ -1,4 +1,4 @@
-use Rattle.std.proofs.Common.{◌≡◌, ◌≤◌, length, map, take, vec_len, vec_capacity}
+use Rattle.std.proofs.Common.{◌≡◌, ◌≤◌, length, take, vec_len, vec_capacity}
 use Rattle.con_machine.specs.CellCalls.{paired}
 use Rattle.con_machine.proofs.cell_calls.cells_in_each.Given as goal
 

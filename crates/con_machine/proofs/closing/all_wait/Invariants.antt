@@ -1,4 +1,4 @@
-use Rattle.std.proofs.Common.{◌≡◌, ◌+◌, ◌≤◌, drop, length}
+use Rattle.std.proofs.Common.{◌≡◌, ◌+◌, drop}
 use Rattle.con_procs.specs.Procs.{ids_of, ids_from}
 use Rattle.con_machine.specs.Closing.{all_wait}
 use Rattle.con_machine.proofs.closing.all_wait.Given as goal

@@ -1,5 +1,4 @@
-use Rattle.std.proofs.Common.{◌≡◌, true, false, ap, sym, ◌∙◌, ◌+◌, ◌-◌, ◌≤◌, length, arith, refl}
-use Rattle.con_machine.specs.Reads.{line_front}
+use Rattle.std.proofs.Common.{arith}
 use Rattle.con_machine.proofs.Fronting.{front_more, front_ends, front_past, front_none}
 use Rattle.con_machine.proofs.fronts.line_front.Goals as goal
 

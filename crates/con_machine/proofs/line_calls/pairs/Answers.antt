@@ -1,5 +1,5 @@
 use Rattle.std.proofs.Common.{rules}
-use Rattle.con_alias.specs.Aliases.{entry_of, entries_in}
+use Rattle.con_alias.specs.Aliases.{entries_in}
 use Rattle.con_machine.proofs.Listing.{pairs_more}
 use Rattle.con_machine.proofs.line_calls.pairs.Goals as goal
 

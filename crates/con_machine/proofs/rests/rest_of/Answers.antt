@@ -1,5 +1,5 @@
 -- The rest at its place.
-use Rattle.std.proofs.Common.{◌≤◌, ◌≡◌, ◌∙◌, length, ap, arith}
+use Rattle.std.proofs.Common.{◌≤◌, ◌∙◌, length, ap, arith}
 use Rattle.std.specs.List.{position_or_len}
 use Rattle.con_machine.specs.State.{is_rest_of, units_of}
 use Rattle.con_machine.proofs.Places.{found-read, find-past}

@@ -1,4 +1,4 @@
-use Rattle.std.proofs.Common.{◌≡◌, ◌∙◌, true, ap, rules}
+use Rattle.std.proofs.Common.{ap}
 use Rattle.con_units.specs.declared.place.Size.{Size}
 use Rattle.con_screens.specs.LentLaws.{resized_keeps}
 use Rattle.con_machine.proofs.Lent.{lent_counts}

@@ -1,4 +1,4 @@
-use Rattle.std.proofs.Common.{◌≡◌, ◌+◌, ◌≤◌, ◌++◌, drop, length}
+use Rattle.std.proofs.Common.{◌≡◌, ◌+◌, ◌++◌, drop}
 use Rattle.con_handles.specs.Tables.{IsTable}
 use Rattle.con_machine.specs.Opened.{AreBefore}
 use Rattle.con_machine.specs.State.{handles_from}

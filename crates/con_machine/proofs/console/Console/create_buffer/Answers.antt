@@ -1,4 +1,4 @@
-use Rattle.std.proofs.Common.{◌≡◌, Ok, true, false, sym, ◌∙◌, rules}
+use Rattle.std.proofs.Common.{◌≡◌, Ok, true, sym, ◌∙◌, rules}
 use Rattle.con_machine.proofs.Live.{on_ok}
 use Rattle.con_machine.specs.Held.{state_of}
 use Rattle.con_machine.specs.Outcome.{are_rights}

@@ -1,6 +1,5 @@
 use Rattle.std.proofs.Common.{◌∙◌, ap}
 use Rattle.con_machine.proofs.Plain.{effect_plain}
-use Rattle.con_machine.specs.Held.{state_of}
 use Rattle.con_machine.specs.Marks.{told}
 use Rattle.con_machine.proofs.console.Console.enter_client.Goals as goal
 

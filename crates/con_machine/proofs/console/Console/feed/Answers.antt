@@ -1,5 +1,5 @@
 -- All bytes are taken.
-use Rattle.std.proofs.Common.{◌≡◌, ◌∙◌, List, ℕ, ap, sym}
+use Rattle.std.proofs.Common.{◌∙◌, List, ℕ, ap, sym}
 use Rattle.std.specs.Prelude.{fold}
 use Rattle.con_machine.specs.Feeding.{byte_taken}
 use Rattle.con_machine.proofs.Arriving.{fed_by_bytes, none_left}

@@ -1,4 +1,4 @@
-use Rattle.std.proofs.Common.{◌∙◌, ap}
+use Rattle.std.proofs.Common.{◌∙◌}
 use Rattle.con_machine.proofs.First.{starts_few, opening_counted}
 use Rattle.con_machine.proofs.console.Console.new.Goals as goal
 

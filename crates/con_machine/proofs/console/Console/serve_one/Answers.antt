@@ -1,5 +1,5 @@
-use Rattle.std.proofs.Common.{◌≡◌, ◌∙◌}
-use Rattle.std.specs.Prelude.{not, is_some}
+use Rattle.std.proofs.Common.{◌∙◌}
+use Rattle.std.specs.Prelude.{is_some}
 use Rattle.con_machine.specs.Pumping.{pumped_of}
 use Rattle.con_machine.proofs.Followed.{stepped_is, stepped_goes, stepped_ends, stepped_less, is_more, is_none_more}
 use Rattle.con_machine.proofs.console.Console.serve_one.Goals as goal

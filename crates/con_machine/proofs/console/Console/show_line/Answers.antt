@@ -1,4 +1,4 @@
-use Rattle.std.proofs.Common.{◌≡◌, List, refl, sym, ap, ◌∙◌}
+use Rattle.std.proofs.Common.{◌≡◌, refl, sym, ap, ◌∙◌}
 use Rattle.con_cooked.specs.Cooked.{line_of}
 use Rattle.con_readers.specs.Lines.{line_text}
 use Rattle.con_screen.specs.Echo.{Echoed, echoed}
@@ -7,7 +7,6 @@ use Rattle.con_screens.specs.Buffers.{screen_at}
 use Rattle.con_machine.specs.Held.{state_of}
 use Rattle.con_machine.specs.Kept.{Noting}
 use Rattle.con_machine.specs.Serving.{note_changed}
-use Rattle.con_machine.specs.declared.noted.Noted.{Noted}
 use Rattle.con_machine.proofs.Followed.{shown_is}
 use Rattle.con_machine.proofs.console.Console.show_line.Goals as goal
 

@@ -1,5 +1,5 @@
 -- What a byte gives fits, and is taken.
-use Rattle.std.proofs.Common.{◌≡◌, ◌∙◌, ◌++◌, List, ℕ, Option, ap, sym}
+use Rattle.std.proofs.Common.{◌≡◌, ◌∙◌, ◌++◌, List, Option, ap, sym}
 use Rattle.con_units.specs.Split.{next}
 use Rattle.con_records.specs.declared.record.Key.{Key}
 use Rattle.con_mouse.specs.declared.report.Report.{Report}

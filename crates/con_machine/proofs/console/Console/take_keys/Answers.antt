@@ -1,6 +1,4 @@
 -- One key more is taken.
-use Rattle.std.proofs.Common.{◌≡◌, ◌∷◌, ◌+◌, List, drop}
-use Rattle.con_records.specs.declared.record.Key.{Key}
 use Rattle.con_machine.proofs.Arriving.{taken_next, next_of}
 use Rattle.con_machine.proofs.console.Console.take_keys.Goals as goal
 
