@@ -1,5 +1,5 @@
 //! When an event may be entered.
-ghost use Rattle.std.specs.Prelude.{◌≡◌};
+ghost use Rattle.std.specs.Prelude.{◌≡◌, length};
 ghost use Rattle.con_events.specs.Session.{is_size};
 ghost use Rattle.con_procs.specs.Procs.{is_attached};
 ghost use Rattle.con_machine.specs.Step.{is_clients, is_painters, is_actors, client_of, is_outside, is_due, is_ready};
@@ -81,6 +81,13 @@ impl Console {
         ensures { result ≡ self.now.state.closed }
     {
         self.closed
+    }
+
+    /// How many records stand in the input queue.
+    pub fn queued(&self) -> usize
+        ensures { result ≡ length self.now.state.records }
+    {
+        self.records.count()
     }
 
     /// Whether a process started and did not exit.
