@@ -16,14 +16,13 @@ use Rattle.con_events.specs.declared.reply.Reply.{Reply}
 use Rattle.con_events.specs.declared.script.Script.{Script}
 use Rattle.con_machine.specs.Follows.{are_of_session, is_one_of}
 use Rattle.con_machine.specs.History.{run}
-use Rattle.con_machine.specs.RoundLaws.{broken_off}
-use Rattle.con_machine.specs.Rounds.{Begun, AreTurns, IsTurn, clients_from, all_order, all_entries, entries_of, entry_of, is_nobody, is_failed}
+use Rattle.con_machine.specs.Rounds.{Begun, AreTurns, IsTurn, clients_from, all_order, entries_of, entry_of, is_nobody, is_failed}
 use Rattle.con_machine.specs.State.{State}
 use Rattle.con_machine.specs.Turns.{paints, sent, has_ended, is_terminal, is_paint}
 use Rattle.con_session.specs.Desk.{Rests, Stands, entry}
 use Rattle.con_session.specs.Painting.{CanvasIs, CanvasEnds, EntersPaint, PaintTurn, PainterFails, PainterActs}
-use Rattle.con_session.specs.Seats.{AllStand, AllFollow, ClientsTurn, HaveTurns}
-use Rattle.con_session.specs.Sender.{LinkIs, LinkEnds, LinkTurn, SenderTurn, FailsBy}
+use Rattle.con_session.specs.Seats.{AllStand, AllFollow, ClientsTurn}
+use Rattle.con_session.specs.Sender.{LinkIs, LinkEnds, SenderTurn, FailsBy}
 use Rattle.con_session.specs.Solo.{AllIdle, Moment, Holds, Goes, HasRounds, BreaksOff, Stops, RoundTurn, RoundsTurn, fails_at}
 use Rattle.con_session.specs.declared.terminal.Side.{Side}
 use Rattle.con_session.specs.declared.worker.Worker.{Worker}

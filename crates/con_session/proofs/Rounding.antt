@@ -1,5 +1,5 @@
 -- The turns of a round, one after another.
-use Rattle.std.proofs.Common.{◌≡◌, ◌⊎◌, ℕ, zero, suc, ◌+◌, ◌<◌, ◌≤◌, Bool, true, false, List, [], ◌∷◌, ◌++◌, Option, Some, None, Ok, refl, sym, ap, ◌∙◌, subst, append_assoc, inl, inr, arith, length, length-append}
+use Rattle.std.proofs.Common.{◌≡◌, ℕ, zero, suc, ◌+◌, ◌<◌, ◌≤◌, Bool, true, false, List, [], ◌∷◌, ◌++◌, Option, Some, None, Ok, refl, sym, ap, ◌∙◌, subst, append_assoc, arith, length, length-append}
 use Rattle.std.specs.Prelude.{not, ◌&&◌, ◌||◌, nat_le}
 use Rattle.std.proofs.lemmas.Bool.Decides.{nat_tests}
 use Rattle.con_events.specs.declared.actor.Actor.{Actor}
@@ -7,7 +7,7 @@ use Rattle.con_events.specs.declared.actor.Actor.TheVariants as actors
 use Rattle.con_events.specs.declared.entry.Entry.{Entry}
 use Rattle.con_events.specs.declared.event.Event.{Event}
 use Rattle.con_machine.specs.RoundLaws.{turns_more, entries_more, rounds_more, all_entries_more}
-use Rattle.con_machine.specs.Rounds.{Begun, AreTurns, AreRounds, IsTurn, SideTurn, clients_from, entry_of, entries_of, all_entries, all_order, is_failed, is_nobody}
+use Rattle.con_machine.specs.Rounds.{Begun, AreTurns, IsTurn, clients_from, entry_of, entries_of, all_order, is_failed, is_nobody}
 use Rattle.con_session.specs.Painting.{PainterFails}
 use Rattle.con_session.specs.Sender.{FailsBy}
 use Rattle.con_session.specs.Solo.{HasRounds}

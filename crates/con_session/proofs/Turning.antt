@@ -1,6 +1,6 @@
 -- What holds of a session behind one more turn.
-use Rattle.std.proofs.Common.{◌≡◌, ◌⊎◌, ℕ, zero, suc, ◌+◌, ◌<◌, ◌≤◌, Bool, true, false, List, [], ◌∷◌, ◌++◌, length, map, Option, Some, None, Ok, Err, refl, sym, ap, ◌∙◌, subst, append_assoc, inl, inr, arith}
-use Rattle.std.specs.Prelude.{not, ◌&&◌, nat_lt, nat_le, if◌then◌else◌}
+use Rattle.std.proofs.Common.{◌≡◌, ◌⊎◌, ℕ, zero, suc, ◌+◌, ◌<◌, ◌≤◌, Bool, true, false, List, [], ◌∷◌, ◌++◌, length, Option, Some, None, Ok, refl, sym, ap, ◌∙◌, subst, append_assoc, inl, inr, arith}
+use Rattle.std.specs.Prelude.{not, ◌&&◌, nat_lt, nat_le}
 use Rattle.std.proofs.lemmas.Bool.{and_parts}
 use Rattle.std.proofs.lemmas.Bool.Decides.{nat_tests}
 use Rattle.con_handlers.specs.Delivery.{Memory}
@@ -13,25 +13,24 @@ use Rattle.con_events.specs.declared.event.Event.{Event}
 use Rattle.con_events.specs.declared.event.Event.TheVariants as events
 use Rattle.con_events.specs.declared.reply.Reply.{Reply}
 use Rattle.con_events.specs.declared.script.Script.{Script}
-use Rattle.con_machine.specs.Along.{after, Along}
-use Rattle.con_machine.specs.Follows.{AreAnswered, MayAct, asks, asks_by, are_of_session, is_one_of}
+use Rattle.con_machine.specs.Along.{after}
+use Rattle.con_machine.specs.Follows.{MayAct, asks, asks_by, are_of_session, is_one_of}
 use Rattle.con_machine.specs.History.{run, is_legal}
-use Rattle.con_machine.specs.HistoryLaws.{legal-append, after-append, along-one, paints-append}
+use Rattle.con_machine.specs.HistoryLaws.{legal-append, after-append, along-one}
 use Rattle.con_machine.specs.PictureLaws.{step_moves}
-use Rattle.con_machine.specs.Rounds.{Begun, AreTurns, clients_from, entry_of, entries_of, is_nobody, IsTurn}
+use Rattle.con_machine.specs.Rounds.{Begun, clients_from, entry_of, entries_of, is_nobody, IsTurn}
 use Rattle.con_machine.specs.State.{State}
-use Rattle.con_machine.specs.Step.{step, is_ready}
-use Rattle.con_machine.specs.Turns.{moved, paints, is_paint, is_terminal, sent, has_ended}
-use Rattle.con_session.specs.Desk.{Enters, Rests, Stands, entry}
+use Rattle.con_machine.specs.Step.{is_ready}
+use Rattle.con_machine.specs.Turns.{moved, paints, is_paint, is_terminal}
+use Rattle.con_session.specs.Desk.{Stands, entry}
 use Rattle.con_session.specs.Painting.{CanvasIs, PaintTurn, PainterFails, PainterActs}
-use Rattle.con_session.specs.Seats.{AllStand, ClientsTurn, HaveTurns}
-use Rattle.con_session.specs.Sender.{LinkIs, Sends, SenderTurn}
+use Rattle.con_session.specs.Seats.{ClientsTurn, HaveTurns}
+use Rattle.con_session.specs.Sender.{LinkIs, SenderTurn}
 use Rattle.con_session.specs.Solo.{AsksStand, Holds, Moment}
 use Rattle.con_session.specs.declared.terminal.Side.{Side}
 use Rattle.con_session.specs.declared.worker.Worker.{Worker}
-use Rattle.con_session.specs.CanvasLaws.{canvas_ends}
 use Rattle.con_session.specs.DeskLaws.{run_one, stands_one, stands_still}
-use Rattle.con_session.specs.LinkLaws.{link_other, link_failed, link_stays}
+use Rattle.con_session.specs.LinkLaws.{link_other, link_failed}
 use Rattle.con_session.specs.PaintCounts.{no_paint, paints_same, paints_next}
 use Rattle.con_session.specs.PaintingLaws.{painter_other}
 use Rattle.con_session.proofs.SeatLaws.{all_other, all_still}

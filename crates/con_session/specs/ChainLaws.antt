@@ -1,17 +1,16 @@
 -- The handlers after one was added or removed.
-use Rattle.std.proofs.Common.{◌≡◌, ◌≢◌, ℕ, zero, suc, ◌+◌, ◌<◌, ◌≤◌, Bool, true, false, cond, List, [], ◌∷◌, ◌++◌, map, length, get_or, set, take, drop, Option, Some, None, Result, Ok, Err, position, refl, sym, ap, ◌∙◌, subst, arith}
-use Rattle.std.specs.Prelude.{◌==◌, ◌&&◌, ◌||◌, not, nat_lt, filter, slice_set, OnOk, OnErr, if◌then◌else◌}
+use Rattle.std.proofs.Common.{◌≡◌, ◌≢◌, ℕ, zero, suc, ◌+◌, ◌≤◌, Bool, true, false, cond, List, [], ◌∷◌, map, length, get_or, Option, Some, None, Result, Ok, Err, position, refl, sym, ap, ◌∙◌, subst, arith}
+use Rattle.std.specs.Prelude.{◌==◌, ◌&&◌, ◌||◌, not, nat_lt, slice_set, OnOk, OnErr, if◌then◌else◌}
 use Rattle.std.specs.List.{list_all, list_any, remove, position_or_len}
 use Rattle.std.specs.Option.{option_map}
 use Rattle.std.proofs.lemmas.Bool.Decides.{nat_tests}
 use Rattle.std.proofs.lemmas.Bool.{ltb-false}
-use Rattle.std.proofs.lemmas.List.{map-append, get_or-set_other, length-map}
-use Rattle.std.proofs.lemmas.List.Folds.{list_all-append}
+use Rattle.std.proofs.lemmas.List.{get_or-set_other, length-map}
 use Rattle.std.proofs.Math.ListN.{get_or-map}
 use Rattle.con_units.specs.declared.code.Code.{Code}
 use Rattle.con_units.specs.declared.code.Code.TheVariants as code
 use Rattle.con_handlers.specs.Delivery.{Memory, removal}
-use Rattle.con_machine.specs.Chain.{Handler, with_handler, without_handler}
+use Rattle.con_machine.specs.Chain.{Handler, without_handler}
 use Rattle.con_machine.specs.Follows.{kinds_of}
 use Rattle.con_machine.specs.Rounds.{Begun}
 use Rattle.con_session.specs.Worker.{HandsAre, HandsStand, told_kind, told_in, places_in, stand_once}

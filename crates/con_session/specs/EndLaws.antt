@@ -1,15 +1,14 @@
 -- What is left at the end of a session, in whatever order its turns went: who has left, the bytes of the terminal, and the frames of the link.
 use Rattle.std.proofs.Common.{◌≡◌, ◌⊎◌, ℕ, zero, suc, ◌+◌, ◌<◌, ◌≤◌, Bool, true, false, List, [], ◌∷◌, ◌++◌, length, map, take, Option, Some, None, Err, refl, sym, ap, ◌∙◌, subst, inl, inr, arith, length-take, length-append}
-use Rattle.std.specs.Prelude.{not, ◌&&◌, ◌-◌, flat_map, if◌then◌else◌}
+use Rattle.std.specs.Prelude.{flat_map, if◌then◌else◌}
 use Rattle.std.specs.List.{list_all}
 use Rattle.con_units.specs.declared.place.Size.{Size}
 use Rattle.con_units.specs.declared.view.View.{View}
 use Rattle.con_units.specs.declared.view.Frame.{Frame}
 use Rattle.con_units.specs.declared.view.Sight.{Sight}
 use Rattle.con_units.specs.declared.view.Sight.TheVariants as sights
-use Rattle.con_outside.specs.Outside.{then_written, then_left}
 use Rattle.con_outside.specs.Laws.{then_written-none, then_left-none}
-use Rattle.con_link.specs.Frames.{spelling, Answers, goes_on, IsLink}
+use Rattle.con_link.specs.Frames.{spelling, Answers, goes_on}
 use Rattle.con_link.specs.declared.fault.LinkFault.{LinkFault}
 use Rattle.con_link.specs.declared.fault.LinkFault.TheVariants as faults
 use Rattle.con_term.specs.Play.{play}
@@ -28,29 +27,27 @@ use Rattle.con_procs.specs.Procs.{is_attached}
 use Rattle.con_readers.specs.Reads.{is_open, has_done}
 use Rattle.con_machine.specs.Along.{Along}
 use Rattle.con_machine.specs.ClosingLaws.{none_waits}
-use Rattle.con_machine.specs.Client.{Client, Stance, GoesOn, MayLeave, MustLeave, Gone, ctrl_exit, next_event}
-use Rattle.con_machine.specs.Follows.{Follows, are_of_session, FollowsLink, AreAnswered, MayAct, asks, begun, is_cut, is_lost, sent_by, steps_of, kinds_of}
+use Rattle.con_machine.specs.Client.{Client, Stance, GoesOn, MayLeave, MustLeave, Gone, next_event}
+use Rattle.con_machine.specs.Follows.{are_of_session, FollowsLink, MayAct, asks, begun, is_cut, is_lost, sent_by}
 use Rattle.con_machine.specs.History.{run, is_legal, replies_of}
 use Rattle.con_machine.specs.Opens.{WaitsOrGone}
-use Rattle.con_machine.specs.Rounds.{Begun, AreTurns, AreRounds, ClientTurn, ClientTurnBy, IsTurn, IsLast, MayFail, Rounds, SideTurn, all_entries, all_order, client_at, client_turn, clients_from, entries_of, is_failed, is_memory, is_nobody}
+use Rattle.con_machine.specs.Rounds.{Begun, ClientTurn, ClientTurnBy, IsTurn, client_at}
 use Rattle.con_machine.specs.ShowingLaws.{painted_shows}
 use Rattle.con_machine.specs.Sights.{sights_of}
 use Rattle.con_machine.specs.State.{State}
 use Rattle.con_machine.specs.Step.{is_ready}
-use Rattle.con_machine.specs.Turns.{sent, has_ended, is_pending, paints, turns}
-use Rattle.con_machine.specs.Whole.{HasLeft, HaveAllLeft, IsWhole}
-use Rattle.con_session.specs.Desk.{Stands, listed}
+use Rattle.con_machine.specs.Turns.{sent, has_ended, is_pending, paints}
+use Rattle.con_machine.specs.Whole.{HaveAllLeft}
+use Rattle.con_session.specs.Desk.{listed}
 use Rattle.con_session.specs.Outcome.{Leaves, IsCut, HasSent, end_of, last_end}
-use Rattle.con_session.specs.Painting.{CanvasIs, CanvasEnds, Written}
+use Rattle.con_session.specs.Painting.{CanvasEnds}
 use Rattle.con_session.specs.Runs.{EachPiece, EachRun, Painted, ShowsView, PrintsFew, PrintsNewRows, joined, ends_from}
-use Rattle.con_session.specs.Sender.{SideStands, LinkIs, LinkEnds, end_for, hung, FailsBy}
-use Rattle.con_session.specs.Seats.{AllStand, AllFollow}
-use Rattle.con_session.specs.Solo.{Moment, AsksStand, Holds, Goes, HasRounds, AllIdle, BreaksOff, Stops, begins, end_by}
+use Rattle.con_session.specs.Sender.{LinkIs, LinkEnds, end_for, hung}
+use Rattle.con_session.specs.Solo.{Moment, Holds, begins, end_by}
 use Rattle.con_session.specs.Standing.{ClientStands, is_here}
 use Rattle.con_session.specs.declared.terminal.Side.{Side}
 use Rattle.con_session.specs.CanvasLaws.{painted_count}
 use Rattle.con_session.specs.LinkLaws.{link_going}
-use Rattle.con_session.specs.SenderLaws.{fails_false}
 use Rattle.con_session.specs.StreamLaws.{run_by_pieces}
 use Rattle.con_session.specs.RanLaws.{append_none}
 

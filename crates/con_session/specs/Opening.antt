@@ -1,5 +1,5 @@
 -- Clients at the beginning of a session.
-use Rattle.std.specs.Prelude.{◌≡◌, ℕ, zero, ◌+◌, false, List, [], ◌∷◌, get_or}
+use Rattle.std.specs.Prelude.{◌≡◌, ℕ, ◌+◌, false, List, [], ◌∷◌, get_or}
 use Rattle.con_handlers.specs.Delivery.{Memory}
 use Rattle.con_machine.specs.Follows.{kinds_of}
 use Rattle.con_machine.specs.Rounds.{Begun}

@@ -1,9 +1,8 @@
 -- Clients at the beginning of a session, and a session there.
-use Rattle.std.proofs.Common.{◌≡◌, ◌⊎◌, ℕ, zero, suc, ◌+◌, ◌<◌, ◌≤◌, Bool, true, false, List, [], ◌∷◌, ◌++◌, length, map, take, drop, Option, Some, None, get_or, refl, sym, ap, ◌∙◌, subst, inl, inr, arith, length-append}
+use Rattle.std.proofs.Common.{◌≡◌, ℕ, zero, suc, ◌+◌, ◌<◌, ◌≤◌, Bool, true, false, List, [], ◌∷◌, ◌++◌, length, map, take, drop, Option, Some, None, get_or, refl, sym, ap, ◌∙◌, subst, inl, arith, length-append}
 use Rattle.std.specs.Prelude.{◌-◌, ◌&&◌, nat_lt, nat_le, slice_get, option_map}
 use Rattle.std.proofs.lemmas.Bool.Decides.{nat_tests}
 use Rattle.con_handlers.specs.Delivery.{Memory}
-use Rattle.con_units.specs.declared.place.Size.{Size}
 use Rattle.con_units.specs.declared.view.View.{View}
 use Rattle.con_outside.specs.Laws.{then_left-none, then_written-none}
 use Rattle.con_term.specs.Terminal.{Terminal, IsTerminal}
@@ -13,26 +12,21 @@ use Rattle.con_events.specs.declared.end.End.TheVariants as ends
 use Rattle.con_events.specs.declared.entry.Entry.{Entry}
 use Rattle.con_events.specs.declared.reply.Reply.{Reply}
 use Rattle.con_events.specs.declared.script.Script.{Script}
-use Rattle.con_events.specs.declared.script.Step.{Step}
-use Rattle.con_machine.specs.Client.{Client, starting}
 use Rattle.con_machine.specs.Follows.{begun, kinds_of, steps_of, steps_in}
 use Rattle.con_machine.specs.History.{run}
 use Rattle.con_machine.specs.OpeningLaws.{opens}
-use Rattle.con_machine.specs.Opens.{Opens}
 use Rattle.con_machine.specs.Painting.{is_fresh}
 use Rattle.con_machine.specs.PresenceLaws.{single_none}
 use Rattle.con_machine.specs.Rounds.{Begun, client_at}
 use Rattle.con_machine.specs.State.{State, opening}
 use Rattle.con_machine.specs.Turns.{paints}
-use Rattle.con_session.specs.Desk.{Stands}
 use Rattle.con_session.specs.Opening.{AreFresh, fresh}
-use Rattle.con_session.specs.Painting.{CanvasIs, IsTied, KeepsView, PainterStands, Reached, Written}
-use Rattle.con_session.specs.Runs.{Reaches}
+use Rattle.con_session.specs.Painting.{CanvasIs, IsTied, KeepsView}
 use Rattle.con_session.specs.Seats.{AllStand, AllFollow, Seated}
-use Rattle.con_session.specs.Sender.{FailsBy, LinkIs, SideStands}
-use Rattle.con_session.specs.Solo.{AsksStand, Goes, Holds, Moment, begins, fails_at}
+use Rattle.con_session.specs.Sender.{FailsBy, LinkIs}
+use Rattle.con_session.specs.Solo.{Goes, Moment, begins, fails_at}
 use Rattle.con_session.specs.Standing.{ClientStands}
-use Rattle.con_session.specs.Worker.{ClientIs, HandsStand, IsWorker}
+use Rattle.con_session.specs.Worker.{HandsStand, IsWorker}
 use Rattle.con_session.specs.declared.terminal.Side.{Side}
 use Rattle.con_session.specs.declared.worker.Worker.{Worker}
 

@@ -1,5 +1,5 @@
 -- What a session leaves behind: what is promised of its history and answers, of the bytes of its terminal, and of its link; and of one by turns, its rounds.
-use Rattle.std.specs.Prelude.{◌≡◌, ◌⊎◌, ℕ, ◌+◌, ◌≤◌, Bool, true, false, List, [], ◌∷◌, ◌++◌, map, flat_map, length, Option, Err}
+use Rattle.std.specs.Prelude.{◌≡◌, ◌⊎◌, ℕ, ◌+◌, ◌≤◌, true, false, List, [], ◌∷◌, ◌++◌, map, flat_map, length, Option, Err}
 use Rattle.std.specs.List.{list_all}
 use Rattle.con_units.specs.declared.view.Frame.{Frame}
 use Rattle.con_outside.specs.Outside.{then_left, then_written}

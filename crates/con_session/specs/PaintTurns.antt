@@ -1,7 +1,6 @@
 -- What a frame needs of the picture, and when the painter acts.
-use Rattle.std.proofs.Common.{◌≡◌, ℕ, ◌<◌, Bool, true, false, List, length, Option, Some, None, refl, sym, ap, ◌∙◌, subst, arith}
-use Rattle.std.specs.Prelude.{not, ◌&&◌, nat_le, option_map, slice_index_or, if◌then◌else◌}
-use Rattle.std.proofs.lemmas.Bool.Decides.{nat_tests}
+use Rattle.std.proofs.Common.{◌≡◌, ℕ, ◌<◌, Bool, true, false, List, length, Option, Some, None, refl, sym, ap, ◌∙◌, subst}
+use Rattle.std.specs.Prelude.{not, ◌&&◌, option_map, slice_index_or, if◌then◌else◌}
 use Rattle.std.proofs.lemmas.List.{get_or_default}
 use Rattle.con_units.specs.Glyph.{Glyph}
 use Rattle.con_units.specs.Limits.{IsWindow}
@@ -10,7 +9,6 @@ use Rattle.con_units.specs.declared.view.View.{View}
 use Rattle.con_paint.specs.Painter.{Kept}
 use Rattle.con_events.specs.declared.actor.Actor.TheVariants as actors
 use Rattle.con_events.specs.declared.entry.Entry.{Entry}
-use Rattle.con_events.specs.declared.event.Event.{Event}
 use Rattle.con_events.specs.declared.event.Event.TheVariants as events
 use Rattle.con_machine.specs.History.{run}
 use Rattle.con_machine.specs.Marks.{AreMarks, IsSameRow}

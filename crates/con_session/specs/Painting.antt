@@ -1,6 +1,5 @@
 -- The painter behind a history.
 use Rattle.std.specs.Prelude.{◌≡◌, ◌⊎◌, ℕ, ◌+◌, ◌≤◌, Bool, true, false, List, [], ◌∷◌, ◌++◌, length, take, Option, Some, None, Result, Ok, Err, option_map}
-use Rattle.con_units.specs.Limits.{IsWindow}
 use Rattle.con_units.specs.declared.code.OutOfMemory.{OutOfMemory}
 use Rattle.con_units.specs.declared.place.Size.{Size}
 use Rattle.con_units.specs.declared.view.View.{View}

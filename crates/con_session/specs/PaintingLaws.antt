@@ -1,6 +1,6 @@
 -- The painter behind one more entry.
 use Rattle.std.proofs.Common.{◌≡◌, ℕ, ◌*◌, ◌<◌, ◌≤◌, Bool, true, false, List, [], ◌∷◌, ◌++◌, Option, Some, None, refl, sym, ap, ◌∙◌, subst}
-use Rattle.std.specs.Prelude.{◌||◌, is_none, option_map}
+use Rattle.std.specs.Prelude.{◌||◌, is_none}
 use Rattle.con_units.specs.Glyph.{Glyph}
 use Rattle.con_units.specs.declared.place.Size.{Size}
 use Rattle.con_units.specs.declared.view.View.{View}
@@ -26,7 +26,7 @@ use Rattle.con_machine.specs.State.{State}
 use Rattle.con_machine.specs.Step.{step}
 use Rattle.con_machine.specs.Turns.{is_paint}
 use Rattle.con_session.specs.Desk.{entry}
-use Rattle.con_session.specs.Painting.{IsTied, KeepsView, Reached, PainterStands}
+use Rattle.con_session.specs.Painting.{KeepsView, Reached, PainterStands}
 use Rattle.con_session.specs.Runs.{Painted, Matched, EachPiece, Reaches}
 use Rattle.con_session.specs.RunLaws.{matched_paint, piece_paint, reach_paint, piece_none, matched_resize, piece_resize, reach_resize}
 

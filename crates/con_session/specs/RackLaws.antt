@@ -1,5 +1,5 @@
 -- What is left of a rack, and the handlers after one more entry.
-use Rattle.std.proofs.Common.{◌≡◌, ℕ, zero, suc, ◌+◌, Bool, true, false, cond, List, [], ◌∷◌, ◌++◌, map, get_or, refl, sym, ap, ◌∙◌, subst, eq-eqb, arith}
+use Rattle.std.proofs.Common.{◌≡◌, ℕ, zero, suc, Bool, true, false, cond, List, [], ◌∷◌, ◌++◌, get_or, refl, sym, ap, ◌∙◌, subst, eq-eqb, arith}
 use Rattle.std.specs.Prelude.{◌==◌, ◌&&◌, ◌||◌, not, filter}
 use Rattle.std.specs.List.{list_all, list_any}
 use Rattle.std.proofs.lemmas.Bool.Decides.{nat_tests}
@@ -8,11 +8,10 @@ use Rattle.con_events.specs.declared.actor.Actor.TheVariants as actors
 use Rattle.con_events.specs.declared.entry.Entry.{Entry}
 use Rattle.con_events.specs.declared.event.Event.{Event}
 use Rattle.con_events.specs.declared.reply.Reply.{Reply}
-use Rattle.con_handlers.specs.Answers.{raised}
 use Rattle.con_handlers.specs.Delivery.{Memory, asked_from}
-use Rattle.con_machine.specs.Added.{adds, names_place, place_in_event, has_added}
+use Rattle.con_machine.specs.Added.{adds, has_added}
 use Rattle.con_machine.specs.Chain.{Handler, answers_to, asked_once, delivered_to}
-use Rattle.con_machine.specs.Client.{Client, is_fail, client_after}
+use Rattle.con_machine.specs.Client.{Client, client_after}
 use Rattle.con_machine.specs.Follows.{steps_of, kinds_of}
 use Rattle.con_machine.specs.HandlerLaws.{has_added-append}
 use Rattle.con_machine.specs.History.{run}

@@ -19,7 +19,7 @@ use Rattle.con_machine.specs.Follows.{FollowsLink, sent_one, sent_by, is_cut}
 use Rattle.con_machine.specs.Rounds.{Begun, IsTurn, is_failed}
 use Rattle.con_machine.specs.State.{State}
 use Rattle.con_machine.specs.Step.{is_ready}
-use Rattle.con_machine.specs.Turns.{sent, has_ended, paints}
+use Rattle.con_machine.specs.Turns.{sent, has_ended}
 use Rattle.con_session.specs.Desk.{Enters, Rests}
 use Rattle.con_session.specs.declared.terminal.Side.{Side}
 

@@ -7,7 +7,6 @@ use Rattle.con_units.specs.declared.view.Frame.TheVariants as frames
 use Rattle.con_outside.specs.Outside.{then_left}
 use Rattle.con_link.specs.Frames.{ends_link, is_frame, Answers}
 use Rattle.con_events.specs.Session.{is_size}
-use Rattle.con_events.specs.declared.actor.Actor.{Actor}
 use Rattle.con_events.specs.declared.actor.Actor.TheVariants as actors
 use Rattle.con_events.specs.declared.entry.Entry.{Entry}
 use Rattle.con_events.specs.declared.event.Event.{Event}

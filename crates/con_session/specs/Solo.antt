@@ -1,5 +1,5 @@
 -- A session by turns, between its turns and between its rounds.
-use Rattle.std.specs.Prelude.{◌≡◌, ◌⊎◌, ℕ, ◌+◌, ◌<◌, Bool, true, false, List, [], ◌∷◌, ◌++◌, length, map, Option, Result, Ok, Err}
+use Rattle.std.specs.Prelude.{◌≡◌, ◌⊎◌, ℕ, ◌+◌, ◌<◌, Bool, true, false, List, [], ◌++◌, length, map, Option, Result, Ok, Err}
 use Rattle.con_handlers.specs.Delivery.{Memory}
 use Rattle.con_units.specs.declared.code.OutOfMemory.{OutOfMemory}
 use Rattle.con_paint.specs.Painter.{Kept}
@@ -19,7 +19,7 @@ use Rattle.con_machine.specs.Turns.{paints}
 use Rattle.con_session.specs.Desk.{Stands, listed}
 use Rattle.con_session.specs.Painting.{CanvasIs, CanvasEnds}
 use Rattle.con_session.specs.Seats.{AllStand}
-use Rattle.con_session.specs.Sender.{LinkIs, LinkEnds, FailsBy}
+use Rattle.con_session.specs.Sender.{LinkIs, LinkEnds}
 use Rattle.con_session.specs.Standing.{ClientStands}
 use Rattle.con_session.specs.declared.terminal.Side.{Side}
 use Rattle.con_session.specs.declared.worker.Worker.{Worker}

@@ -1,6 +1,6 @@
 -- What the painter keeps is the view that was painted last, behind entries of others and behind a Paint.
-use Rattle.std.proofs.Common.{◌≡◌, ◌⊎◌, ℕ, Bool, true, false, List, [], ◌∷◌, ◌++◌, Option, Some, None, refl, sym, ap, ◌∙◌, subst, inl, inr}
-use Rattle.std.specs.Prelude.{not, ◌&&◌, ◌||◌, is_none, option_map}
+use Rattle.std.proofs.Common.{◌≡◌, Bool, true, false, List, [], ◌∷◌, Option, Some, refl, sym, ap, ◌∙◌, subst}
+use Rattle.std.specs.Prelude.{not, ◌||◌, is_none, option_map}
 use Rattle.std.specs.List.{list_all}
 use Rattle.std.proofs.lemmas.Bool.{and_parts}
 use Rattle.con_units.specs.declared.view.View.{View}
@@ -13,12 +13,12 @@ use Rattle.con_events.specs.declared.event.Event.TheVariants as events
 use Rattle.con_events.specs.declared.reply.Reply.{Reply}
 use Rattle.con_machine.specs.History.{run, is_legal}
 use Rattle.con_machine.specs.Moves.{resizes_by, painted_by}
-use Rattle.con_machine.specs.Painting.{is_fresh, view_now}
+use Rattle.con_machine.specs.Painting.{is_fresh}
 use Rattle.con_machine.specs.PictureLaws.{step_moves, asked_is_due}
 use Rattle.con_machine.specs.SizeLaws.{step_keeps_size}
 use Rattle.con_machine.specs.Sizes.{width_by, height_by}
 use Rattle.con_machine.specs.State.{State}
-use Rattle.con_machine.specs.Step.{step, is_ready, is_actors}
+use Rattle.con_machine.specs.Step.{step, is_ready}
 use Rattle.con_machine.specs.Turns.{moved, is_paint}
 use Rattle.con_session.specs.Desk.{Enters, Ran, is_painter}
 use Rattle.con_session.specs.Painting.{IsTied, Pictures}

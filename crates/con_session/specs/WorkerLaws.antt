@@ -1,6 +1,6 @@
 -- What a worker may enter, and what that makes of it.
-use Rattle.std.proofs.Common.{◌≡◌, ◌⊎◌, ℕ, Bool, true, false, List, [], ◌∷◌, ◌++◌, Option, Some, None, refl, sym, ap, ◌∙◌, subst, inl, inr, eq-eqb, Result, Ok, Err}
-use Rattle.std.specs.Prelude.{◌==◌, ◌&&◌, if◌then◌else◌, not, ◌||◌}
+use Rattle.std.proofs.Common.{◌≡◌, ℕ, Bool, true, false, List, [], ◌∷◌, ◌++◌, Option, Some, None, refl, sym, ap, ◌∙◌, subst, inl, inr, eq-eqb, Result, Ok, Err}
+use Rattle.std.specs.Prelude.{◌==◌, if◌then◌else◌, not, ◌||◌}
 use Rattle.con_events.specs.declared.actor.Actor.TheVariants as actors
 use Rattle.con_events.specs.declared.entry.Entry.{Entry}
 use Rattle.con_events.specs.declared.event.Event.{Event}
@@ -12,8 +12,7 @@ use Rattle.con_units.specs.declared.code.OutOfMemory.{OutOfMemory}
 use Rattle.con_handlers.specs.Delivery.{Memory}
 use Rattle.con_procs.specs.Procs.{is_attached}
 use Rattle.con_readers.specs.Reads.{is_open, has_done}
-use Rattle.con_machine.specs.Along.{after}
-use Rattle.con_machine.specs.Chain.{Handler, delivered_to, is_handled}
+use Rattle.con_machine.specs.Chain.{delivered_to, is_handled}
 use Rattle.con_machine.specs.Client.{Client, Stance, GoesOn, MayLeave, MustLeave, Gone, MayBy, MayGoOn, entered, took, verdict, due, next_event, ctrl_exit, client_after, starting, moved_on}
 use Rattle.con_machine.specs.Follows.{steps_of, kinds_of}
 use Rattle.con_machine.specs.History.{run}
@@ -21,10 +20,10 @@ use Rattle.con_machine.specs.HistoryLaws.{after-append, turns-own}
 use Rattle.con_machine.specs.Rounds.{Begun, IsTurn, ClientTurnBy, client_turn, client_at}
 use Rattle.con_machine.specs.State.{State}
 use Rattle.con_machine.specs.Step.{step, is_ready, is_due}
-use Rattle.con_machine.specs.Turns.{Turn, turns, turn_of, is_client, is_pending}
+use Rattle.con_machine.specs.Turns.{turns, turn_of, is_client, is_pending}
 use Rattle.con_session.specs.Desk.{Enters, Rests, brief_of, entry}
 use Rattle.con_session.specs.Standing.{is_here}
-use Rattle.con_session.specs.Worker.{IsStance, HandsAre, IsRack, HandsStand, places_in, IsWorker, ClientIs, Keeps, Acts, ClientTurn, HandsTurn}
+use Rattle.con_session.specs.Worker.{IsStance, HandsAre, IsRack, HandsStand, places_in, IsWorker, ClientIs, Acts, ClientTurn, HandsTurn}
 use Rattle.con_session.specs.RackLaws.{hands_keep, rack_delivered}
 use Rattle.con_session.specs.declared.desk.Brief.{Brief}
 use Rattle.con_session.specs.declared.desk.Brief.TheVariants as briefs

@@ -1,4 +1,4 @@
-use Rattle.std.proofs.Common.{sym, ap, ◌∙◌, refl, inl, inr, ◌++◌, ◌∷◌, [], List, ℕ, ◌+◌, Err}
+use Rattle.std.proofs.Common.{sym, ap, ◌∙◌, refl, inl, inr, ◌++◌, ◌∷◌, [], List, ℕ, ◌+◌}
 use Rattle.con_session.specs.CanvasLaws.{canvas_ok, canvas_failed, canvas_ends, canvas_none, canvas_rests, ends_as, paint_err}
 use Rattle.con_session.specs.PaintTurns.{tied_count, tied_size, tied_rows, paints_now, failed_rests, unready_rests}
 use Rattle.con_session.specs.TiedLaws.{served_paint, served_still, tied_paint}

@@ -1,5 +1,5 @@
 -- The clients before k had their turns.
-use Rattle.std.proofs.Common.{◌≡◌, Ok, map}
+use Rattle.std.proofs.Common.{Ok, map}
 use Rattle.std.specs.Option.{option_map}
 use Rattle.con_handlers.specs.Delivery.{memory_of}
 use Rattle.con_machine.specs.Rounds.{Begun}

@@ -1,5 +1,5 @@
 -- Rounds so far.
-use Rattle.std.proofs.Common.{◌≡◌, ◌⊎◌, ℕ, ◌-◌, ◌≤◌, Bool, true, false, List, length, map, Option}
+use Rattle.std.proofs.Common.{◌≡◌, ◌⊎◌, ℕ, ◌-◌, ◌≤◌, true, false, List, length, map, Option}
 use Rattle.std.specs.Option.{option_map}
 use Rattle.con_handlers.specs.Delivery.{memory_of}
 use Rattle.con_outside.specs.Outside.{Rose}

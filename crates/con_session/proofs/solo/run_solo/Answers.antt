@@ -1,4 +1,4 @@
-use Rattle.std.proofs.Common.{sym, None}
+use Rattle.std.proofs.Common.{None}
 use Rattle.con_session.specs.Solo.{begins}
 use Rattle.con_session.proofs.Ending.{handed_none, handed_stops, handed_whole, term_by}
 use Rattle.con_session.specs.OpeningLaws.{all_follow, count_of, goes_open, going_open, sizes_same}

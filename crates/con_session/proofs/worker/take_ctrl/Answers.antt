@@ -1,4 +1,4 @@
-use Rattle.std.proofs.Common.{sym, ap, ◌∙◌, subst, List}
+use Rattle.std.proofs.Common.{sym, ap, ◌∙◌}
 use Rattle.con_session.specs.WorkerLaws.{took_turn_is, took_none_turn, IsEvent}
 use Rattle.con_session.proofs.worker.take_ctrl.Goals as goal
 

@@ -1,8 +1,4 @@
-use Rattle.std.proofs.Common.{refl, sym, ap, ◌∙◌}
-use Rattle.con_units.specs.declared.view.View.{View}
 use Rattle.con_machine.specs.PictureLaws.{paint_answers}
-use Rattle.con_machine.specs.Painting.{view_now, is_fresh}
-use Rattle.con_machine.specs.State.{State}
 use Rattle.con_session.specs.Replying.{view_is}
 use Rattle.con_session.specs.PaintTurns.{picture_of, whole_of, window_of, marks_of}
 use Rattle.con_session.proofs.desk.Desk.paint.Goals as goal
