@@ -161,6 +161,55 @@ fn put_alias(out: &mut Bytes, low: u8) -> Result<(), Fail> {
     put(out, b"\",\"0078\"],[\"ok\"]]\n")
 }
 
+// A new target of one unit too many for a name that is there, and the longest.
+fn put_targets(out: &mut Bytes) -> Result<(), Fail> {
+    put_line(
+        out,
+        b"[\"c1\",\"alias-add\",[\"0061\",\"0100\",\"",
+        (b"0079", 1025),
+        b"\"],[\"fail\",87]]\n",
+    )?;
+    put(
+        out,
+        b"[\"c1\",\"alias-get\",[\"0061\",\"0100\"],[\"ok\",\"0078\"]]\n",
+    )?;
+    put_line(
+        out,
+        b"[\"c1\",\"alias-add\",[\"0061\",\"0100\",\"",
+        (b"007a", 1024),
+        b"\"],[\"ok\"]]\n",
+    )?;
+    put_line(
+        out,
+        b"[\"c1\",\"alias-get\",[\"0061\",\"0100\"],[\"ok\",\"",
+        (b"007a", 1024),
+        b"\"]]\n",
+    )
+}
+
+// A line that begins with one unit too many, and one that begins with the longest text and has room for no more.
+fn put_begun(out: &mut Bytes) -> Result<(), Fail> {
+    put_line(
+        out,
+        b"[\"c1\",\"begin-read-with\",[1,16384,\"",
+        (b"0061", 1025),
+        b"\",0],[\"fail\",87]]\n",
+    )?;
+    put_line(
+        out,
+        b"[\"c1\",\"begin-read-with\",[1,16384,\"",
+        (b"0061", 1024),
+        b"\",0],[\"ok\"]]\n",
+    )?;
+    put(out, b"[\"t\",\"feed\",[\"620d\"],[\"ok\"]]\n")?;
+    put_line(
+        out,
+        b"[\"c1\",\"collect\",[],[\"ok\",\"",
+        (b"0061", 1024),
+        b"000d000a\"]]\n",
+    )
+}
+
 // 256 aliases of a program, one more, one that is there, and one of another program.
 fn put_aliases(out: &mut Bytes) -> Result<(), Fail> {
     for low in 0..=255u8 {
@@ -174,6 +223,7 @@ fn put_aliases(out: &mut Bytes) -> Result<(), Fail> {
         out,
         b"[\"c1\",\"alias-add\",[\"0061\",\"0020\",\"0078\"],[\"fail\",87]]\n",
     )?;
+    put_targets(out)?;
     put_alias(out, 0)?;
     put(
         out,
@@ -210,6 +260,12 @@ fn cells_hold(alloc: Global) -> Result<bool, Fail> {
     holds(alloc, &report)
 }
 
+fn begun_holds(alloc: Global) -> Result<bool, Fail> {
+    let mut report = Bytes(Vec::new(alloc));
+    put_begun(&mut report)?;
+    holds(alloc, &report)
+}
+
 fn aliases_hold(alloc: Global) -> Result<bool, Fail> {
     let mut report = Bytes(Vec::new(alloc));
     put_aliases(&mut report)?;
@@ -228,9 +284,10 @@ fn the_largest_and_one_more(rt: HostRuntime) -> Result<(), Fail> {
     let right = [
         texts_hold(alloc)?,
         cells_hold(alloc)?,
+        begun_holds(alloc)?,
         aliases_hold(alloc)?,
         events_hold(alloc)?,
     ];
-    assert!(rt; right == [true, true, true, true]);
+    assert!(rt; right == [true, true, true, true, true]);
     Ok(())
 }

@@ -196,6 +196,7 @@ const OF_PROGRAMS: Row = Row {
 [\"c1\",\"handler-remove\",[1],[\"fail\",87]]
 [\"c1\",\"handler-remove\",[0],[\"ok\"]]
 [\"c1\",\"handler-remove\",[0],[\"fail\",87]]
+[\"c1\",\"handler-add\",[0],[\"fail\",87]]
 [\"c3\",\"handler-add\",[0],[\"fail\",87]]
 ",
     pictures: "",
