@@ -1,15 +1,17 @@
 -- How the top call ends, by what the words ask for.
-use Rattle.std.proofs.Common.{◌≡◌, ℕ, List, [], Option, Some, None, refl, sym, subst, ap, ◌∙◌, arith, ◌⊎◌, inl, inr}
+use Rattle.std.proofs.Common.{◌≡◌, ℕ, List, [], Option, Some, None, refl, subst, ap, ◌∙◌, arith, ◌⊎◌, inr}
 use Rattle.con_units.specs.declared.place.Size.{Size}
 use Rattle.con_outside.specs.Outside.{then_left, then_written, WroteFront, WrotePart}
 use Rattle.con_outside.specs.Laws.{then_left-none}
 use Rattle.con_host.specs.Ending.{end_line}
+use Rattle.con_host.specs.Generating.{Generated}
 use Rattle.con_host.specs.Hosting.{Hosted}
 use Rattle.con_host.specs.Playing.{Played}
 use Rattle.con_host.specs.Solo.{Soloed}
 use Rattle.con_host.specs.Typing.{Typed}
-use Rattle.con_host.specs.Words.{Asked, typing, playing, solo}
+use Rattle.con_host.specs.Words.{Asked, typing, playing, solo, generating}
 use Rattle.con_host.proofs.Ends.{no_memory as no_playing}
+use Rattle.con_host.proofs.Generations.{no_memory as no_generating}
 use Rattle.con_host.proofs.Lines.{part_of, nothing_yet}
 use Rattle.con_host.proofs.SoloLemmas.{no_memory as no_running}
 use Rattle.con_host.proofs.Types.{no_memory as no_typing}
@@ -27,6 +29,7 @@ no_form s asked files files_failed racks before old before_report report failed 
   typed = λ e. absurd (cc);
   played = λ size e. absurd (cc);
   ran = λ name e. absurd (cc);
+  generated = λ seed e. absurd (cc);
 }
 
 -- there was no memory for the words
@@ -42,6 +45,7 @@ no_words asked files files_failed racks before old before_report failed = record
   typed = λ _. ([], then_left-none before, no_typing [] before old before_report failed (omega arith));
   played = λ size _. (refl, ([], then_left-none before, no_playing size [] before before_report failed (omega arith)));
   ran = λ name _. no_running files name files_failed racks before old before_report failed;
+  generated = λ seed _. (refl, no_generating seed old before_report failed);
 }
 
 pub as_typed : (s : ℕ) (asked : Option Asked) (files : Option (List ℕ → Option (List ℕ))) (files_failed : Type 0) (racks : List (List ℕ)) (before left old now before_report report : Option (List ℕ)) (failed : Type 0) → Some typing ≡ asked
@@ -51,6 +55,7 @@ as_typed s asked files files_failed racks before left old now before_report repo
   typed = λ _. t;
   played = λ size e. absurd (cc);
   ran = λ name e. absurd (cc);
+  generated = λ seed e. absurd (cc);
 }
 
 size_in : Option Asked → Size → Size
@@ -58,18 +63,20 @@ size_in None other = other
 size_in (Some typing) other = other
 size_in (Some (playing size)) other = size
 size_in (Some (solo name)) other = other
+size_in (Some (generating seed)) other = other
 
 name_in : Option Asked → List ℕ
 name_in None = []
 name_in (Some typing) = []
 name_in (Some (playing size)) = []
 name_in (Some (solo name)) = name
+name_in (Some (generating seed)) = []
 
 same_size : (asked : Option Asked) (a b : Size) → Some (playing a) ≡ asked → asked ≡ Some (playing b) → a ≡ b
 unfolding size_in
 same_size asked a b e f = ap (λ o. size_in o a) (e ∙ f)
 
-same_name : (asked : Option Asked) (a b : List ℕ) → Some (solo a) ≡ asked → asked ≡ Some (solo b) → a ≡ b
+pub same_name : (asked : Option Asked) (a b : List ℕ) → Some (solo a) ≡ asked → asked ≡ Some (solo b) → a ≡ b
 unfolding name_in
 same_name asked a b e f = ap name_in (e ∙ f)
 
@@ -80,6 +87,7 @@ as_played s size asked files files_failed racks before left old before_report re
   typed = λ e. absurd (cc);
   played = λ other e. (refl, subst (λ z. (text : List ℕ) × (before ≡ then_left text left) × Played s z text left before_report report failed) (same_size asked size other is e) t);
   ran = λ name e. absurd (cc);
+  generated = λ seed e. absurd (cc);
 }
 
 pub as_ran : (s : ℕ) (name : List ℕ) (asked : Option Asked) (files : Option (List ℕ → Option (List ℕ))) (files_failed : Type 0) (racks : List (List ℕ)) (before left old now before_report report : Option (List ℕ)) (failed : Type 0) → Some (solo name) ≡ asked
@@ -89,4 +97,26 @@ as_ran s name asked files files_failed racks before left old now before_report r
   typed = λ e. absurd (cc);
   played = λ size e. absurd (cc);
   ran = λ other e. subst (λ n. Soloed s files n files_failed racks before left old now before_report report failed) (same_name asked name other is e) t;
+  generated = λ seed e. absurd (cc);
+}
+
+seed_in : Option Asked → ℕ
+seed_in None = 0
+seed_in (Some typing) = 0
+seed_in (Some (playing size)) = 0
+seed_in (Some (solo name)) = 0
+seed_in (Some (generating seed)) = seed
+
+same_seed : (asked : Option Asked) (a b : ℕ) → Some (generating a) ≡ asked → asked ≡ Some (generating b) → a ≡ b
+unfolding seed_in
+same_seed asked a b e f = ap seed_in (e ∙ f)
+
+pub as_generated : (s seed : ℕ) (asked : Option Asked) (files : Option (List ℕ → Option (List ℕ))) (files_failed : Type 0) (racks : List (List ℕ)) (before old now before_report report : Option (List ℕ)) (failed : Type 0) → Some (generating seed) ≡ asked
+    → Generated s seed old now before_report report failed → Hosted s asked files files_failed racks before before old now before_report report failed
+as_generated s seed asked files files_failed racks before old now before_report report failed is t = record {
+  usage = λ e. absurd (cc);
+  typed = λ e. absurd (cc);
+  played = λ size e. absurd (cc);
+  ran = λ name e. absurd (cc);
+  generated = λ other e. (refl, subst (λ n. Generated s n old now before_report report failed) (same_seed asked seed other is e) t);
 }

@@ -10,3 +10,6 @@ pub mod Entered
 pub mod Forms
 pub mod SoloLemmas
 pub mod TellLemmas
+pub mod Generations
+pub mod Foretelling
+pub mod Reasons

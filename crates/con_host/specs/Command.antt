@@ -1,5 +1,5 @@
 -- The command that reads the words, as the reader of command lines sees it.
-use Rattle.std.specs.Prelude.{List, ◌∷◌, [], codes, true, Option, option_map}
+use Rattle.std.specs.Prelude.{List, codes, true, Option, option_map}
 use Rattle.std.specs.Borrow.{Bor}
 use Rattle.clap.specs.Words.{App, Row, Rule, Text, first_of, new_app, new_rule, with_rule, with_subcommand}
 
@@ -13,8 +13,12 @@ taking name = with_rule (new_app name) word_rule
 abbrev pub bare : App
 bare = let a = new_app (codes "conpty") in record a { top = record a.top { no_binary_name = true; subcommand_required = true; disable_help_flag = true; disable_help_subcommand = true } }
 
+-- a command with one subcommand more
+abbrev pub and_more : App → App → App
+and_more a more = with_subcommand a more.top
+
 abbrev pub host : App
-host = with_subcommand (with_subcommand (with_subcommand bare (new_app (codes "type")).top) (taking (codes "play")).top) (taking (codes "solo")).top
+host = and_more (and_more (and_more (and_more bare (new_app (codes "type"))) (taking (codes "play"))) (taking (codes "solo"))) (taking (codes "gen"))
 
 -- a subcommand's name, and its word
 abbrev pub Named : Type 0

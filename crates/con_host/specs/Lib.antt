@@ -1,10 +1,13 @@
 -- What a reader must believe: the words, the link, the last line, and how typing, playing, a session by turns and the whole call end.
 pub mod Encoded
 pub mod Ending
+pub mod Foretold
+pub mod Generating
 pub mod Hosting
 pub mod Link
 pub mod Playing
 pub mod Solo
+pub mod Summary
 pub mod Typing
 pub mod Words
 -- The code's own words and laws: pieces of a text in turn, and the fields of what types.

@@ -1,9 +1,9 @@
 -- The form that a subcommand and its word are.
-use Rattle.std.specs.Prelude.{ℕ, Bool, true, false, ◌&&◌, List, [], ◌∷◌, Option, Some, None, codes, option_and_then, option_map, if◌then◌else◌}
+use Rattle.std.specs.Prelude.{Bool, true, false, ◌&&◌, List, [], ◌∷◌, Option, Some, None, codes, option_and_then, option_map, if◌then◌else◌}
 use Rattle.std.specs.Str.{bytes_eq}
 use Rattle.clap.specs.Words.{Row, Text}
 use Rattle.con_host.specs.Command.{Named, first_word}
-use Rattle.con_host.specs.Words.{Asked, typing, playing, solo, at_size, is_word, size_of}
+use Rattle.con_host.specs.Words.{Asked, typing, playing, solo, generating, at_size, of_seed, is_word, size_of, seed_of}
 use Rattle.con_host.specs.declared.words.Form.{Form}
 use Rattle.con_host.specs.declared.words.Form.TheVariants as form
 
@@ -12,6 +12,7 @@ abbrev pub asked_of : Form → Asked
 asked_of form.Type = typing
 asked_of (form.Play size) = playing size
 asked_of (form.Solo name) = solo name.now
+asked_of (form.Gen seed) = generating seed
 
 abbrev pub of_size : Option Text → Option Asked
 of_size None = None
@@ -21,11 +22,16 @@ abbrev pub of_name : Option Text → Option Asked
 of_name None = None
 of_name (Some word) = Some (solo word)
 
+abbrev pub of_number : Option Text → Option Asked
+of_number None = None
+of_number (Some word) = of_seed (seed_of word)
+
 abbrev pub form_named : Named → Option Asked
 form_named p =
     if bytes_eq p.0 (codes "type") then Some typing
     else if bytes_eq p.0 (codes "play") then of_size p.1
     else if bytes_eq p.0 (codes "solo") then of_name p.1
+    else if bytes_eq p.0 (codes "gen") then of_number p.1
     else None
 
 -- what was met asks for

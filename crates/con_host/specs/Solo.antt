@@ -1,5 +1,5 @@
 -- How a session by turns ends: from the bytes of its file and of its link to those of the terminal and of the report.
-use Rattle.std.specs.Prelude.{◌≡◌, ◌⊎◌, ℕ, ◌<◌, ◌≤◌, List, length, Option, IfSome, Some, None, Ok, Err, codes}
+use Rattle.std.specs.Prelude.{◌≡◌, ◌⊎◌, ℕ, ◌≤◌, List, length, Option, IfSome, Some, None, Ok, Err, codes}
 use Rattle.con_events.specs.Session.{Clients}
 use Rattle.con_events.specs.declared.end.End.{End}
 use Rattle.con_events.specs.declared.end.End.TheVariants as ends

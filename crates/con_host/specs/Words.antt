@@ -1,16 +1,17 @@
 -- Which words are a form.
-use Rattle.std.specs.Prelude.{ℕ, ◌+◌, ◌-◌, ◌*◌, ◌<◌, ◌≤◌, Bool, false, not, ◌&&◌, ◌==◌, nat_le, List, [], ◌∷◌, take, drop, Option, Some, None, codes, if◌then◌else◌}
+use Rattle.std.specs.Prelude.{ℕ, ◌+◌, ◌-◌, ◌*◌, ◌<◌, ◌≤◌, Bool, false, not, ◌&&◌, ◌==◌, nat_le, List, [], ◌∷◌, take, drop, Option, Some, None, codes, option_and_then, if◌then◌else◌}
 use Rattle.std.specs.List.{list_all, position}
 use Rattle.std.specs.Str.{bytes_eq}
 use Rattle.con_units.specs.declared.place.Size.{Size}
 use Rattle.con_host.specs.declared.words.Form.{Form}
 use Rattle.con_host.specs.declared.words.Form.TheVariants as form
 
--- what the words ask for: a text to be typed, bytes to be played at a size, the session of a file by turns
+-- what the words ask for: a text to be typed, bytes to be played at a size, the session of a file by turns, the generated session of a number
 pub data Asked : Type 0 where
   typing : Asked
   playing : Size → Asked
   solo : List ℕ → Asked
+  generating : ℕ → Asked
 
 -- '1' to '9'
 abbrev pub is_first : ℕ → Bool
@@ -55,6 +56,24 @@ size_at word (Some at) = both_sides (side_of (take at word) 512) (side_of (drop 
 abbrev pub size_of : List ℕ → Option Size
 size_of word = size_at word (position is_x word)
 
+-- a number with one decimal digit more, of at most 4,294,967,295
+abbrev pub with_digit : ℕ → ℕ → Option ℕ
+with_digit n byte = if is_digit byte && nat_le (n * 10 + digit_of byte) 4294967295 then Some (n * 10 + digit_of byte) else None
+
+-- the number that decimal digits spell behind one that was begun
+abbrev pub spelled_after : ℕ → List ℕ → Option ℕ
+spelled_after n [] = Some n
+spelled_after n (byte ∷ bytes) = option_and_then (λ more. spelled_after more bytes) (with_digit n byte)
+
+abbrev pub zero_alone : List ℕ → Option ℕ
+zero_alone [] = Some 0
+zero_alone (byte ∷ bytes) = None
+
+-- the number of at most 4,294,967,295 that a word spells: '0', or decimal digits of which the first is not 0
+abbrev pub seed_of : List ℕ → Option ℕ
+seed_of [] = None
+seed_of (byte ∷ bytes) = if byte == 0x30 then zero_alone bytes else spelled_after 0 (byte ∷ bytes)
+
 -- a window's size
 abbrev pub IsWindow : Size → Type 0
 IsWindow size = (0 < size.w) × (0 < size.h) × (size.w ≤ 512) × (size.h ≤ 256)
@@ -63,10 +82,15 @@ abbrev pub IsWindowed : Form → Type 0
 IsWindowed form.Type = Unit {0}
 IsWindowed (form.Play size) = IsWindow size
 IsWindowed (form.Solo name) = Unit {0}
+IsWindowed (form.Gen seed) = Unit {0}
 
 abbrev pub at_size : Option Size → Option Asked
 at_size None = None
 at_size (Some size) = Some (playing size)
+
+abbrev pub of_seed : Option ℕ → Option Asked
+of_seed None = None
+of_seed (Some seed) = Some (generating seed)
 
 -- not empty, and does not begin with '-'
 abbrev pub is_word : List ℕ → Bool
@@ -80,6 +104,7 @@ abbrev pub with_word : List ℕ → List ℕ → Option Asked
 with_word name word =
     if bytes_eq (codes "play") name then at_size (size_of word)
     else if bytes_eq (codes "solo") name then Some (solo word)
+    else if bytes_eq (codes "gen") name then of_seed (seed_of word)
     else None
 
 abbrev pub of_words : List (List ℕ) → Option Asked

@@ -35,9 +35,11 @@ fn command<'a>(alloc: Global) -> Result<Command<'a>, AllocError>
     let typing = Command::new(alloc, "type");
     let playing = taking_one(alloc, "play")?;
     let running = taking_one(alloc, "solo")?;
+    let generating = taking_one(alloc, "gen")?;
     let one = alone(alloc).subcommand(typing)?;
     let two = one.subcommand(playing)?;
-    two.subcommand(running)
+    let three = two.subcommand(running)?;
+    three.subcommand(generating)
 }
 
 /// What the command makes of the words.

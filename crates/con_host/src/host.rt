@@ -4,11 +4,17 @@ ghost use Rattle.std.specs.Prelude.{◌≡◌, ◌≢◌, ℕ, ◌+◌, ◌<◌,
 ghost use Rattle.con_handlers.specs.Delivery.{memory_of};
 ghost use Rattle.con_outside.specs.Outside.{Rose, then_left};
 ghost use Rattle.con_session.specs.Worker.{told_kind};
+ghost use Rattle.con_events.specs.Session.{Clients};
+ghost use Rattle.con_events.specs.declared.end.End.{End};
+ghost use Rattle.con_trace.specs.Ending.{status_of};
 ghost use Rattle.con_units.specs.declared.place.Size.{Size};
-ghost use Rattle.con_host.specs.Words.{form_of, typing, playing};
+ghost use Rattle.con_host.specs.Foretold.{Foretells, HasNoFrame, IsSession};
+ghost use Rattle.con_host.specs.Solo.{ending_after};
+ghost use Rattle.con_host.specs.Words.{form_of, typing, playing, solo, generating};
 ghost use Rattle.con_host.specs.Hosting.{Hosted};
 
-use crate::ending::{LINK, MEMORY, REPORT, TERMINAL, USAGE, finish};
+use crate::ending::{LINK, MEMORY, REPORT, TERMINAL, TOO_LONG, USAGE, finish};
+use crate::generating::host_gen;
 use crate::playing::host_play;
 use crate::solo::host_solo;
 use crate::typing::host_type;
@@ -41,6 +47,12 @@ pub fn console_host<F: Files, I: Source, O: Sink, R: Sink>(
         → IfSome (I.left link.old) (λ bytes. length bytes ≤ 16777216 → (result ≡ 0) ⊎ (result ≡ 9)) }
     ensures play_complete { (size : Size) → form_of (map string_bytes words.now) ≡ Some (playing size) → ¬ (Rose (I.faults link.old) (I.faults link.new)) → ¬ (Rose (O.faults term.old) (O.faults term.new)) → ¬ (Rose (R.faults report.old) (R.faults report.new))
         → IfSome (I.left link.old) (λ bytes. length bytes ≤ 16777216 → (result ≡ 0) ⊎ (result ≡ 9)) }
+    ensures solo_foretold { (name : List ℕ) (session : Clients) (bytes : List ℕ) (end : End) → form_of (map string_bytes words.now) ≡ Some (solo name) → IsSession (F.files files.old) name session → I.left link.old ≡ Some bytes → Foretells bytes end
+        → ¬ (Rose (F.faults files.old) (F.faults files.new)) → ¬ (Rose (I.faults link.old) (I.faults link.new)) → ¬ (Rose (O.faults term.old) (O.faults term.new)) → ¬ (Rose (R.faults report.old) (R.faults report.new))
+        → (result ≡ status_of (ending_after end)) ⊎ (result ≡ 9) }
+    ensures no_frame { result ≡ 8 → IfSome (I.left link.old) HasNoFrame }
+    ensures too_long { result ≡ TOO_LONG → (taken : List ℕ) × (I.left link.old ≡ then_left taken (I.left link.new)) × (16777216 < length taken) }
+    ensures gen_complete { (seed : ℕ) → form_of (map string_bytes words.now) ≡ Some (generating seed) → ¬ (Rose (O.faults term.old) (O.faults term.new)) → ¬ (Rose (R.faults report.old) (R.faults report.new)) → (result ≡ 0) ⊎ (result ≡ 9) }
 {
     match Form::of(alloc, words) {
         Err(OutOfMemory) => MEMORY,
@@ -48,5 +60,6 @@ pub fn console_host<F: Files, I: Source, O: Sink, R: Sink>(
         Ok(Some(Form::Type)) => host_type(alloc, link, term, report),
         Ok(Some(Form::Play(size))) => host_play(alloc, size, link, report),
         Ok(Some(Form::Solo(name))) => host_solo(alloc, name, files, link, term, report, racks),
+        Ok(Some(Form::Gen(seed))) => host_gen(alloc, seed, term, report),
     }
 }

@@ -6,7 +6,9 @@
 //! - `play WxH`: plays the link's bytes on the specified terminal of that size, and writes its dump to the report
 //!   ([`host_play`]);
 //! - `solo SESSION`: reads the session of a file, runs it by turns on one thread, and writes its history to the report
-//!   ([`host_solo`]).
+//!   ([`host_solo`]);
+//! - `gen N`: runs the generated session of a number by turns, without a link, and writes its summary to the report
+//!   ([`host_gen`]).
 //!
 //! Its contract says, for each status that it answers, what was taken from the link, and what the terminal and the
 //! report have. Memory does not grow with the link: a piece of 4,096 bytes is read, heard and forgotten.
@@ -18,16 +20,19 @@ pub mod command;
 pub mod decoding;
 pub mod ending;
 pub mod framing;
+pub mod generating;
 pub mod host;
 pub mod playing;
 pub mod reading;
 pub mod solo;
+pub mod summary;
 pub mod telling;
 pub mod text;
 pub mod typing;
 pub mod words;
 
 pub use ending::{DONE, LINK, MEMORY, REPORT, TERMINAL, TOO_LONG, USAGE};
+pub use generating::host_gen;
 pub use host::console_host;
 pub use playing::host_play;
 pub use solo::host_solo;

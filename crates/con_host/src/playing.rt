@@ -30,8 +30,8 @@ impl Listener for Terminal {
     ghost heard_in_turn = { played_in_turn };
 }
 
-// The dump of a terminal, as bytes.
-fn dumped(alloc: Global, terminal: &Terminal) -> Result<Vec<u8>, OutOfMemory>
+/// The dump of a terminal, as bytes.
+pub fn dumped(alloc: Global, terminal: &Terminal) -> Result<Vec<u8>, OutOfMemory>
     ensures { IfOk result (λ bytes. bytes.items ≡ dump_bytes terminal.now.page) }
 {
     let units = terminal.dump()?;

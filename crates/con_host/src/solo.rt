@@ -1,8 +1,11 @@
 //! `solo`: the session of a file, by turns, with its history as the report.
 
-ghost use Rattle.std.specs.Prelude.{◌≡◌, ◌≤◌, ◌<◌, ◌⊎◌, ℕ, List, Option, Some, Ok, All, IfOk, IfErr, length, map, true, false};
+ghost use Rattle.std.specs.Prelude.{◌≡◌, ◌≤◌, ◌<◌, ◌⊎◌, ℕ, List, Option, Some, Ok, All, IfOk, IfErr, IfSome, length, map, true, false};
 ghost use Rattle.con_handlers.specs.Delivery.{memory_of};
-ghost use Rattle.con_outside.specs.Outside.{Rose, then_written, WroteFront, WrotePart};
+ghost use Rattle.con_events.specs.Session.{Clients};
+ghost use Rattle.con_events.specs.declared.end.End.{End as Ended};
+ghost use Rattle.con_outside.specs.Outside.{Rose, then_left, then_written, WroteFront, WrotePart};
+ghost use Rattle.con_host.specs.Foretold.{Foretells, HasNoFrame, IsSession};
 ghost use Rattle.con_script.specs.Document.{document};
 ghost use Rattle.con_trace.specs.Ending.{ending_of, status_of};
 ghost use Rattle.con_session.specs.Worker.{told_kind};
@@ -11,6 +14,7 @@ ghost use Rattle.con_host.specs.Solo.{IsFile, Explains, Tells, Ran, Soloed, endi
 use crate::telling::write_report;
 use con_events::{End, Session};
 use con_handlers::CtrlHandler;
+use con_link::{one_answer, one_frame};
 use con_outside::{Fault, Files, Found, Sink, Source};
 use con_script::{SessionFault, read_session};
 use con_session::{Outcome, run_solo};
@@ -152,8 +156,14 @@ fn run<I: Source, O: Sink, R: Sink>(
     ensures link_failed { result ≡ 4 → Rose (I.faults link.old) (I.faults link.new) }
     ensures term_failed { result ≡ 5 → Rose (O.faults term.old) (O.faults term.new) }
     ensures report_failed { result ≡ 6 → Rose (R.faults report.old) (R.faults report.new) }
+    ensures foretold { (bytes : List ℕ) (end : Ended) → I.left link.old ≡ Some bytes → Foretells bytes end → ¬ (Rose (I.faults link.old) (I.faults link.new)) → ¬ (Rose (O.faults term.old) (O.faults term.new)) → ¬ (Rose (R.faults report.old) (R.faults report.new))
+        → (result ≡ status_of (ending_after end)) ⊎ (result ≡ 9) }
+    ensures no_frame { result ≡ 8 → IfSome (I.left link.old) HasNoFrame }
+    ensures too_long { result ≡ 10 → (taken : List ℕ) × (I.left link.old ≡ then_left taken (I.left link.new)) × (16777216 < length taken) }
     ensures never_fall { (I.faults link.old ≤ I.faults link.new) × (O.faults term.old ≤ O.faults term.new) × (R.faults report.old ≤ R.faults report.new) }
 {
+    one_answer();
+    one_frame();
     let outcome = run_solo(alloc, session, link, term, racks);
     tell(alloc, &outcome, report)
 }
@@ -173,6 +183,11 @@ pub fn host_solo<F: Files, I: Source, O: Sink, R: Sink>(
     ensures link_failed { result ≡ 4 → Rose (I.faults link.old) (I.faults link.new) }
     ensures term_failed { result ≡ 5 → Rose (O.faults term.old) (O.faults term.new) }
     ensures report_failed { result ≡ 6 → Rose (R.faults report.old) (R.faults report.new) }
+    ensures foretold { (session : Clients) (bytes : List ℕ) (end : Ended) → IsSession (F.files files.old) name.now session → I.left link.old ≡ Some bytes → Foretells bytes end
+        → ¬ (Rose (F.faults files.old) (F.faults files.new)) → ¬ (Rose (I.faults link.old) (I.faults link.new)) → ¬ (Rose (O.faults term.old) (O.faults term.new)) → ¬ (Rose (R.faults report.old) (R.faults report.new))
+        → (result ≡ status_of (ending_after end)) ⊎ (result ≡ 9) }
+    ensures no_frame { result ≡ 8 → IfSome (I.left link.old) HasNoFrame }
+    ensures too_long { result ≡ 10 → (taken : List ℕ) × (I.left link.old ≡ then_left taken (I.left link.new)) × (16777216 < length taken) }
     ensures never_fall { (F.faults files.old ≤ F.faults files.new) × (I.faults link.old ≤ I.faults link.new) × (O.faults term.old ≤ O.faults term.new) × (R.faults report.old ≤ R.faults report.new) }
 {
     match session_of(alloc, name, files) {

@@ -17,6 +17,8 @@ pub enum Form<'a> {
     Play(Size),
     /// `solo SESSION`: the session of the file of this name runs by turns; its history goes to the report.
     Solo(&'a str),
+    /// `gen N`: the generated session of this number runs by turns; its summary goes to the report.
+    Gen(u32),
 }
 
 impl<'a> Form<'a> {
@@ -24,8 +26,8 @@ impl<'a> Form<'a> {
     ghost use Rattle.con_host.specs.Naming.{asked_of};
 
     /// The form that the words are, and `None` where they are none: `type` alone, `play` with a size of 1 to 512
-    /// by 1 to 256, in decimal digits without a sign or a leading zero, joined by `x`, or `solo` with a name. An empty word and one that begins with `-`
-    /// stand in no form.
+    /// by 1 to 256, in decimal digits without a sign or a leading zero, joined by `x`, `solo` with a name, or `gen` with a number of 0 to
+    /// 4,294,967,295, in decimal digits without a sign or a leading zero. An empty word and one that begins with `-` stand in no form.
     pub fn of(alloc: Global, words: &'a [String]) -> Result<Option<Form<'a>>, OutOfMemory>
         ensures form { IfOk result (λ form. option_map asked_of form ≡ form_of (map string_bytes words.entry.now)) }
         ensures window { IfOk result (λ form. IfSome form IsWindowed) }
@@ -41,8 +43,8 @@ impl<'a> Form<'a> {
     }
 }
 
-ghost use Rattle.con_host.specs.Words.{is_word, is_first, is_digit, number_of, side_of, size_of, is_x, digit_of, IsWindow, IsWindowed};
-ghost use Rattle.con_host.specs.Naming.{are_few, asked_of, of_size, of_name, form_named, form_met};
+ghost use Rattle.con_host.specs.Words.{is_word, is_first, is_digit, number_of, side_of, size_of, is_x, digit_of, with_digit, spelled_after, seed_of, IsWindow, IsWindowed};
+ghost use Rattle.con_host.specs.Naming.{are_few, asked_of, of_size, of_name, of_number, form_named, form_met};
 ghost use Rattle.std.specs.Prelude.{true, false, option_map};
 ghost use Rattle.std.specs.List.{list_all};
 ghost use Rattle.clap.specs.Words.{subcommand_rows_of};
@@ -96,6 +98,8 @@ fn form_of_name<'a>(name: &str, word: Option<&'a str>) -> Option<Form<'a>>
         playing(word)
     } else if name == "solo" {
         running(word)
+    } else if name == "gen" {
+        generating(word)
     } else {
         None
     }
@@ -120,6 +124,19 @@ fn running<'a>(word: Option<&'a str>) -> Option<Form<'a>>
 {
     match word {
         Some(name) => Some(Form::Solo(name)),
+        None => None,
+    }
+}
+
+fn generating<'a>(word: Option<&'a str>) -> Option<Form<'a>>
+    ensures form { option_map asked_of result ≡ of_number (option_map (λ s. s.now) word.entry) }
+    ensures window { IfSome result IsWindowed }
+{
+    let Some(word) = word else {
+        return None;
+    };
+    match seed_in(word.as_bytes()) {
+        Some(seed) => Some(Form::Gen(seed)),
         None => None,
     }
 }
@@ -188,4 +205,41 @@ fn size_in(word: &[u8]) -> Option<Size>
         return None;
     };
     Some(Size { w, h })
+}
+
+// The number with one digit more, where it is one of a session.
+fn with_digit(number: u32, byte: u8) -> Option<u32>
+    ensures { result ≡ with_digit number byte }
+{
+    let more = number as u64 * 10 + value(byte) as u64;
+    if digit(byte) && more <= 4_294_967_295 {
+        Some(more as u32)
+    } else {
+        None
+    }
+}
+
+// The number that all digits spell.
+fn spelled(digits: &[u8]) -> Option<u32>
+    ensures { result ≡ spelled_after 0 digits.now }
+{
+    let mut number = 0;
+    for byte in digits {
+        let Some(more) = with_digit(number, *byte) else {
+            return None;
+        };
+        number = more;
+    }
+    Some(number)
+}
+
+fn seed_in(word: &[u8]) -> Option<u32>
+    ensures { result ≡ seed_of word.now }
+{
+    match word {
+        [] => None,
+        [0x30] => Some(0),
+        [0x30, ..] => None,
+        _ => spelled(word),
+    }
 }

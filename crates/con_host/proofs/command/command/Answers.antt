@@ -1,7 +1,7 @@
 use Rattle.std.proofs.Common.{rules, ap, ap₂, codes, ◌≡◌, ◌∙◌}
 use Rattle.std.proofs.lemmas.Result.{IfOk-weaker}
 use Rattle.clap.specs.Words.{App, app_of, new_app, with_subcommand}
-use Rattle.con_host.specs.Command.{bare, host, taking}
+use Rattle.con_host.specs.Command.{bare, taking}
 use Rattle.con_host.proofs.command.command.Goals as goal
 
 pub returns : goal.returns
@@ -12,4 +12,7 @@ returns c =
     let solo_is : app_of c.in_ok-running.running ≡ taking (codes "solo") = c.in_ok-running.ensures.app in
     let two_is : app_of c.in_ok-two.two ≡ with_subcommand (with_subcommand bare (new_app (codes "type")).top) (taking (codes "play")).top =
     c.in_ok-two.ensures.shape (search rules) ∙ ap₂ with_subcommand one_is (ap (λ (a : App). a.top) play_is) in
-    IfOk-weaker c.subcommand-3.result _ _ (λ r h. h.shape (search rules) ∙ ap₂ with_subcommand two_is (ap (λ (a : App). a.top) solo_is)) c.subcommand-3.ensures
+    let three_is : app_of c.in_ok-three.three ≡ with_subcommand (with_subcommand (with_subcommand bare (new_app (codes "type")).top) (taking (codes "play")).top) (taking (codes "solo")).top =
+    c.in_ok-three.ensures.shape (search rules) ∙ ap₂ with_subcommand two_is (ap (λ (a : App). a.top) solo_is) in
+    let gen_is : app_of c.in_ok-generating.generating ≡ taking (codes "gen") = c.in_ok-generating.ensures.app in
+    IfOk-weaker c.subcommand-4.result _ _ (λ r h. h.shape (search rules) ∙ ap₂ with_subcommand three_is (ap (λ (a : App). a.top) gen_is)) c.subcommand-4.ensures
