@@ -1,0 +1,88 @@
+-- A client's thread.
+use Rattle.std.specs.Prelude.{◌≡◌, ◌⊎◌, ℕ, ◌≤◌, Bool, true, false, List, [], drop}
+use Rattle.con_events.specs.declared.actor.Actor.TheVariants as actors
+use Rattle.con_events.specs.declared.entry.Entry.{Entry}
+use Rattle.con_events.specs.declared.event.Event.{Event}
+use Rattle.con_events.specs.declared.event.Event.TheVariants as events
+use Rattle.con_events.specs.declared.script.Step.{Step}
+use Rattle.con_handlers.specs.Delivery.{Memory}
+use Rattle.con_machine.specs.Client.{next_event, ctrl_exit}
+use Rattle.con_machine.specs.History.{run}
+use Rattle.con_machine.specs.Rounds.{Begun, client_at}
+use Rattle.con_machine.specs.Step.{is_ready}
+use Rattle.con_session.specs.Standing.{ClientStands}
+use Rattle.con_session.specs.Worker.{IsWorker, HandsStand}
+use Rattle.con_session.specs.declared.worker.Worker.{Worker}
+use Rattle.con_threads.specs.Scribe.{IsScribe, IsSameScribe, opened, history}
+use Rattle.con_threads.specs.declared.scribe.Scribe.{Scribe}
+
+-- Client p, as far as its thread has seen the history: it follows its script, and its thread keeps it as it is. Where the thread had
+-- no memory behind an entry (`broken`), it keeps nothing more. A client that is gone has dropped its handlers.
+pub record ClientGoes (b : Begun) (p : ℕ) (h : List Entry) (steps : List Step) (broken : Bool) (w : Worker) (places : List ℕ) (ms : List Memory) (slots : List ℕ) : Type 0 where
+  pub stands : ClientStands b h p
+  pub worker : broken ≡ false → IsWorker (client_at b h p) steps w
+  pub hands : broken ≡ false → w.gone ≡ false → HandsStand b p h places ms slots
+  pub dropped : w.gone ≡ true → (ms ≡ []) × (slots ≡ [])
+
+-- what a contract sees of a client's thread
+pub record ClientView : Type 0 where
+  pub scribe : Scribe
+  pub steps : List Step
+  pub number : ℕ
+  pub broken : Bool
+  pub worker : Worker
+  pub places : List ℕ
+  pub memories : List Memory
+  pub slots : List ℕ
+
+abbrev pub ViewGoes : Begun → ClientView → Type 0
+ViewGoes b v = ClientGoes b v.number (history v.scribe) v.steps v.broken v.worker v.places v.memories v.slots
+
+-- what a client's thread always is
+pub record IsClientThread (v : ClientView) : Type 0 where
+  pub scribe : IsScribe v.scribe
+  pub actor : v.scribe.actor ≡ actors.Client v.number
+  pub real : 1 ≤ v.number
+
+-- the same client, which has followed its script further
+pub record HasServed (v w : ClientView) : Type 0 where
+  pub same : IsSameScribe v.scribe w.scribe
+  pub steps : w.steps ≡ v.steps
+  pub number : w.number ≡ v.number
+  pub is : IsClientThread w
+  pub goes : (b : Begun) → opened v.scribe ≡ b.state → ViewGoes b v → ViewGoes b w
+
+-- ---- between two events of a turn
+
+-- no control event is pending
+abbrev pub IsQuiet : Scribe → Type 0
+IsQuiet s = is_ready (run (opened s) (history s)) s.actor events.TakeCtrl ≡ false
+
+-- it goes on: no event calls for its exit, none is pending, and a read of it is open, or none is
+pub record Proceeds (s : Scribe) (w : Worker) (broken reads : Bool) : Type 0 where
+  pub whole : broken ≡ false
+  pub here : w.gone ≡ false
+  pub stays : w.leaving ≡ false
+  pub reading : w.reading ≡ reads
+  pub quiet : IsQuiet s
+
+-- the event of its next step
+abbrev pub IsNext : List Step → Worker → Event → Type 0
+IsNext steps w e = e ≡ next_event (drop w.at steps)
+
+-- a control event called for its exit
+pub record MustExit (w : Worker) (broken : Bool) (status : ℕ) : Type 0 where
+  pub whole : broken ≡ false
+  pub here : w.gone ≡ false
+  pub leaving : w.leaving ≡ true
+  pub status' : status ≡ ctrl_exit
+
+-- it may leave, by a control event or by its script
+abbrev pub MayExit : Scribe → List Step → Worker → Bool → ℕ → Type 0
+MayExit s steps w broken status = MustExit w broken status ⊎ (Proceeds s w broken false × IsNext steps w (events.Exit status))
+
+-- where nothing was taken, all is as it was, and nothing is pending
+pub record Rested (v w : Worker) (c d : Bool) (s : Scribe) : Type 0 where
+  pub worker : w ≡ v
+  pub broken : d ≡ c
+  pub quiet : IsQuiet s

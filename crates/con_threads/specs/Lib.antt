@@ -1,0 +1,13 @@
+-- What a reader must believe: the console in the lock, what an actor has seen of it, and what each thread promises.
+pub mod Ledger
+pub mod Scribe
+pub mod Clients
+pub mod Sides
+pub mod Painters
+pub mod Writers
+pub mod Crews
+pub mod Taking
+pub mod Session
+-- Laws of these words.
+pub mod LedgerLaws
+pub mod ScribeLaws

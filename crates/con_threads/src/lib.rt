@@ -1,0 +1,36 @@
+//! A session by threads: each client, the terminal's side, the painter and the writer has a thread of its own, where one can be made.
+//!
+//! - A [`Ledger`] is a console with the replies that it gave, as a book keeps it: one lock, one history.
+//! - A [`Scribe`] enters the events of one actor there, and knows what it has seen of the history.
+//! - A [`ClientThread`] follows its script, a [`SideThread`] sends the frames of the link, a [`PainterThread`] makes a frame of each
+//!   Paint outside the lock, and a [`WriterThread`] writes them.
+//!
+//! [`run_session`] makes all of them, lets them run beside each other, takes their passes together once all have returned, paints what is
+//! still due, closes the book and leaves an `Outcome`, as a session by turns does.
+//!
+//! Never promised: that a thread gets its turn, how long it waits, and that two of them ran at once.
+#![tactic(auto)]
+
+mod client;
+mod close;
+mod closing;
+mod crew;
+mod edges;
+mod gather;
+mod ledger;
+mod listing;
+mod painter;
+mod run;
+mod scribe;
+mod session;
+mod side;
+mod step;
+mod writer;
+
+pub use client::{ClientThread, Moved};
+pub use ledger::{Ledger, Page, Told};
+pub use painter::PainterThread;
+pub use scribe::Scribe;
+pub use session::run_session;
+pub use side::SideThread;
+pub use writer::WriterThread;
