@@ -1,6 +1,5 @@
 -- What a session by threads leaves behind.
-use Rattle.std.proofs.Common.{◌≡◌, ◌⊎◌, ℕ, zero, suc, ◌+◌, ◌<◌, ◌≤◌, Bool, true, false, List, [], ◌∷◌, length, map, Option, Some, None, refl, sym, ap, ◌∙◌, subst, inl, inr, arith}
-use Rattle.std.specs.Prelude.{slice_get}
+use Rattle.std.proofs.Common.{◌≡◌, ◌⊎◌, ℕ, ◌+◌, ◌<◌, ◌≤◌, Bool, true, false, List, [], length, Option, None, refl, sym, ap, ◌∙◌, subst, inl, inr, arith}
 use Rattle.con_outside.specs.Outside.{Rose}
 use Rattle.con_events.specs.Session.{Clients}
 use Rattle.con_events.specs.declared.end.End.{End}
@@ -11,18 +10,15 @@ use Rattle.con_machine.specs.Client.{Gone}
 use Rattle.con_machine.specs.Follows.{begun}
 use Rattle.con_machine.specs.History.{run}
 use Rattle.con_machine.specs.Rounds.{Begun, client_at}
-use Rattle.con_machine.specs.Turns.{sent, has_ended, paints}
+use Rattle.con_machine.specs.Turns.{paints}
 use Rattle.con_machine.specs.Whole.{HaveAllLeft}
 use Rattle.con_session.specs.CanvasLaws.{canvas_ends, painted_count}
-use Rattle.con_session.specs.EndLaws.{by_number, ends_count, leaves_none, leaves_stops, leaves_whole, link_sent}
+use Rattle.con_session.specs.EndLaws.{by_number, ends_count, leaves_none, leaves_stops, leaves_whole}
 use Rattle.con_session.specs.LinkLaws.{link_failed, link_stays}
 use Rattle.con_session.specs.Outcome.{Leaves}
-use Rattle.con_session.specs.Painting.{CanvasIs}
-use Rattle.con_session.specs.Sender.{LinkIs}
-use Rattle.con_session.specs.Solo.{AsksStand, Holds, Moment, begins, end_by}
-use Rattle.con_session.specs.Standing.{ClientStands}
+use Rattle.con_session.specs.Solo.{AsksStand, Moment, begins, end_by}
 use Rattle.con_session.specs.declared.terminal.Side.{Side}
-use Rattle.con_threads.specs.Session.{IsBroken, IsDone, clients_in}
+use Rattle.con_threads.specs.Session.{IsBroken, IsDone}
 
 all_gone : (session : Clients) (racks : List (List ℕ)) (h : List Entry) → ((k : ℕ) → k < length session.scripts → (client_at (begins session racks None) h (k + 1)).stance ≡ Gone) → HaveAllLeft (begun session racks) h session racks
 all_gone session racks h f = λ p l m. by_number (λ q. (client_at (begins session racks None) h q).stance ≡ Gone) (length session.scripts) f p l m

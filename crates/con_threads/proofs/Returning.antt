@@ -1,8 +1,7 @@
 -- Threads that have returned.
-use Rattle.std.proofs.Common.{◌≡◌, ℕ, zero, suc, ◌+◌, ◌<◌, ◌≤◌, Bool, true, false, ◌||◌, List, [], ◌∷◌, ◌++◌, length, map, Option, Some, None, Result, Ok, Err, sym, refl, ap, ◌∙◌, subst, All, arith, get_or}
+use Rattle.std.proofs.Common.{◌≡◌, ℕ, zero, suc, ◌+◌, ◌<◌, ◌≤◌, Bool, true, false, ◌||◌, List, [], ◌∷◌, length, map, Option, Some, None, Ok, Err, sym, refl, ap, ◌∙◌, subst, All, arith}
 use Rattle.std.specs.Prelude.{slice_get}
-use Rattle.std.proofs.lemmas.List.{append_cancel_left}
-use Rattle.std.proofs.lemmas.Option.{slice_get-get_or, slice_get_within, get_or_from_slice_get}
+use Rattle.std.proofs.lemmas.Option.{slice_get_within, get_or_from_slice_get}
 use Rattle.con_units.specs.declared.code.OutOfMemory.{OutOfMemory}
 use Rattle.con_events.specs.Session.{Clients}
 use Rattle.con_events.specs.declared.actor.Actor.{Actor}
@@ -13,14 +12,13 @@ use Rattle.con_events.specs.declared.entry.Entry.{Entry}
 use Rattle.con_events.specs.declared.event.Event.{Event}
 use Rattle.con_events.specs.declared.event.Event.TheVariants as events
 use Rattle.con_events.specs.declared.reply.Reply.{Reply}
-use Rattle.con_machine.specs.Client.{Client, Stance, GoesOn, MayLeave, MustLeave, Gone}
+use Rattle.con_machine.specs.Client.{Stance, GoesOn, MayLeave, MustLeave, Gone}
 use Rattle.con_machine.specs.Follows.{are_of_session, begun}
 use Rattle.con_machine.specs.History.{is_legal, replies_of, run}
 use Rattle.con_machine.specs.Numbered as numbers
 use Rattle.con_machine.specs.Rounds.{Begun, client_at}
 use Rattle.con_machine.specs.State.{State}
 use Rattle.con_machine.specs.Step.{is_ready}
-use Rattle.con_session.specs.CanvasLaws.{canvas_ends}
 use Rattle.con_paint.specs.Painter.{Kept}
 use Rattle.con_session.specs.Desk.{listed}
 use Rattle.con_session.specs.OpeningLaws.{get_map, some_at}
@@ -33,13 +31,11 @@ use Rattle.con_session.specs.declared.terminal.Side.{Side}
 use Rattle.con_session.specs.Outcome.{Leaves}
 use Rattle.con_session.specs.Solo.{begins, end_by}
 use Rattle.con_session.specs.Standing.{ClientStands}
-use Rattle.con_session.specs.Worker.{IsStance, IsWorker}
-use Rattle.con_book.specs.History.{StartsWith, own}
+use Rattle.con_session.specs.Worker.{IsStance}
+use Rattle.con_book.specs.History.{own}
 use Rattle.con_book.specs.Laws.{begins_itself}
 use Rattle.con_book.specs.Lock.{joined}
 use Rattle.con_book.specs.Passes.{BookId, pass_id, view_of, actor_of, seen}
-use Rattle.con_book.specs.Turn.{OwnIsMine}
-use Rattle.con_book.specs.declared.history.Logged.{Logged}
 use Rattle.con_book.specs.declared.machine.Machine.{Ghosts}
 use Rattle.con_book.specs.declared.pass.Pass.{Pass}
 use Rattle.con_book.specs.declared.view.Joined.{Joined}

@@ -1,10 +1,7 @@
 -- A session by threads, when its threads run and when they have returned.
-use Rattle.std.specs.Prelude.{◌≡◌, ℕ, ◌+◌, ◌<◌, ◌≤◌, ◌||◌, Bool, true, false, List, [], ◌∷◌, length, map, Option}
+use Rattle.std.specs.Prelude.{◌≡◌, ℕ, ◌+◌, ◌<◌, ◌≤◌, Bool, true, false, List, [], ◌∷◌, length, map, Option}
 use Rattle.con_paint.specs.Painter.{Kept}
-use Rattle.con_events.specs.Session.{Clients}
 use Rattle.con_events.specs.declared.actor.Actor.TheVariants as actors
-use Rattle.con_events.specs.declared.end.End.{End}
-use Rattle.con_events.specs.declared.end.End.TheVariants as ends
 use Rattle.con_events.specs.declared.entry.Entry.{Entry}
 use Rattle.con_events.specs.declared.event.Event.{Event}
 use Rattle.con_events.specs.declared.event.Event.TheVariants as events

@@ -1,6 +1,6 @@
-use Rattle.std.proofs.Common.{rules, refl, sym, ◌∙◌}
+use Rattle.std.proofs.Common.{rules, sym, ◌∙◌}
 use Rattle.std.specs.Vec.Iter.{into_iter_items}
-use Rattle.con_threads.proofs.Taking.{gather_book, gather_first, gather_gone, gather_next, gather_single, gather_taken}
+use Rattle.con_threads.proofs.Taking.{gather_first, gather_next}
 use Rattle.con_threads.proofs.gather.gather.Goals as goal
 
 pub loop-client-init : goal.loop-client-init
