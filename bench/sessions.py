@@ -5,8 +5,8 @@
     sessions.py large
 
 For each number it runs the session that is generated from it, and prints how many events it has and how many of them are Paints, events
-a second, bytes of a frame on the average, and, where valgrind is there, instructions an event: of the whole run with its summary, for which the history is entered
-once more, and of the session alone.
+a second, bytes of a frame on the average, and, where valgrind is there, instructions: of the whole run by event, with its summary, for which the history is entered
+once more; and in the session itself those of an event that is no Paint, of a Paint, which copies the whole window, and of the making of its frame.
 
 With `large` it makes sessions with as many calls as a document may have, by 64 clients and by 16, over links of 16,777,216 bytes, and prints time and peak memory.
 In one link nothing is typed for a while in every byte, so that each is an event; in the other all bytes are typed, and clients read some of them."""
@@ -44,7 +44,10 @@ def instructions(seed, within):
         if within:
             words.append(f"--toggle-collect=*{within}*")
         told = subprocess.run([*words, PROGRAM, "gen", seed], stdin=subprocess.DEVNULL, stdout=subprocess.DEVNULL, stderr=subprocess.PIPE, check=True, text=True)
-    return int(re.search(r"Collected : (\d+)", told.stderr).group(1))
+    count = int(re.search(r"Collected : (\d+)", told.stderr).group(1))
+    if count == 0:
+        sys.exit(f"no function of the program is named {within}")
+    return count
 
 
 def measure(seeds):
@@ -52,8 +55,9 @@ def measure(seeds):
         events, paints, length, taken = generated(seed)
         line = f"gen {seed:10} {events} events, {paints} Paints, {events / taken:9.0f} events a second, {length / paints:6.0f} bytes a Paint"
         if shutil.which("valgrind"):
-            whole, alone = instructions(seed, ""), instructions(seed, "run_solo")
-            line += f", {whole / events:7.0f} instructions an event, {alone / events:7.0f} of the session alone"
+            whole, others = instructions(seed, "") / events, instructions(seed, "Desk::enter") / (events - paints)
+            copied, framed = instructions(seed, "Desk::paint") / paints, instructions(seed, "painting::draw") / paints
+            line += f"; instructions: {whole:.0f} an event in all; {others:.0f} an event that is no Paint, {copied:.0f} a Paint, {framed:.0f} its frame"
         print(line, flush=True)
 
 
