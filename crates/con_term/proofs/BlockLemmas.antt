@@ -1,7 +1,7 @@
 -- What is done to a part of a block.
-use Rattle.std.proofs.Common.{◌≡◌, ℕ, zero, suc, ◌+◌, ◌-◌, ◌<◌, ◌≤◌, List, [], ◌∷◌, ◌++◌, length, set, take, drop, map, replicate, refl, sym, ap, ◌∙◌, append_assoc, arith, length-append, length-drop}
-use Rattle.std.proofs.lemmas.List.{drop-set-add, drop-append-le, drop-take, drop-drop, length-map, length-replicate, length-take, length-take-le, drop_all}
-use Rattle.std.proofs.Math.Seq.{take-set-lt, take-append-add, take-append_seam}
+use Rattle.std.proofs.Common.{◌≡◌, ℕ, zero, suc, ◌+◌, ◌-◌, ◌<◌, ◌≤◌, List, [], ◌∷◌, ◌++◌, length, set, take, drop, map, replicate, refl, sym, ap, ◌∙◌, append_assoc, arith, length-drop}
+use Rattle.std.proofs.lemmas.List.{drop-set-add, drop-append-le, drop-take, drop-drop, length-map, length-replicate, length-take, length-take-le, drop_all, take-replicate}
+use Rattle.std.proofs.Math.Seq.{take-set-lt, take-append-add}
 use Rattle.con_units.specs.Glyph.{Glyph}
 use Rattle.con_term.specs.Page.{filled}
 use Rattle.con_term.specs.Run.{pasted}
@@ -19,7 +19,7 @@ drop_front : (m k : ℕ) (xs : List Glyph) → m ≤ k → drop m (take k xs) �
 drop_front m k xs h = let e : k ≡ m + (k - m) = omega arith in ap (λ j. drop m (take j xs)) e ∙ drop-take m (k - m) xs
 
 -- two steps into a list
-two_steps : (m n k : ℕ) (xs : List Glyph) → k ≡ m + n → drop n (drop m xs) ≡ drop k xs
+pub two_steps : (m n k : ℕ) (xs : List Glyph) → k ≡ m + n → drop n (drop m xs) ≡ drop k xs
 two_steps m n k xs h = drop-drop n m xs ∙ ap (λ j. drop j xs) (sym h)
 
 append_none : (xs : List Glyph) → xs ++ [] ≡ xs
@@ -28,7 +28,7 @@ append_none (x ∷ xs) = ap (λ ys. x ∷ ys) (append_none xs)
 
 -- ---- cells pasted into a list
 
-filled_pasted : (xs : List Glyph) (from upto : ℕ) (c : Glyph) → from ≤ upto → filled xs from upto c ≡ pasted xs from (replicate (upto - from) c)
+pub filled_pasted : (xs : List Glyph) (from upto : ℕ) (c : Glyph) → from ≤ upto → filled xs from upto c ≡ pasted xs from (replicate (upto - from) c)
 unfolding filled pasted
 filled_pasted xs from upto c h =
     let e : upto ≡ from + length (replicate (upto - from) c) = omega (arith, length-replicate (upto - from) c) in
@@ -104,20 +104,17 @@ lifted_on s n by xs c h k =
     ∙ ap (λ ys. ys ++ replicate by c) (take_front kept n (drop (s + by) xs) (omega arith) ∙ ap (take kept) (sym (two_steps s by (s + by) xs refl)) ∙ sym (drop_front by n (drop s xs) h))
 
 -- the part goes back to the front of its block
-pub lifted_back : (s n by : ℕ) (xs new : List Glyph) (c : Glyph) → by ≤ n → take n new ≡ take (n - by) (drop (s + by) xs) ++ replicate by c → part 0 n new ≡ drop by (part s n xs) ++ replicate by c
-lifted_back s n by xs new c h e = e ∙ ap (λ ys. ys ++ replicate by c) (ap (take (n - by)) (sym (two_steps s by (s + by) xs refl)) ∙ sym (drop_front by n (drop s xs) h))
-
--- ---- a copy, and then the last places
-
-pub moved_is : (to from mid after : List Glyph) (rest end : ℕ) (c : Glyph) → length from + rest ≡ length to → end ≡ length to → mid ≡ from → after ≡ filled (mid ++ drop (length from) to) (length from) end c → after ≡ from ++ replicate rest c
-moved_is to from mid after rest end c same whole copied e =
-    let xs : List Glyph = from ++ drop (length from) to in
-    let long : length xs ≡ end = omega (arith, same, whole, length-append from (drop (length from) to), length-drop {A = Glyph} (length from) to) in
-    e ∙ ap (λ ys. filled (ys ++ drop (length from) to) (length from) end c) copied
-    ∙ filled_pasted xs (length from) end c (omega (arith, same, whole))
-    ∙ pasted_last xs (replicate (end - length from) c) (length from) (omega (arith, same, whole, long, length-replicate (end - length from) c))
-    ∙ ap (λ ys. ys ++ replicate (end - length from) c) (take-append_seam from (drop (length from) to))
-    ∙ ap (λ j. from ++ replicate j c) (omega (arith, same, whole))
+pub lifted_back : (s n by : ℕ) (xs after : List Glyph) (c : Glyph) → by ≤ n → s ≤ n → length xs ≡ n + n → s + by + (n - by) ≤ length xs → after ≡ take (n - by) (drop (s + by) xs) ++ replicate (length xs - (n - by)) c → part 0 n after ≡ drop by (part s n xs) ++ replicate by c
+lifted_back s n by xs after c h low twice room e =
+    let front : List Glyph = take (n - by) (drop (s + by) xs) in
+    let long : length front ≡ n - by = length-take-le (n - by) (drop (s + by) xs) (omega (arith, room, length-drop {A = Glyph} (s + by) xs)) in
+    let whole : n ≡ length front + by = omega (arith, long, h) in
+    let few : by ≤ length xs - (n - by) = omega (arith, twice, h) in
+    ap (take n) e
+    ∙ ap (λ j. take j (front ++ replicate (length xs - (n - by)) c)) whole
+    ∙ take-append-add front (replicate (length xs - (n - by)) c) by
+    ∙ ap (λ ys. front ++ ys) (take-replicate by (length xs - (n - by)) c few)
+    ∙ ap (λ ys. ys ++ replicate by c) (ap (take (n - by)) (sym (two_steps s by (s + by) xs refl)) ∙ sym (drop_front by n (drop s xs) h))
 
 -- ---- a block that contracts see as `now`
 
@@ -127,8 +124,8 @@ count_is s n xs now low twice e = ap length (sym e) ∙ part_length s n xs (omeg
 pub same_count : (s n : ℕ) (xs after now : List Glyph) → s ≤ n → length xs ≡ n + n → part s n xs ≡ now → length after ≡ length xs → length (part s n after) ≡ length now
 same_count s n xs after now low twice e same = part_length s n after (omega (arith, twice, same)) ∙ sym (count_is s n xs now low twice e)
 
-pub set_is : (s n at : ℕ) (xs now : List Glyph) (c : Glyph) → s ≤ n → length xs ≡ n + n → part s n xs ≡ now → at < length now → part s n (set xs (s + at) c) ≡ set now at c
-set_is s n at xs now c low twice e h = part_set s n at xs c (omega (arith, count_is s n xs now low twice e, h)) ∙ ap (λ ys. set ys at c) e
+pub set_is : (s n at : ℕ) (xs after now : List Glyph) (c : Glyph) → s ≤ n → length xs ≡ n + n → part s n xs ≡ now → at < length now → after ≡ set xs (s + at) c → part s n after ≡ set now at c
+set_is s n at xs after now c low twice e h is = ap (part s n) is ∙ part_set s n at xs c (omega (arith, count_is s n xs now low twice e, h)) ∙ ap (λ ys. set ys at c) e
 
 pub fill_is : (s n from upto : ℕ) (xs after now : List Glyph) (c : Glyph) → s ≤ n → length xs ≡ n + n → part s n xs ≡ now → from ≤ upto → upto ≤ length now → after ≡ filled xs (s + from) (s + upto) c → part s n after ≡ filled now from upto c
 fill_is s n from upto xs after now c low twice e order inside is =
@@ -142,17 +139,13 @@ pub lift_on_is : (s n by : ℕ) (xs after now : List Glyph) (c : Glyph) → s �
 lift_on_is s n by xs after now c low twice e inside room is =
     ap (part (s + by) n) is ∙ lifted_on s n by xs c (omega (arith, count_is s n xs now low twice e, inside)) (omega (arith, twice)) ∙ ap (λ ys. drop by ys ++ replicate by c) e
 
-pub lift_back_is : (s n by : ℕ) (xs after now : List Glyph) (c : Glyph) → s ≤ n → length xs ≡ n + n → part s n xs ≡ now → by ≤ length now → take n after ≡ take (n - by) (drop (s + by) xs) ++ replicate by c → part 0 n after ≡ drop by now ++ replicate by c
+pub lift_back_is : (s n by : ℕ) (xs after now : List Glyph) (c : Glyph) → s ≤ n → length xs ≡ n + n → part s n xs ≡ now → by ≤ length now → after ≡ take (n - by) (drop (s + by) xs) ++ replicate (length xs - (n - by)) c → part 0 n after ≡ drop by now ++ replicate by c
 lift_back_is s n by xs after now c low twice e inside is =
-    lifted_back s n by xs after c (omega (arith, count_is s n xs now low twice e, inside)) is ∙ ap (λ ys. drop by ys ++ replicate by c) e
+    let few : by ≤ n = omega (arith, count_is s n xs now low twice e, inside) in
+    lifted_back s n by xs after c few low twice (omega (arith, twice, few, low)) is ∙ ap (λ ys. drop by ys ++ replicate by c) e
 
 pub run_short : (f : ℕ → Glyph) (bytes : List ℕ) (count : ℕ) → length (map f (take count bytes)) ≤ count
 run_short f bytes count = omega (arith, length-map (take count bytes) f, length-take count bytes)
 
-take_replicate : (n k : ℕ) (c : Glyph) → n ≤ k → take n (replicate k c) ≡ replicate n c
-take_replicate zero k c h = refl
-take_replicate (suc n) zero c h = absurd (omega arith)
-take_replicate (suc n) (suc k) c h = ap (λ ys. c ∷ ys) (take_replicate n k c (omega arith))
-
 pub first_half : (n : ℕ) (xs : List Glyph) (c : Glyph) → xs ≡ replicate (n + n) c → take n xs ≡ replicate n c
-first_half n xs c h = ap (take n) h ∙ take_replicate n (n + n) c (omega arith)
+first_half n xs c h = ap (take n) h ∙ take-replicate n (n + n) c (omega arith)

@@ -1,4 +1,5 @@
 pub mod BlockLemmas
+pub mod SheetLemmas
 pub mod SgrLemmas
 pub mod FillLemmas
 pub mod CopyLemmas

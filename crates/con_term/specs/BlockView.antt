@@ -8,9 +8,9 @@ abbrev pub part : ℕ → ℕ → List Glyph → List Glyph
 part start count cells = take count (drop start cells)
 
 abbrev pub shown_of : Inside → List Glyph
-shown_of b = part b.start b.count b.cells.items
+shown_of b = part b.start b.count b.cells
 
 pub record IsBlock (b : Inside) : Type 0 where
   pub start : b.start ≤ b.count
-  pub twice : length b.cells.items ≡ b.count + b.count
+  pub twice : length b.cells ≡ b.count + b.count
   pub small : b.count ≤ 131072

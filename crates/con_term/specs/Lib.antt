@@ -13,6 +13,7 @@ pub mod PlayLaws
 pub mod SidesLaws
 pub mod Run
 pub mod SgrSteps
+pub mod SheetView
 pub mod BlockView
 pub mod PageView
 pub mod Inside

@@ -6,7 +6,7 @@ ghost use Rattle.con_units.specs.Plain.{is_plain};
 ghost use Rattle.con_term.specs.Page.{filled};
 ghost use Rattle.con_term.specs.Run.{pasted};
 
-use crate::cells::{fill_in, move_into, write_run};
+use crate::sheet::Sheet;
 use con_units::{Attr, Cell};
 use std::alloc::{AllocError, Global};
 use std::marker::Model;
@@ -14,7 +14,7 @@ use std::marker::Model;
 /// So many cells, from a start in the block on. Contracts see them alone.
 #[derive(Drop)]
 pub struct Block {
-    cells: Vec<Cell>,
+    cells: Sheet,
     start: usize,
     count: usize,
 }
@@ -38,7 +38,7 @@ impl Block {
         requires { count ≤ 131072 }
         ensures { IfOk result (λ block. block ≡ replicate count cell) }
     {
-        let cells = Vec::from_elem(alloc, cell, count + count)?;
+        let cells = Sheet::new(alloc, count + count, cell)?;
         Ok(Block {
             cells,
             start: 0,
@@ -48,7 +48,7 @@ impl Block {
 
     /// Their allocator.
     pub fn allocator(&self) -> Global {
-        *self.cells.allocator()
+        self.cells.allocator()
     }
 
     /// How many there are.
@@ -73,7 +73,7 @@ impl Block {
         ensures { self.new ≡ slice_set self.old at cell }
     {
         let place = self.start + at;
-        self.cells[place] = cell;
+        self.cells.set(place, cell);
     }
 
     /// Writes the cell from one place up to another.
@@ -84,7 +84,7 @@ impl Block {
         ensures cells { self.new ≡ filled self.old from upto cell }
     {
         let start = self.start;
-        fill_in(&mut self.cells, start + from, start + upto, cell);
+        self.cells.fill(start + from, start + upto, cell);
     }
 
     /// Writes at most so many bytes of printable ASCII at the front from a place on, one a cell, and tells how many.
@@ -97,7 +97,7 @@ impl Block {
         ensures cells { self.new ≡ pasted self.old from (map (λ u. cell_of u attr) (take result bytes.now)) }
     {
         let place = self.start + from;
-        write_run(&mut self.cells, place, bytes, most, attr)
+        self.cells.write_run(place, bytes, most, attr)
     }
 
     /// Lifts them by a count of places, and fills the last ones. The others stay where they are in the block, but where
@@ -110,33 +110,11 @@ impl Block {
         let count = self.count;
         if start <= count {
             let end = self.start + count;
-            fill_in(&mut self.cells, end, start + count, cell);
+            self.cells.fill(end, start + count, cell);
             self.start = start;
         } else {
-            lift_back(&mut self.cells, count, start, by, cell);
+            self.cells.pull(start, count - by, cell);
             self.start = 0;
         }
     }
-}
-
-// The cells from a place in the second half on go to the front of the first, and are filled up.
-fn lift_back(cells: &mut Vec<Cell>, count: usize, from: usize, by: usize, cell: Cell)
-    requires order { (by ≤ count) × (count ≤ from) }
-    requires inside { (count ≤ length cells.old.items) × (from + (count - by) ≤ length cells.old.items) }
-    ensures len { length cells.new.items ≡ length cells.old.items }
-    ensures front { take count cells.new.items ≡ take (count - by) (drop from cells.old.items) ++ replicate by cell }
-{
-    move_back(cells.as_mut_slice(), count, from, by, cell);
-}
-
-fn move_back(cells: &mut [Cell], count: usize, from: usize, by: usize, cell: Cell)
-    requires order { (by ≤ count) × (count ≤ from) }
-    requires inside { (count ≤ length cells.old) × (from + (count - by) ≤ length cells.old) }
-    ensures len { length cells.new ≡ length cells.old }
-    ensures front { take count cells.new ≡ take (count - by) (drop from cells.old) ++ replicate by cell }
-{
-    let kept = count - by;
-    let first = from - count;
-    let (front, back) = cells.split_at_mut(count);
-    move_into(front, &back[first..first + kept], by, cell);
 }

@@ -1,5 +1,5 @@
 //! Cells in a row.
-ghost use Rattle.std.specs.Prelude.{◌≡◌, ◌+◌, ◌≤◌, ◌<◌, ◌++◌, length, take, drop, map, replicate, [], true, vec_capacity};
+ghost use Rattle.std.specs.Prelude.{◌≡◌, ◌+◌, ◌≤◌, ◌<◌, ◌++◌, length, take, drop, map, [], true, vec_capacity};
 ghost use Rattle.con_units.specs.Glyph.{cell_of};
 ghost use Rattle.con_units.specs.Plain.{is_plain as is_plain_unit};
 ghost use Rattle.std.specs.List.{list_all};
@@ -68,15 +68,15 @@ fn copy_over(to: &mut [Cell], from: &[Cell])
     }
 }
 
-/// Copies the cells to the front, and fills the places behind them, of which there are so many.
-pub fn move_into(to: &mut [Cell], from: &[Cell], rest: usize, cell: Cell)
-    requires { length from.now + rest ≡ length to.old }
-    ensures { to.new ≡ from.now ++ replicate rest cell }
+/// So many cells from a place on are copied to the front.
+pub fn move_front(cells: &mut [Cell], from: usize, count: usize)
+    requires apart { count ≤ from }
+    requires inside { from + count ≤ length cells.old }
+    ensures len { length cells.new ≡ length cells.old }
+    ensures cells { cells.new ≡ take count (drop from cells.old) ++ drop count cells.old }
 {
-    let kept = from.len();
-    let end = to.len();
-    copy_over(&mut to[..kept], from);
-    fill(to, kept, end, cell);
+    let (front, back) = cells.split_at_mut(from);
+    copy_over(&mut front[..count], &back[..count]);
 }
 
 // Writes the bytes of printable ASCII at the front from a place on, one a cell, and tells how many.

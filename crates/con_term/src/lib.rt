@@ -3,7 +3,7 @@
 //! - [`Terminal`]: contracts see its page, the bytes that are no character yet and the units that are no item yet.
 //!   [`Terminal::play`] and [`Terminal::play_all`] give what the definition gives for the whole bytes, however they are cut;
 //!   [`Terminal::view`] and [`Terminal::dump`] tell what it shows.
-//! - `page`, `pen`, `block`, `cells`, `dump`: its page, the pen, the block of its cells, changes of cells, and the text of a dump.
+//! - `page`, `pen`, `block`, `sheet`, `cells`, `dump`: its page, the pen, the block of its cells, the sheet behind it, changes of cells, and the text of a dump.
 //!
 //! `new`, `resize` and `dump` take memory, and nothing else does. A terminal never answers, and never writes.
 #![tactic(auto)]
@@ -13,6 +13,7 @@ pub mod cells;
 pub mod dump;
 pub mod page;
 pub mod pen;
+pub mod sheet;
 pub mod terminal;
 
 pub use terminal::Terminal;

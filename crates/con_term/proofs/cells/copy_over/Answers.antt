@@ -1,5 +1,5 @@
 -- One piece more.
-use Rattle.std.proofs.Common.{arith, rules, ◌≤◌}
+use Rattle.std.proofs.Common.{arith}
 use Rattle.con_term.proofs.CopyLemmas.{copied_more}
 use Rattle.con_term.proofs.cells.copy_over.Goals as goal
 
