@@ -3,7 +3,7 @@
 
     throughput.py [MEGABYTES]
 
-For `type` and `play 80x25`, and for each kind of text, it prints megabytes a second, the share of what `wc -c` does,
+For `type`, `play 80x25` and `play 512x256`, and for each kind of text, it prints megabytes a second, the share of what `wc -c` does,
 peak memory, and, where valgrind is there, instructions a byte (on a shorter text, less those of an empty one)."""
 import os
 import re
@@ -13,9 +13,12 @@ import sys
 import tempfile
 import time
 
+sys.dont_write_bytecode = True
+
+import make_input
+
 HERE = os.path.dirname(os.path.abspath(__file__))
 PROGRAM = os.path.join(HERE, "..", "crates", "conpty", "out", "conpty")
-KINDS = ("lines", "runs", "sgr", "indexed", "motion")
 
 
 def made(folder, kind, size):
@@ -59,14 +62,14 @@ def main():
         sys.exit("build the program first: ./conpty type </dev/null >/dev/null")
     with tempfile.TemporaryDirectory() as folder:
         empty = made(folder, "lines", 0)
-        for form in (["type"], ["play", "80x25"]):
+        for form in (["type"], ["play", "80x25"], ["play", "512x256"]):
             words = [PROGRAM, *form]
             base = instructions(words, empty) if counts else 0
-            for kind in KINDS:
+            for kind in make_input.KINDS:
                 name = made(folder, kind, size)
                 taken, peak = run(words, name)
                 beside, _ = run(["wc", "-c"], name)
-                line = f"{' '.join(form):11} {kind:7} {size / taken / 1e6:8.1f} MB/s  {beside / taken:6.3f} of wc -c  {peak:6} KiB"
+                line = f"{' '.join(form):12} {kind:10} {size / taken / 1e6:8.1f} MB/s  {beside / taken:6.3f} of wc -c  {peak:6} KiB"
                 if counts:
                     line += f"  {(instructions(words, made(folder, kind, short)) - base) / short:6.1f} instructions a byte"
                 print(line, flush=True)
