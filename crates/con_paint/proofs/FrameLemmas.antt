@@ -163,11 +163,11 @@ slice_length y w h cells lt long =
     let below : y * w + w ≤ h * w = omega (arith, mul-le (y + 1) w h w (omega arith) (omega arith)) in
     ap length (slice_is y w cells) ∙ length-take-le w (drop (y * w) cells) (omega (arith, length-drop (y * w) cells))
 
-pub row_used : (out used used' y w k : ℕ) → used' ≤ used + 11 + 46 * k → used ≤ out + y * (11 + 46 * w) → k ≤ w → used' ≤ out + (y + 1) * (11 + 46 * w)
+pub row_used : (out used used' y w k : ℕ) → used' ≤ used + 11 + 57 * k → used ≤ out + y * (11 + 57 * w) → k ≤ w → used' ≤ out + (y + 1) * (11 + 57 * w)
 row_used out used used' y w k a b c = omega arith
 
-pub room_left : (out cap used y h w k : ℕ) → used ≤ out + y * (11 + 46 * w) → y < h → out + h * (11 + 46 * w) ≤ cap → k ≤ w → used + 11 + 46 * k ≤ cap
-room_left out cap used y h w k a lt b c = omega (arith, mul-le (y + 1) (11 + 46 * w) h (11 + 46 * w) (omega arith) (omega arith))
+pub room_left : (out cap used y h w k : ℕ) → used ≤ out + y * (11 + 57 * w) → y < h → out + h * (11 + 57 * w) ≤ cap → k ≤ w → used + 11 + 57 * k ≤ cap
+room_left out cap used y h w k a lt b c = omega (arith, mul-le (y + 1) (11 + 57 * w) h (11 + 57 * w) (omega arith) (omega arith))
 
 pub neither : (a b : Bool) → (a || b) ≡ false → (a ≡ false) × (b ≡ false)
 neither true b h = cc

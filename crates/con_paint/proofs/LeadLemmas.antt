@@ -1,5 +1,5 @@
 -- What appended bytes lead to.
-use Rattle.std.proofs.Common.{◌≡◌, ℕ, ◌+◌, ◌-◌, ◌*◌, ◌<◌, Bool, true, false, not, ◌==◌, ◌||◌, List, [], ◌∷◌, ◌++◌, fold, max, get_or, refl, sym, ap, ◌∙◌, append_assoc, arith}
+use Rattle.std.proofs.Common.{◌≡◌, ℕ, ◌+◌, ◌-◌, ◌*◌, ◌<◌, Bool, true, false, not, ◌==◌, ◌||◌, List, [], ◌∷◌, ◌++◌, fold, max, min, get_or, refl, sym, ap, ◌∙◌, append_assoc, arith}
 use Rattle.std.specs.Prelude.{nat_lt}
 use Rattle.std.proofs.lemmas.List.Sums.{fold-append}
 use Rattle.std.proofs.lemmas.Bool.Decides.{nat_tests}
@@ -14,7 +14,7 @@ use Rattle.con_vtgram.specs.declared.item.Item.TheVariants.{Print, Control, Csi}
 use Rattle.con_term.specs.Page.{Page, erased, lowered, place, printed}
 use Rattle.con_term.specs.Pen.{starting_pen, pen_after}
 use Rattle.con_term.specs.Sgr.{pen_by}
-use Rattle.con_term.specs.Effect.{effect, plain_effect, private_effect, line_erased, display_erased, row_end, unpended, gone_to, lifted}
+use Rattle.con_term.specs.Effect.{effect, plain_effect, private_effect, line_erased, display_erased, row_end, unpended, gone_to, lifted, moved_right, moved_to}
 use Rattle.con_term.specs.Cost.{cost, costs, plain_cost}
 use Rattle.con_paint.specs.Bytes.{part, parts, separated, csi_bytes, utf8_of, ground_bytes, more_numbers}
 use Rattle.con_paint.specs.Spells.{AllSmall, Spells, csi, question, ground_items}
@@ -81,6 +81,14 @@ pub goes_up : (old new : List ℕ) (n : ℕ) (s : Page) → n < 1000 → 0 < n �
 unfolding effect plain_effect cost plain_cost
 goes_up old new n s small some e = leads_one old new (csi_bytes (lift_numbers n) 0x53) (Csi (csi (lift_numbers n) 0x53)) s (lifted s n) 0 e (csi_spells (lift_numbers n) 0x53 (one_small (not (n == 1)) n small) (omega arith, omega arith))
     (ap (lifted s) (count_is (not (n == 1)) n (not_false n 1) some)) refl
+
+pub goes_right : (old new : List ℕ) (n : ℕ) (s : Page) → n < 1000 → 0 < n → new ≡ old ++ csi_bytes (lift_numbers n) 0x43 → Leads old new s (moved_right s n) 0
+unfolding effect plain_effect cost plain_cost
+goes_right old new n s small some e = leads_one old new (csi_bytes (lift_numbers n) 0x43) (Csi (csi (lift_numbers n) 0x43)) s (moved_right s n) 0 e (csi_spells (lift_numbers n) 0x43 (one_small (not (n == 1)) n small) (omega arith, omega arith))
+    (ap (λ z. moved_to s (min (s.x + z) (s.w - 1)) s.y) (count_is (not (n == 1)) n (not_false n 1) some) ∙ ap (λ z. moved_to s (min (s.x + z) (s.w - 1)) s.y) (at_least n some)) refl
+  where
+    at_least : (n : ℕ) → 0 < n → n ≡ max n 1
+    at_least n h = omega arith
 
 pub chooses : (old new : List ℕ) (c : Changes) (before a : Attribute) (s : Page) → s.pen ≡ pen_for before → IsAttribute a → IsEnough c before a → new ≡ old ++ csi_bytes (numbers_of c a) 0x6D → Leads old new s (record s { pen = pen_for a }) 0
 unfolding cost plain_cost

@@ -4,6 +4,7 @@ pub mod LeadLemmas
 pub mod RunLemmas
 pub mod SameLemmas
 pub mod SpanLemmas
+pub mod ColumnLemmas
 pub mod PlaceLemmas
 pub mod FrameLemmas
 pub mod LiftLemmas

@@ -1,7 +1,7 @@
 -- The cursor at the end of a frame.
 use Rattle.std.proofs.Common.{◌≡◌, ℕ, ◌+◌, ◌-◌, ◌<◌, Bool, true, false, cond, not, min, max, List, refl, sym, ap, ◌∙◌, arith}
 use Rattle.con_term.specs.Page.{Page}
-use Rattle.con_term.specs.Effect.{gone_to}
+use Rattle.con_term.specs.Effect.{gone_to, moved_right}
 use Rattle.con_paint.specs.Leads.{Leads}
 use Rattle.con_paint.specs.Placed.{Placed}
 use Rattle.con_paint.specs.declared.frame.Caret.{Caret}
@@ -40,6 +40,15 @@ back old new s spot x y at known ey ex l =
     let cy : s.y ≡ y = (at.at known).1 ∙ ey in
     let column : s.x - 1 ≡ x = omega (arith, cx, ex) in
     rw (← cy, ← column) l
+
+-- to a column behind it
+pub onward : (old new : List ℕ) (s : Page) (spot : Spot) (x y : ℕ) → IsAt spot s → spot.known ≡ true → spot.y ≡ y → spot.x < x → (x < s.w) × (y < s.h) → Leads old new s (moved_right s (x - spot.x)) 0 → Leads old new s (record s { x = x; y = y; pending = false }) 0
+onward old new s spot x y at known ey lt inside l =
+    let cx : s.x ≡ spot.x = (at.at known).0 in
+    let cy : s.y ≡ y = (at.at known).1 ∙ ey in
+    let column : min (s.x + max (x - spot.x) 1) (s.w - 1) ≡ x = omega (arith, cx, lt, inside.0) in
+    let same : moved_right s (x - spot.x) ≡ record s { x = x; y = y; pending = false } = rw (column, cy) refl in
+    rw same at l
 
 -- the cursor's turn, behind a place
 turned : (old mid new : List ℕ) (s t : Page) (turn visible : Bool) → (turn ≡ false → t.visible ≡ visible) → Leads old mid s t 0 → ((r : Page) → Leads mid new r (cond turn (record r { visible = visible }) r) 0) → Leads old new s (record t { visible = visible }) 0

@@ -6,7 +6,6 @@ use Rattle.std.specs.Prelude.{pos}
 use Rattle.con_units.specs.Attr.{Attribute}
 use Rattle.con_units.specs.Glyph.{Glyph}
 use Rattle.con_units.specs.declared.view.View.{View}
-use Rattle.con_units.specs.View.{IsWhole}
 use Rattle.con_term.specs.Pen.{IsPen}
 use Rattle.con_term.specs.Page.{Page}
 use Rattle.con_term.specs.Play.{play, typed, printed}
@@ -15,10 +14,10 @@ use Rattle.con_paint.specs.Leads.{Leads}
 use Rattle.con_paint.specs.Ink.{pen_for}
 use Rattle.con_paint.specs.Lift.{Lifts}
 use Rattle.con_paint.specs.Compared.{differing}
-use Rattle.con_paint.specs.Frame.{rows_to_paint, Sized, Stands}
+use Rattle.con_paint.specs.Frame.{rows_to_paint, Stands}
 use Rattle.con_paint.specs.Placed.{IsCaret}
 use Rattle.con_paint.specs.Drawn.{Drawn}
-use Rattle.con_paint.specs.Painter.{Kept, Agrees, Allows, Paints, IsKept, IsShown}
+use Rattle.con_paint.specs.Painter.{Kept, Allows, Paints, IsKept, IsShown}
 use Rattle.con_paint.specs.Spot.{IsAt}
 use Rattle.con_paint.specs.declared.frame.Caret.{Caret}
 use Rattle.con_paint.specs.declared.spot.Spot.{Spot}

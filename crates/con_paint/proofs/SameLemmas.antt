@@ -87,7 +87,7 @@ same_turn a b i x y lt e ex ey =
 pub same_more : (a b : List Glyph) (i : ℕ) (x y : Glyph) (t : Bool) → i < length a → length a ≡ length b → x ≡ get_or a i x → y ≡ get_or b i y → same_cells (take i a) (take i b) ≡ true → t ≡ same_cell x y → t ≡ true → same_cells (take (i + 1) a) (take (i + 1) b) ≡ true
 same_more a b i x y t lt e ex ey h k one = same_turn a b i x y lt e ex ey ∙ rw h (sym k ∙ one)
 
-any_default : (xs : List Glyph) (i : ℕ) (d e : Glyph) → i < length xs → get_or xs i d ≡ get_or xs i e
+pub any_default : (xs : List Glyph) (i : ℕ) (d e : Glyph) → i < length xs → get_or xs i d ≡ get_or xs i e
 any_default [] i d e lt = absurd (omega arith)
 any_default (x ∷ xs) zero d e lt = refl
 any_default (x ∷ xs) (suc i) d e lt = any_default xs i d e (omega arith)

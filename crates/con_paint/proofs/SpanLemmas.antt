@@ -1,27 +1,25 @@
 -- The part of a row that is written.
-use Rattle.std.proofs.Common.{◌≡◌, ℕ, ◌+◌, ◌-◌, ◌*◌, ◌<◌, ◌≤◌, Bool, true, false, ◌==◌, List, [], ◌∷◌, ◌++◌, length, take, drop, replicate, get_or, refl, sym, ap, ◌∙◌, append_assoc, arith, length-append, length-drop, add-one}
+use Rattle.std.proofs.Common.{◌≡◌, ℕ, ◌+◌, ◌-◌, ◌*◌, ◌<◌, ◌≤◌, Bool, true, false, List, [], ◌∷◌, ◌++◌, length, take, drop, replicate, get_or, refl, sym, ap, ◌∙◌, append_assoc, arith, length-append, length-drop, add-one}
 use Rattle.std.proofs.lemmas.List.{take_at, drop_at, drop-drop, length-take-le, take-append-drop, take-append-le, drop-append-le, drop_all, take_more, drop_more, length-replicate}
 use Rattle.std.proofs.lemmas.Nat.{mul-le}
-use Rattle.std.proofs.lemmas.Bool.Decides.{nat_tests}
 use Rattle.std.proofs.Math.Seq.{take-add}
 use Rattle.con_units.specs.Attr.{Attribute, plain}
 use Rattle.con_units.specs.Glyph.{Glyph, blank_cell}
 use Rattle.con_units.specs.View.{row_of}
 use Rattle.con_term.specs.Pen.{IsPen}
-use Rattle.con_term.specs.Page.{Page, blank, erased, filled, place}
+use Rattle.con_term.specs.Page.{Page, erased, filled, place}
 use Rattle.con_term.specs.Effect.{row_end, unpended}
 use Rattle.con_paint.specs.Leads.{Leads}
 use Rattle.con_paint.specs.Ink.{pen_for}
-use Rattle.con_paint.specs.Paint.{AllCells, cells_printed, last_attr, pasted}
+use Rattle.con_paint.specs.Paint.{pasted}
+use Rattle.con_paint.specs.Columns.{Columns}
 use Rattle.con_paint.specs.Compared.{same_cell}
 use Rattle.con_paint.specs.Frame.{Stands, Painted}
-use Rattle.con_paint.specs.Span.{IsSpan, piece, behind, patched, RowEnd}
+use Rattle.con_paint.specs.Span.{IsSpan, piece, behind, patched, end_erased, RowEnd}
 use Rattle.con_paint.specs.declared.span.Span.{Span}
-use Rattle.con_paint.specs.Spot.{IsBehind}
-use Rattle.con_paint.specs.declared.spot.Spot.{Spot}
-use Rattle.con_paint.proofs.PenLemmas.{pen_is}
+use Rattle.con_paint.specs.Spot.{IsAt}
+use Rattle.con_paint.specs.declared.spot.State.{State}
 use Rattle.con_paint.proofs.LeadLemmas.{leads_then, leads-none}
-use Rattle.con_paint.proofs.RunLemmas.{run, ran}
 use Rattle.con_paint.proofs.SameLemmas.{one_same}
 
 -- ---- cells that are the same
@@ -105,6 +103,10 @@ written now row from upto e order ends same =
     let front : take from row ++ take (upto - from) (drop from row) ≡ take upto row = sym (take-add from (upto - from) row) ∙ ap (λ z. take z row) k in
     rw (n, k, ← same, front) refl
 
+pasted_first : (now p : List Glyph) (n : ℕ) → length p ≡ n → pasted now 0 p ≡ p ++ drop n now
+unfolding pasted
+pasted_first now p n e = let k : 0 + n ≡ n = omega arith in rw (e, k) refl
+
 pub span_kept : (now row : List Glyph) (from upto : ℕ) → length now ≡ length row → from ≤ upto → upto ≤ length row → take from row ≡ take from now → drop upto row ≡ drop upto now → patched now row (record { from = from; upto = upto; erase = false }) ≡ row
 span_kept now row from upto e order ends front back = written now row from upto e order ends front ∙ rw (← back) (take-append-drop upto row)
 
@@ -130,164 +132,119 @@ span_erased now row from upto e order ends front back =
 small_pen : IsPen (pen_for (plain 7))
 small_pen = record { foreground = omega arith; background = omega arith; fore = tt; back = tt }
 
--- the pen behind cells is one that a terminal may have
-last_pen : (before : Attribute) (cs : List Glyph) → AllCells cs → IsPen (pen_for before) → IsPen (pen_for (last_attr before cs))
-last_pen before [] all h = h
-last_pen before (c ∷ cs) all h = last_pen c.attr cs all.1 (pen_is c.attr all.0.attr)
-
-plain_blank : (s : Page) → blank (record s { pen = pen_for (plain 7) }) ≡ blank_cell
-plain_blank s = refl
-
 -- the page behind the end of a row
-record Ended (w y : ℕ) (old_cells row : List Glyph) (upto : ℕ) (ink : Attribute) (c d : List ℕ) (r : Page) : Type 0 where
+record Ended (w y : ℕ) (old_cells row : List Glyph) (upto : ℕ) (after : State) (c d : List ℕ) (r : Page) : Type 0 where
   pub to : Page
   pub count : ℕ
   pub leads : Leads c d r to count
   pub few : count + upto ≤ w
   pub cells : to.cells ≡ pasted old_cells (y * w) row
-  pub stands : Stands r.w r.h ink to
-  pub place : upto < w → (to.x ≡ upto) × (to.y ≡ y) × (to.pending ≡ false)
+  pub stands : Stands r.w r.h after.attr to
+  pub place : IsAt after.spot to
   pub visible : to.visible ≡ r.visible
 
-ends : (erase : Bool) (w h y upto : ℕ) (pen ink : Attribute) (cells p row : List Glyph) (c d : List ℕ) (r : Page) → IsPen (pen_for pen) → r.w ≡ w → r.h ≡ h → w ≤ 512 → h ≤ 256 → y < h → r.y ≡ y → upto ≤ w → (erase ≡ true → upto < w) → (upto < w → (r.x ≡ upto) × (r.pending ≡ false)) → r.x < w → length cells ≡ h * w → length p ≡ w → r.pen ≡ pen_for pen
-    → r.cells ≡ pasted cells (y * w) p → behind erase p upto ≡ row → RowEnd erase pen ink c d → Ended w y cells row upto ink c d r
-ends false w h y upto pen ink cells p row c d r may ew eh wide high lt ey le er ex xl cl pl pr is same step =
+ends : (erase : Bool) (w h y upto : ℕ) (state after : State) (cells p row : List Glyph) (c d : List ℕ) (r : Page) → Stands w h state.attr r → IsAt state.spot r → y < h → upto ≤ w → (erase ≡ true → upto < w) → length cells ≡ h * w → length p ≡ w
+    → r.cells ≡ pasted cells (y * w) p → behind erase p upto ≡ row → RowEnd erase upto y state after c d → Ended w y cells row upto after c d r
+ends false w h y upto state after cells p row c d r st at lt le er cl pl is same step = record {
+  to = r;
+  count = 0;
+  leads = rw step.0 (leads-none c r);
+  few = omega arith;
+  cells = is ∙ ap (pasted cells (y * w)) same;
+  stands = rw step.1 (record { page = st.page; wide = refl; high = refl; pen = st.pen });
+  place = rw step.1 at;
+  visible = refl;
+}
+ends true w h y upto state after cells p row c d r st at lt le er cl pl is same step =
     let below : y * w + w ≤ h * w = omega (arith, mul-le (y + 1) w h w (omega arith) (omega arith)) in
-    let long : length r.cells ≡ h * w = ap length is ∙ length-pasted cells (y * w) p (omega arith) ∙ cl in
-    record {
-      to = r;
-      count = 0;
-      leads = rw step.0 (leads-none c r);
-      few = omega arith;
-      cells = is ∙ ap (pasted cells (y * w)) same;
-      stands = record {
-        page = record { width = omega arith; height = omega arith; cells = long ∙ rw (ew, eh) refl; column = omega arith; row = omega arith; pen = rw pr may };
-        wide = refl;
-        high = refl;
-        pen = rw step.1 pr;
-      };
-      place = λ k. ((ex k).0, ey, (ex k).1);
-      visible = refl;
-    }
-ends true w h y upto pen ink cells p row c d r may ew eh wide high lt ey le er ex xl cl pl pr is same step =
-    let below : y * w + w ≤ h * w = omega (arith, mul-le (y + 1) w h w (omega arith) (omega arith)) in
-    let column : r.x ≡ upto = (ex (er refl)).0 in
-    let at : place r ≡ y * w + upto = rw (column, ey, ew) refl in
-    let end : row_end r ≡ y * w + w = rw (ey, ew) refl in
+    let inside : upto < w = er refl in
     let size : y * w + w - (y * w + upto) ≡ length p - upto = omega arith in
     let rl : length (replicate (length p - upto) blank_cell) ≡ length p - upto = length-replicate (length p - upto) blank_cell in
-    let after : filled r.cells (place r) (row_end r) blank_cell ≡ pasted cells (y * w) row =
-    rw (at, end, filled_is r.cells (y * w + upto) (y * w + w) blank_cell (omega arith), size, is) (pasted_twice cells (y * w) p upto (replicate (length p - upto) blank_cell) (omega arith) (omega arith) ∙ ap (pasted cells (y * w)) same) in
+    let filled_cells : filled r.cells (y * r.w + upto) (y * r.w + r.w) blank_cell ≡ pasted cells (y * w) row =
+    rw (st.wide, filled_is r.cells (y * w + upto) (y * w + w) blank_cell (omega arith), size, is) (pasted_twice cells (y * w) p upto (replicate (length p - upto) blank_cell) (omega arith) (omega arith) ∙ ap (pasted cells (y * w)) same) in
     let row_length : length row ≡ w = ap length (sym same) ∙ length-pasted p upto (replicate (length p - upto) blank_cell) (omega arith) ∙ pl in
-    let long : length (filled r.cells (place r) (row_end r) blank_cell) ≡ h * w = ap length after ∙ length-pasted cells (y * w) row (omega arith) ∙ cl in
+    let long : length (filled r.cells (y * r.w + upto) (y * r.w + r.w) blank_cell) ≡ h * w = ap length filled_cells ∙ length-pasted cells (y * w) row (omega arith) ∙ cl in
+    let xs : upto < r.w = omega (arith, inside, st.wide) in
+    let ys : y < r.h = omega (arith, lt, st.high) in
     record {
-      to = unpended (erased (record r { pen = pen_for (plain 7) }) (place r) (row_end r));
-      count = r.w - r.x;
-      leads = step.0 r pr;
-      few = omega arith;
-      cells = after;
-      stands = record {
-        page = record { width = omega arith; height = omega arith; cells = long ∙ rw (ew, eh) refl; column = omega arith; row = omega arith; pen = small_pen };
+      to = end_erased r upto y;
+      count = r.w - upto;
+      leads = step.0 r st.pen at (xs, ys);
+      few = omega (arith, st.wide, inside);
+      cells = filled_cells;
+      stands = rw step.1 (record {
+        page = record { width = st.page.width; height = st.page.height; cells = long ∙ rw (st.wide, st.high) refl; column = xs; row = ys; pen = small_pen };
         wide = refl;
         high = refl;
-        pen = rw step.1 refl;
-      };
-      place = λ k. ((ex k).0, ey, refl);
+        pen = refl;
+      });
+      place = rw step.1 (record { at = λ _. (refl, refl, refl) });
       visible = refl;
     }
 
-not_equal : (m n : ℕ) → m < n → (m == n) ≡ false
-not_equal m n h = grind (arith, nat_tests)
-
-pub lined : (w h y : ℕ) (ink pen before : Attribute) (spot : Spot) (row : List Glyph) (span : Span) (a b c d : List ℕ) (s : Page) → w ≡ length row → Stands w h before s → y < h → IsSpan row span → AllCells (piece row span.from span.upto) → patched (row_of w s.cells y) row span ≡ row
-    → Leads a b s (record s { x = span.from; y = y; pending = false }) 0 → ((r : Page) → r.pen ≡ pen_for before → Leads b c r (cells_printed r (piece row span.from span.upto)) (length (piece row span.from span.upto))) → pen ≡ last_attr before (piece row span.from span.upto)
-    → RowEnd span.erase pen ink c d → IsBehind spot span.upto w y → Painted w h y (record { attr = ink; spot = spot }) row a d s
-lined w h y ink pen before spot row span a b c d s ew st lt is all whole go cells last end behind =
+pub lined : (w h y : ℕ) (before state after : State) (row : List Glyph) (span : Span) (a c d : List ℕ) (s : Page) → w ≡ length row → Stands w h before.attr s → y < h → IsSpan row span → take span.from row ≡ take span.from (row_of w s.cells y) → patched (row_of w s.cells y) row span ≡ row
+    → Columns w h (y * w) (take span.upto row) span.upto state a c s → RowEnd span.erase span.upto y state after c d → Painted w h y after row a d s
+lined w h y before state after row span a c d s ew st lt is front whole cols end =
     record {
       to = e.to;
-      count = length sub + e.count;
-      leads = leads_then a c d s r e.to (length sub) e.count (length sub + e.count) (leads_then a b c s g r 0 (length sub) (length sub) go (rw closed at (cells g st.pen)) (omega arith)) e.leads refl;
-      few = omega (arith, e.few, sub_length);
+      count = cols.count + e.count;
+      leads = leads_then a c d s cols.to e.to cols.count e.count (cols.count + e.count) cols.leads e.leads refl;
+      few = omega (arith, e.few, cols.few);
       cells = e.cells;
-      stands = record { page = e.stands.page; wide = e.stands.wide ∙ st.wide; high = e.stands.high ∙ st.high; pen = e.stands.pen };
-      place = record { at = λ k. let q = behind.behind k in let p = e.place q.2 in (p.0 ∙ sym q.0, p.1 ∙ sym q.1, p.2) };
-      visible = e.visible;
+      stands = record { page = e.stands.page; wide = e.stands.wide ∙ cols.stands.wide; high = e.stands.high ∙ cols.stands.high; pen = e.stands.pen };
+      place = e.place;
+      visible = e.visible ∙ cols.visible;
     }
   where
-    sub : List Glyph
-    sub = piece row span.from span.upto
-
-    g : Page
-    g = record s { x = span.from; y = y; pending = false }
-
-    r : Page
-    r = ran g before sub
-
-    wide : s.w ≡ w
-    wide = st.wide
-
-    high : s.h ≡ h
-    high = st.high
-
-    starts : span.from < w
-    starts = omega (arith, is.starts, ew)
-
-    order : span.from ≤ span.upto
-    order = is.order
+    now : List Glyph
+    now = row_of w s.cells y
 
     upto_in : span.upto ≤ w
     upto_in = omega (arith, is.ends, ew)
 
-    sub_length : length sub ≡ span.upto - span.from
-    sub_length = length-take-le (span.upto - span.from) (drop span.from row) (omega (arith, length-drop span.from row, is.ends))
-
-    gx : g.x ≡ span.from
-    gx = refl
-
-    gy : g.y ≡ y
-    gy = refl
-
-    at : place g ≡ y * w + span.from
-    at = rw (gx, gy, wide) refl
-
     long : length s.cells ≡ h * w
-    long = st.page.cells ∙ rw (wide, high) refl
+    long = st.page.cells ∙ rw (st.wide, st.high) refl
 
     below : y * w + w ≤ h * w
     below = omega (arith, mul-le (y + 1) w h w (omega arith) (omega arith))
 
-    closed : cells_printed g sub ≡ ran g before sub
-    closed = run g before sub all refl st.pen (omega (arith, gx, starts, wide)) (omega (arith, gx, sub_length, wide, upto_in, order)) (omega (arith, at, long, sub_length, below, upto_in, order))
-
-    now_length : length (row_of w s.cells y) ≡ w
+    now_length : length now ≡ w
     now_length = length-take-le w (drop (y * w) s.cells) (omega (arith, length-drop (y * w) s.cells, long, below))
 
+    sub_length : length (take span.upto row) ≡ span.upto
+    sub_length = length-take-le span.upto row is.ends
+
     patch : List Glyph
-    patch = pasted (row_of w s.cells y) span.from sub
+    patch = take span.upto row ++ drop span.upto now
 
     patch_length : length patch ≡ w
-    patch_length = length-pasted (row_of w s.cells y) span.from sub (omega (arith, now_length, sub_length, upto_in, order)) ∙ now_length
+    patch_length = omega (arith, length-append (take span.upto row) (drop span.upto now), length-drop span.upto now, now_length, sub_length, upto_in)
 
-    r_cells : r.cells ≡ pasted s.cells (y * w) patch
-    r_cells = ap (λ z. pasted s.cells z sub) at ∙ pasted_within s.cells (y * w) w span.from sub (omega (arith, long, below)) (omega (arith, sub_length, upto_in, order))
+    patch_is : pasted now 0 (take span.upto row) ≡ patch
+    patch_is = pasted_first now (take span.upto row) span.upto sub_length
+
+    cells_are : cols.to.cells ≡ pasted s.cells (y * w) patch
+    cells_are = cols.cells ∙ ap (λ z. pasted s.cells z (take span.upto row)) (omega arith) ∙ pasted_within s.cells (y * w) w 0 (take span.upto row) (omega (arith, long, below)) (omega (arith, sub_length, upto_in)) ∙ ap (pasted s.cells (y * w)) patch_is
+
+    same : behind span.erase patch span.upto ≡ row
+    same = ap (λ z. behind span.erase z span.upto) (sym (written now row span.from span.upto (now_length ∙ ew) is.order is.ends front)) ∙ whole
 
     erased_in : span.erase ≡ true → span.upto < w
     erased_in t = omega (arith, is.erased t, ew)
 
-    column : span.upto < w → (r.x ≡ span.upto) × (r.pending ≡ false)
-    column in_row = let sum : span.from + length sub ≡ span.upto = omega (arith, sub_length, order) in
-        let less : span.from + length sub < s.w = omega (arith, sum, wide, in_row) in
-        (omega (arith, sum, wide, in_row), not_equal (span.from + length sub) s.w less)
+    e : Ended w y s.cells row span.upto after c d cols.to
+    e = ends span.erase w h y span.upto state after s.cells patch row c d cols.to cols.stands cols.place lt upto_in erased_in long patch_length cells_are same end
 
-    inside : r.x < w
-    inside = omega (arith, wide, starts)
-
-    e : Ended w y s.cells row span.upto ink c d r
-    e = ends span.erase w h y span.upto pen ink s.cells patch row c d r (rw last (last_pen before sub all (rw st.pen at st.page.pen))) wide high (omega (arith, st.page.width, wide)) (omega (arith, st.page.height, high)) lt gy upto_in erased_in column inside long patch_length (ap pen_for (sym last)) r_cells whole end
-
-pub end_erased : (erase : Bool) (before ink : Attribute) (a b c : List ℕ) → erase ≡ true → ink ≡ plain 7 → ((s : Page) → s.pen ≡ pen_for before → Leads a b s (record s { pen = pen_for (plain 7) }) 0) → ((s : Page) → Leads b c s (unpended (erased s (place s) (row_end s))) (s.w - s.x)) → RowEnd erase before ink a c
-end_erased true before ink a b c e seven pen end = (λ s h. leads_then a b c s (record s { pen = pen_for (plain 7) }) _ 0 (s.w - s.x) (s.w - s.x) (pen s h) (end (record s { pen = pen_for (plain 7) })) (omega arith), seven)
-end_erased false before ink a b c e seven pen end = cc
+pub row_ended : (erase : Bool) (x y : ℕ) (before : State) (ink : Attribute) (a b c d : List ℕ) → erase ≡ true → ink ≡ plain 7 → ((s : Page) → (x < s.w) × (y < s.h) → IsAt before.spot s → Leads a b s (record s { x = x; y = y; pending = false }) 0)
+    → ((s : Page) → s.pen ≡ pen_for before.attr → Leads b c s (record s { pen = pen_for (plain 7) }) 0) → ((s : Page) → Leads c d s (unpended (erased s (place s) (row_end s))) (s.w - s.x)) → RowEnd erase x y before (record { attr = ink; spot = record { known = true; x = x; y = y } }) a d
+row_ended true x y before ink a b c d e seven go pen end = (
+  λ s h at inside.
+      let g : Page = record s { x = x; y = y; pending = false } in
+      let g2 : Page = record g { pen = pen_for (plain 7) } in
+      leads_then a c d s g2 (end_erased s x y) 0 (s.w - x) (s.w - x) (leads_then a b c s g g2 0 0 0 (go s inside at) (pen g h) (omega arith)) (end g2) (omega arith),
+  rw seven refl,
+)
+row_ended false x y before ink a b c d e seven go pen end = cc
 
 -- ---- columns that are the same
 
@@ -298,6 +255,3 @@ front_same false from row was now h k e = rw (k refl) refl
 pub back_same : (known : Bool) (upto : ℕ) (row was now : List Glyph) → length now ≡ length row → (known ≡ true → drop upto row ≡ drop upto was) → (known ≡ false → upto ≡ length row) → (known ≡ true → now ≡ was) → drop upto row ≡ drop upto now
 back_same true upto row was now n h k e = h refl ∙ ap (drop upto) (sym (e refl))
 back_same false upto row was now n h k e = let end : upto ≡ length row = k refl in drop_all upto row (omega arith) ∙ sym (drop_all upto now (omega arith))
-
-pub begins_in : (h y : ℕ) (before : Attribute) (row : List Glyph) (span : Span) (s : Page) → Stands (length row) h before s → y < h → IsSpan row span → (span.from < s.w) × (y < s.h)
-begins_in h y before row span s st lt is = (omega (arith, is.starts, st.wide), omega (arith, st.high))

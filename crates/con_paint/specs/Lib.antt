@@ -9,6 +9,8 @@ pub mod Leads
 pub mod Pens
 pub mod Places
 pub mod Spot
+pub mod Width
+pub mod Columns
 pub mod Paint
 pub mod Frame
 pub mod Span

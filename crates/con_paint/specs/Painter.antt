@@ -1,5 +1,5 @@
 -- A painter as contracts see it, and the terminals that it allows.
-use Rattle.std.specs.Prelude.{ℕ, pos, ◌+◌, ◌*◌, ◌<◌, ◌≤◌, ◌≤ℤ◌, ◌<ℤ◌, ◌≡◌, Bool, true, false, List, length, replicate}
+use Rattle.std.specs.Prelude.{ℕ, pos, ◌+◌, ◌*◌, ◌<◌, ◌≤◌, ◌≡◌, Bool, true, false, List, length, replicate}
 use Rattle.con_units.specs.Attr.{Attribute, plain}
 use Rattle.con_units.specs.Glyph.{Glyph, blank_cell}
 use Rattle.con_units.specs.declared.view.View.{View}
@@ -66,4 +66,4 @@ pub record IsKept (p : Kept) : Type 0 where
 
 -- the spare that any frame of this size needs
 abbrev pub frame_room : ℕ → ℕ → ℕ
-frame_room w h = 160 + h * (11 + 46 * w)
+frame_room w h = 160 + h * (11 + 57 * w)

@@ -1,12 +1,13 @@
 -- The part of a row that is written.
-use Rattle.std.specs.Prelude.{ℕ, ◌-◌, ◌<◌, ◌≤◌, ◌≡◌, Bool, true, false, List, length, take, drop, replicate}
-use Rattle.con_units.specs.Attr.{Attribute, plain}
+use Rattle.std.specs.Prelude.{ℕ, ◌+◌, ◌-◌, ◌*◌, ◌<◌, ◌≤◌, ◌≡◌, Bool, true, false, List, length, take, drop, replicate}
+use Rattle.con_units.specs.Attr.{plain}
 use Rattle.con_units.specs.Glyph.{Glyph, blank_cell}
-use Rattle.con_term.specs.Page.{Page, erased, place}
-use Rattle.con_term.specs.Effect.{row_end, unpended}
+use Rattle.con_term.specs.Page.{Page, filled}
 use Rattle.con_paint.specs.Leads.{Leads}
 use Rattle.con_paint.specs.Ink.{pen_for}
 use Rattle.con_paint.specs.Paint.{pasted}
+use Rattle.con_paint.specs.Spot.{IsAt}
+use Rattle.con_paint.specs.declared.spot.State.{State}
 use Rattle.con_paint.specs.declared.span.Span.{Span}
 
 -- the columns lie in the row
@@ -15,6 +16,10 @@ pub record IsSpan (row : List Glyph) (s : Span) : Type 0 where
   pub order : s.from ≤ s.upto
   pub ends : s.upto ≤ length row
   pub erased : s.erase ≡ true → s.upto < length row
+
+-- the cells of row y are blank from a column on, where the cursor stands in the starting pen
+abbrev pub end_erased : Page → ℕ → ℕ → Page
+end_erased s x y = record s { cells = filled s.cells (y * s.w + x) (y * s.w + s.w) blank_cell; x = x; y = y; pen = pen_for (plain 7); pending = false }
 
 -- the row's cells from one column up to another
 abbrev pub piece : List Glyph → ℕ → ℕ → List Glyph
@@ -29,7 +34,7 @@ behind false cells upto = cells
 abbrev pub patched : List Glyph → List Glyph → Span → List Glyph
 patched now row s = behind s.erase (pasted now s.from (piece row s.from s.upto)) s.upto
 
--- the end of the row is erased in the starting pen, or nothing is written
-abbrev pub RowEnd : Bool → Attribute → Attribute → List ℕ → List ℕ → Type 0
-RowEnd true before ink old new = ((s : Page) → s.pen ≡ pen_for before → Leads old new s (unpended (erased (record s { pen = pen_for (plain 7) }) (place s) (row_end s))) (s.w - s.x)) × (ink ≡ plain 7)
-RowEnd false before ink old new = (new ≡ old) × (ink ≡ before)
+-- the end of row y is erased from a column on, in the starting pen, or nothing is written
+abbrev pub RowEnd : Bool → ℕ → ℕ → State → State → List ℕ → List ℕ → Type 0
+RowEnd true x y before after old new = ((s : Page) → s.pen ≡ pen_for before.attr → IsAt before.spot s → (x < s.w) × (y < s.h) → Leads old new s (end_erased s x y) (s.w - x)) × (after ≡ record { attr = plain 7; spot = record { known = true; x = x; y = y } })
+RowEnd false x y before after old new = (new ≡ old) × (after ≡ before)

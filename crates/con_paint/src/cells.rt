@@ -1,5 +1,5 @@
 //! Cells, one after another in a row.
-ghost use Rattle.std.specs.Prelude.{◌≡◌, ◌+◌, ◌*◌, ◌<◌, ◌≤◌, true, false, length};
+ghost use Rattle.std.specs.Prelude.{◌≡◌, ◌+◌, ◌<◌, ◌≤◌, length};
 ghost use Rattle.std.specs.Vec.{vec_len, vec_capacity};
 ghost use Rattle.con_units.specs.Attr.{IsAttribute};
 ghost use Rattle.con_units.specs.Stored.{stored_unit};
@@ -8,7 +8,7 @@ ghost use Rattle.con_term.specs.Page.{Page};
 ghost use Rattle.con_paint.specs.Leads.{Leads};
 ghost use Rattle.con_paint.specs.Ink.{pen_for};
 ghost use Rattle.con_paint.specs.Compared.{same_cell, same_cells};
-ghost use Rattle.con_paint.specs.Paint.{IsCell, AllCells, cell_printed, cells_printed, last_attr};
+ghost use Rattle.con_paint.specs.Paint.{cell_printed};
 
 use crate::emit::print;
 use crate::pen::choose;
@@ -59,8 +59,8 @@ pub(crate) fn same(a: &[Cell], b: &[Cell]) -> bool
     true
 }
 
-// Prints a unit in an attribute, where the pen is that of the attribute before.
-fn cell(out: &mut Vec<u8>, unit: u16, attr: Attr, before: Attr)
+/// Prints a unit in an attribute, where the pen is that of the attribute before.
+pub(crate) fn cell(out: &mut Vec<u8>, unit: u16, attr: Attr, before: Attr)
     requires shown { stored_unit unit ≡ unit }
     requires room { vec_len out.old + 46 ≤ vec_capacity out.old }
     ensures leads { (s : Page) → s.pen ≡ pen_for before → Leads out.old.items out.new.items s (cell_printed s (record { unit = unit; attr = attr })) 1 }
@@ -70,23 +70,4 @@ fn cell(out: &mut Vec<u8>, unit: u16, attr: Attr, before: Attr)
 {
     choose(out, before, attr);
     print(out, unit);
-}
-
-/// Prints cells, where the pen is that of the attribute before, and gives the last attribute.
-pub(crate) fn cells(out: &mut Vec<u8>, row: &[Cell], before: Attr) -> Attr
-    requires room { vec_len out.old + 46 * length row.now ≤ vec_capacity out.old }
-    ensures leads { (s : Page) → s.pen ≡ pen_for before → Leads out.old.items out.new.items s (cells_printed s row.now) (length row.now) }
-    ensures pen { result ≡ last_attr before row.now }
-    ensures kept { AllCells row.now }
-    ensures capacity { vec_capacity out.new ≡ vec_capacity out.old }
-    ensures few { vec_len out.new ≤ vec_len out.old + 46 * length row.now }
-{
-    let mut pen = before;
-    for one in row {
-        let unit = one.unit();
-        let attr = one.attr();
-        cell(out, unit, attr, pen);
-        pen = attr;
-    }
-    pen
 }

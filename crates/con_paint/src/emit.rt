@@ -5,7 +5,7 @@ ghost use Rattle.con_units.specs.Stored.{stored_unit};
 ghost use Rattle.con_units.specs.Decimal.{decimal};
 ghost use Rattle.con_term.specs.Pen.{starting_pen};
 ghost use Rattle.con_term.specs.Page.{Page, erased, place, printed};
-ghost use Rattle.con_term.specs.Effect.{gone_to, lifted, row_end, unpended};
+ghost use Rattle.con_term.specs.Effect.{gone_to, lifted, moved_right, row_end, unpended};
 ghost use Rattle.con_paint.specs.Bytes.{csi_bytes, part, separated, utf8_of};
 ghost use Rattle.con_paint.specs.Leads.{Leads};
 ghost use Rattle.con_paint.specs.Places.{lift_numbers, place_numbers};
@@ -226,4 +226,29 @@ pub(crate) fn up(out: &mut Vec<u8>, n: u16)
     ensures few { vec_len out.new ≤ vec_len out.old + 7 }
 {
     lift_bytes(out, n);
+}
+
+#[tactic(auto, unfolding(crate::specs::Bytes::csi_bytes))]
+fn right_bytes(out: &mut Vec<u8>, n: u16)
+    requires few { n < 1000 }
+    requires room { vec_len out.old + 7 ≤ vec_capacity out.old }
+    ensures bytes { out.new.items ≡ out.old.items ++ csi_bytes (lift_numbers n) 0x43 }
+    ensures capacity { vec_capacity out.new ≡ vec_capacity out.old }
+    ensures few { vec_len out.new ≤ vec_len out.old + 7 }
+{
+    out.push_reserved(0x1B);
+    out.push_reserved(0x5B);
+    let _ = number_if(out, false, n != 1, n);
+    out.push_reserved(0x43);
+}
+
+/// Brings the cursor n columns on in its row.
+pub(crate) fn right(out: &mut Vec<u8>, n: u16)
+    requires few { (n < 1000) × (0 < n) }
+    requires room { vec_len out.old + 7 ≤ vec_capacity out.old }
+    ensures leads { (s : Page) → Leads out.old.items out.new.items s (moved_right s n) 0 }
+    ensures capacity { vec_capacity out.new ≡ vec_capacity out.old }
+    ensures few { vec_len out.new ≤ vec_len out.old + 7 }
+{
+    right_bytes(out, n);
 }

@@ -131,12 +131,12 @@ pub(crate) fn draw(
     requires lengths { (length cells.now ≡ size.h * size.w) × (length shadow.now ≡ size.h * size.w) × (length marks.now ≡ size.h) }
     requires marked { known ≡ true → lifting.lifted ≡ false → (y : ℕ) → y < size.h → slice_index_or marks.now y false ≡ false → row_of size.w cells.now y ≡ row_of size.w shadow.now y }
     requires small { (caret.x < 999) × (caret.y < 999) }
-    requires room { vec_len out.old + 80 + size.h * (11 + 46 * size.w) ≤ vec_capacity out.old }
+    requires room { vec_len out.old + 80 + size.h * (11 + 57 * size.w) ≤ vec_capacity out.old }
     ensures drawn { (s : Page) → Stands size.w size.h lifting.attr s → IsAt spot s → (known ≡ true → (s.cells ≡ shadow.now) × (s.visible ≡ was)) → (caret.visible ≡ true → (caret.x < size.w) × (caret.y < size.h)) → Drawn size.w size.h cells.now (size.w * rows_to_paint known size.w size.h cells.now shadow.now) caret result out.old.items out.new.items s }
     ensures spot { caret.visible ≡ true → result.spot ≡ record { known = true; x = caret.x; y = caret.y } }
     ensures quiet { known ≡ true → cells.now ≡ shadow.now → lifting.rows ≡ 0 → was ≡ caret.visible → (caret.visible ≡ true → (spot.known ≡ true) × (spot.x ≡ caret.x) × (spot.y ≡ caret.y)) → out.new.items ≡ out.old.items }
     ensures capacity { vec_capacity out.new ≡ vec_capacity out.old }
-    ensures few { vec_len out.new ≤ vec_len out.old + 80 + size.h * (11 + 46 * size.w) }
+    ensures few { vec_len out.new ≤ vec_len out.old + 80 + size.h * (11 + 57 * size.w) }
 {
     let tail = tail_of(cells, shadow, known, size);
     let many = is_many(lifting.rows, size.h - tail);

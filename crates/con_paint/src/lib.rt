@@ -14,6 +14,7 @@
 #![tactic(auto)]
 
 pub mod cells;
+pub mod columns;
 pub mod emit;
 pub mod frame;
 pub mod lift;
@@ -22,5 +23,6 @@ pub mod pen;
 pub mod rows;
 pub mod span;
 pub mod spot;
+pub mod width;
 
 pub use painter::{Painter, room_for};

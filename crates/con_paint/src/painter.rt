@@ -42,7 +42,7 @@ pub fn room_for(size: Size) -> usize
     requires { IsWindow size.w size.h }
     ensures { result ≡ frame_room size.w size.h }
 {
-    160 + size.h as usize * (11 + 46 * size.w as usize)
+    160 + size.h as usize * (11 + 57 * size.w as usize)
 }
 
 // Blanks for all cells of a size.

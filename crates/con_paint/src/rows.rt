@@ -34,16 +34,16 @@ fn one_row(
 ) -> State
     requires small { (y < 999) × (0 < length row.now) × (length row.now ≤ 512) }
     requires lengths { length row.now ≡ length was.now }
-    requires room { vec_len out.old + 11 + 46 * length row.now ≤ vec_capacity out.old }
+    requires room { vec_len out.old + 11 + 57 * length row.now ≤ vec_capacity out.old }
     ensures step { RowStep paint known y row.now was.now before out.old.items out.new.items result }
     ensures capacity { vec_capacity out.new ≡ vec_capacity out.old }
-    ensures few { vec_len out.new ≤ vec_len out.old + 11 + 46 * length row.now }
+    ensures few { vec_len out.new ≤ vec_len out.old + 11 + 57 * length row.now }
 {
     if !paint {
         return before;
     }
     let span = span_of(known, row, was);
-    line(out, y, row, span, before)
+    line(out, known, y, row, was, span, before)
 }
 
 // Paints those of the first rows that differ, and gives what is known then.
@@ -61,10 +61,10 @@ fn first_rows(
     requires few { (0 < size.w) × (size.w ≤ 512) × (size.h ≤ 256) × (tail ≤ size.h) }
     requires lengths { (length cells.now ≡ size.h * size.w) × (length shadow.now ≡ size.h * size.w) × (length marks.now ≡ size.h) }
     requires marked { known ≡ true → every ≡ false → (y : ℕ) → y < size.h → slice_index_or marks.now y false ≡ false → row_of size.w cells.now y ≡ row_of size.w shadow.now y }
-    requires room { vec_len out.old + size.h * (11 + 46 * size.w) ≤ vec_capacity out.old }
+    requires room { vec_len out.old + size.h * (11 + 57 * size.w) ≤ vec_capacity out.old }
     ensures rows { Rows size.w size.h cells.now shadow.now known before out.old.items out.new.items tail result }
     ensures capacity { vec_capacity out.new ≡ vec_capacity out.old }
-    ensures few { vec_len out.new ≤ vec_len out.old + size.h * (11 + 46 * size.w) }
+    ensures few { vec_len out.new ≤ vec_len out.old + size.h * (11 + 57 * size.w) }
 {
     let width = size.w as usize;
     let mut state = before;
@@ -182,10 +182,10 @@ pub(crate) fn rows(
     requires differ { rows_to_paint known size.w size.h cells.now shadow.now ≡ rows_to_paint known size.w tail cells.now shadow.now + (size.h - tail) }
     requires lengths { (length cells.now ≡ size.h * size.w) × (length shadow.now ≡ size.h * size.w) × (length marks.now ≡ size.h) }
     requires marked { known ≡ true → every ≡ false → (y : ℕ) → y < size.h → slice_index_or marks.now y false ≡ false → row_of size.w cells.now y ≡ row_of size.w shadow.now y }
-    requires room { vec_len out.old + 57 + size.h * (11 + 46 * size.w) ≤ vec_capacity out.old }
+    requires room { vec_len out.old + 57 + size.h * (11 + 57 * size.w) ≤ vec_capacity out.old }
     ensures rows { Rows size.w size.h cells.now shadow.now known before out.old.items out.new.items size.h result }
     ensures capacity { vec_capacity out.new ≡ vec_capacity out.old }
-    ensures few { vec_len out.new ≤ vec_len out.old + 57 + size.h * (11 + 46 * size.w) }
+    ensures few { vec_len out.new ≤ vec_len out.old + 57 + size.h * (11 + 57 * size.w) }
 {
     let first = first_rows(out, cells, shadow, marks, every, known, size, tail, before);
     rest(out, tail, size, first)

@@ -9,10 +9,11 @@ ghost use Rattle.con_paint.specs.Frame.{Stands, Painted};
 ghost use Rattle.con_paint.specs.Span as spans;
 ghost use Rattle.con_paint.specs.Spot.{IsAt};
 
-use crate::cells::{cells, is_same};
+use crate::cells::is_same;
+use crate::columns::columns;
 use crate::emit::erase_row;
 use crate::pen::choose;
-use crate::spot::{State, go, spot_behind};
+use crate::spot::{Spot, State, go};
 use con_units::{Attr, Cell};
 
 /// The columns of a row that are printed, and whether those behind them are erased.
@@ -118,6 +119,7 @@ pub(crate) fn span_of(known: bool, row: &[Cell], was: &[Cell]) -> Span
     requires lengths { length row.now ≡ length was.now }
     requires some { 0 < length row.now }
     ensures inside { spans.IsSpan row.now result }
+    ensures front { (now : List Glyph) → length now ≡ length row.now → (known ≡ true → now ≡ was.now) → take result.from row.now ≡ take result.from now }
     ensures whole { (now : List Glyph) → length now ≡ length row.now → (known ≡ true → now ≡ was.now) → spans.patched now row.now result ≡ row.now }
 {
     let from = begin(known, row, was);
@@ -138,35 +140,44 @@ pub(crate) fn span_of(known: bool, row: &[Cell], was: &[Cell]) -> Span
     }
 }
 
-// Erases the end of the row in the starting pen, where it is to be, and gives the attribute of the pen.
-fn erase_if(out: &mut Vec<u8>, erase: bool, before: Attr) -> Attr
-    requires room { erase ≡ true → vec_len out.old + 46 ≤ vec_capacity out.old }
-    ensures end { spans.RowEnd erase before result out.old.items out.new.items }
+// Erases the end of row y from a column on, in the starting pen, where it is to be, and gives what is known then.
+fn erase_if(out: &mut Vec<u8>, erase: bool, x: u16, y: u16, before: State) -> State
+    requires small { (x < 999) × (y < 999) }
+    requires room { erase ≡ true → vec_len out.old + 57 ≤ vec_capacity out.old }
+    ensures end { spans.RowEnd erase x y before result out.old.items out.new.items }
     ensures capacity { vec_capacity out.new ≡ vec_capacity out.old }
     ensures same { erase ≡ false → vec_len out.new ≤ vec_len out.old }
-    ensures few { vec_len out.new ≤ vec_len out.old + 46 }
+    ensures few { vec_len out.new ≤ vec_len out.old + 57 }
 {
     if !erase {
         return before;
     }
-    let plain = plain_attr();
-    choose(out, before, plain);
+    go(out, before.spot, x, y);
+    let attr = plain_attr();
+    choose(out, before.attr, attr);
     erase_row(out);
-    plain
+    let spot = Spot { known: true, x, y };
+    State { attr, spot }
 }
 
 /// Writes a part of row y, which makes it the whole row, and gives what is known then.
-pub(crate) fn line(out: &mut Vec<u8>, y: u16, row: &[Cell], span: Span, before: State) -> State
+pub(crate) fn line(
+    out: &mut Vec<u8>,
+    known: bool,
+    y: u16,
+    row: &[Cell],
+    was: &[Cell],
+    span: Span,
+    before: State,
+) -> State
     requires small { (y < 999) × (length row.now ≤ 512) }
+    requires lengths { length row.now ≡ length was.now }
     requires inside { spans.IsSpan row.now span }
-    requires room { vec_len out.old + 11 + 46 * length row.now ≤ vec_capacity out.old }
-    ensures painted { (h : ℕ) (s : Page) → Stands (length row.now) h before.attr s → IsAt before.spot s → y < h → spans.patched (row_of (length row.now) s.cells y) row.now span ≡ row.now → Painted (length row.now) h y result row.now out.old.items out.new.items s }
+    requires room { vec_len out.old + 11 + 57 * length row.now ≤ vec_capacity out.old }
+    ensures painted { (h : ℕ) (s : Page) → Stands (length row.now) h before.attr s → IsAt before.spot s → y < h → (known ≡ true → row_of (length row.now) s.cells y ≡ was.now) → take span.from row.now ≡ take span.from (row_of (length row.now) s.cells y) → spans.patched (row_of (length row.now) s.cells y) row.now span ≡ row.now → Painted (length row.now) h y result row.now out.old.items out.new.items s }
     ensures capacity { vec_capacity out.new ≡ vec_capacity out.old }
-    ensures few { vec_len out.new ≤ vec_len out.old + 11 + 46 * length row.now }
+    ensures few { vec_len out.new ≤ vec_len out.old + 11 + 57 * length row.now }
 {
-    go(out, before.spot, span.from as u16, y);
-    let pen = cells(out, &row[span.from..span.upto], before.attr);
-    let attr = erase_if(out, span.erase, pen);
-    let spot = spot_behind(span.upto, row.len(), y);
-    State { attr, spot }
+    let state = columns(out, known, y, row, was, span.from, span.upto, before);
+    erase_if(out, span.erase, span.upto as u16, y, state)
 }

@@ -5,7 +5,8 @@ ghost use Rattle.con_term.specs.Page.{Page};
 ghost use Rattle.con_paint.specs.Leads.{Leads};
 ghost use Rattle.con_paint.specs.Spot as spots;
 
-use crate::emit::{backspace, carriage_return, go_to, next_row};
+use crate::emit::{backspace, carriage_return, go_to, next_row, right};
+use crate::width::is_trusted;
 use con_units::Attr;
 
 /// A place, counted from 0, where the cursor stands with no wrap pending, if that is known.
@@ -38,15 +39,15 @@ pub(crate) fn spot_if(known: bool, spot: Spot) -> Spot
     if known { spot } else { NOWHERE }
 }
 
-/// The place behind columns that were written, where they are not a row's last ones.
-pub(crate) fn spot_behind(upto: usize, width: usize, y: u16) -> Spot
-    requires { (upto ≤ width) × (width ≤ 512) }
-    ensures { spots.IsBehind result upto width y }
+/// The place behind a unit that was printed in a column, where that is not a row's last one and the unit's width is not doubted.
+pub(crate) fn spot_behind(unit: u16, x: u16, width: usize, y: u16) -> Spot
+    requires { (x < width) × (width ≤ 512) }
+    ensures { spots.IsBehind result unit x width y }
 {
-    if upto < width {
+    if (x as usize) + 1 < width && is_trusted(unit) {
         Spot {
             known: true,
-            x: upto as u16,
+            x: x + 1,
             y,
         }
     } else {
@@ -72,6 +73,8 @@ fn go_in_row(out: &mut Vec<u8>, at: Spot, x: u16, y: u16)
         carriage_return(out);
     } else if at.x == x + 1 {
         backspace(out);
+    } else if at.x < x {
+        right(out, x - at.x);
     } else {
         go_to(out, y + 1, x + 1);
     }

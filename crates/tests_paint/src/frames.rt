@@ -21,6 +21,11 @@ fn attr_at(i: usize, attrs: [Attr; 3]) -> Attr {
     }
 }
 
+// The unit of a byte: its own, but for # one on whose width terminals do not agree.
+fn unit_of(byte: u8) -> u16 {
+    if byte == 0x23 { 0x600 } else { byte as u16 }
+}
+
 // A view of 18 cells, some in other attributes, with a visible cursor, or with none where x is negative.
 fn view_in(
     rt: &impl Abort,
@@ -35,7 +40,7 @@ fn view_in(
     let mut rows = Vec::new(alloc);
     for (i, byte) in text.iter().enumerate() {
         let attr = attr_at(i, attrs);
-        let Ok(()) = rows.push(Cell::new(*byte as u16, attr)) else {
+        let Ok(()) = rows.push(Cell::new(unit_of(*byte), attr)) else {
             return Err(OutOfMemory);
         };
     }
@@ -111,7 +116,7 @@ fn whole_frame_and_one_changed_cell(rt: HostRuntime) -> Result<(), Fail> {
     let text = two_frames(rt.alloc(), &first, &second)?;
     assert_eq!(rt;
         text.as_str(),
-        "^[!p^[?69l^[?6l^[4l^[20l^[?7h^[?5l^[?2026l^[r^(B\u{F}^[0m^[?25l^[Ha^[31;40mb^[m^[K\r\ncdefgh^[3H^[K^[2;2H^[?25h\n^[2;3HX^[2;2H\n6x3 cursor 1,1\n|ab    |\n|cdXfgh|\n|      |\n@0,1+1 0004\n"
+        "^[!p^[?69l^[?6l^[4l^[20l^[?7h^[?5l^[?2026l^[r^(B\u{F}^[0m^[?25l^[Ha^[31;40mb^[m^[K\r\ncdefgh^[3H^[K^[2;2H^[?25h\n^[CX^[2;2H\n6x3 cursor 1,1\n|ab    |\n|cdXfgh|\n|      |\n@0,1+1 0004\n"
     );
     Ok(())
 }
@@ -136,7 +141,7 @@ fn equal_view_gives_no_byte(rt: HostRuntime) -> Result<(), Fail> {
     let text = two_frames(rt.alloc(), &first, &second)?;
     assert_eq!(rt;
         text.as_str(),
-        "^[!p^[?69l^[?6l^[4l^[20l^[?7h^[?5l^[?2026l^[r^(B\u{F}^[0m^[H^[J^[1;4H^[?25h\n\n6x3 cursor 3,0\n|      |\n|      |\n|      |\n"
+        "^[!p^[?69l^[?6l^[4l^[20l^[?7h^[?5l^[?2026l^[r^(B\u{F}^[0m^[H^[J^[3C^[?25h\n\n6x3 cursor 3,0\n|      |\n|      |\n|      |\n"
     );
     Ok(())
 }
@@ -168,6 +173,28 @@ fn short_ways_to_a_place(rt: HostRuntime) -> Result<(), Fail> {
     let text = two_frames(rt.alloc(), &first, &second)?;
     assert!(rt;
         text.as_str().ends_with("\n\u{8} \u{8}\n6x3 cursor 2,0\n|ab    |\n|      |\n|      |\n")
+    );
+    Ok(())
+}
+
+// Behind a width that is doubted the place is sent anew, and the cells that stand there are gone over.
+#[test]
+fn place_behind_a_doubted_width(rt: HostRuntime) -> Result<(), Fail> {
+    let first = view(&rt, rt.alloc(), b"abcdef            ", 7, 0, 1)?;
+    let second = view(&rt, rt.alloc(), b"#bcdeX            ", 7, 0, 1)?;
+    let text = two_frames(rt.alloc(), &first, &second)?;
+    assert!(rt;
+        text.as_str().ends_with(
+            "\n^[H\u{D8}\u{80}^[1;6HX^[2H\n6x3 cursor 0,1\n|\u{600}bcdeX|\n|      |\n|      |\n"
+        )
+    );
+    let first = view(&rt, rt.alloc(), b"                  ", 7, 0, 2)?;
+    let second = view(&rt, rt.alloc(), b"#a    bcdefg      ", 7, 0, 2)?;
+    let text = two_frames(rt.alloc(), &first, &second)?;
+    assert!(rt;
+        text.as_str().ends_with(
+            "\n^[?25l^[H\u{D8}\u{80}^[1;2Ha\r\nbcdefg^[3H^[?25h\n6x3 cursor 0,2\n|\u{600}a    |\n|bcdefg|\n|      |\n"
+        )
     );
     Ok(())
 }

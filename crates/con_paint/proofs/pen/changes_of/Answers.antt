@@ -1,5 +1,4 @@
 -- What is not changed is the same.
-use Rattle.std.proofs.Common.{sym}
 use Rattle.con_paint.proofs.PenLemmas.{enough_on, enough_anew}
 use Rattle.con_paint.proofs.pen.changes_of.Goals as goal
 

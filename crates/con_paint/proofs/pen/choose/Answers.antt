@@ -1,5 +1,5 @@
 -- One sequence, or none.
-use Rattle.std.proofs.Common.{sym, ◌∙◌, true}
+use Rattle.std.proofs.Common.{sym, ◌∙◌}
 use Rattle.con_units.specs.Attr.{plain}
 use Rattle.con_paint.proofs.SameLemmas.{attrs_same, never_same}
 use Rattle.con_paint.proofs.LeadLemmas.{chooses, chooses_plain, chooses_none}

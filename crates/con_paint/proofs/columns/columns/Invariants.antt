@@ -1,0 +1,8 @@
+-- The columns so far.
+use Rattle.std.proofs.Common.{◌≡◌, ◌+◌, ◌-◌, ◌*◌, ◌≤◌}
+use Rattle.std.specs.Vec.{vec_len, vec_capacity}
+use Rattle.con_paint.specs.Columns.{FirstColumns}
+use Rattle.con_paint.proofs.columns.columns.Given as goal
+
+abbrev pub invariant-loop-x : goal.invariant-loop-x
+invariant-loop-x l = FirstColumns l.known l.row l.was l.fn.y l.fn.from l.x l.fn.before l.fn.out.items l.out.items l.state × (vec_capacity l.out ≡ vec_capacity l.fn.out) × (vec_len l.out ≤ vec_len l.fn.out + 57 * (l.x - l.fn.from))
