@@ -233,3 +233,7 @@ served_slice {C} view os slice new now n is ran len lent =
     let len' : length new ≡ length os = ran.len ∙ ap (λ (l : List C). length l) is in
     let whole : now ≡ new = lent ∙ all_there new (drop (length new) os) n (omega arith) (rest_none os (length new) (omega arith)) in
     subst (λ (z : List C × List C). AllServed view z.0 z.1) (λ i. (is i, sym whole i)) ran
+
+-- a slice that was lent to a closure, which has ended
+pub served_lent : {C N : Type 0} (view : C → ClientView) (old now new : List C) (n n' : N) → n' ≡ n → (n ≡ n' → now ≡ new) → AllServed view old new → AllServed view old now
+served_lent {C} {N} view old now new n n' e f ran = subst (λ (z : List C). AllServed view old z) (sym (f (sym e))) ran

@@ -2,9 +2,12 @@ pub mod Beginning
 pub mod ClientEntries
 pub mod ClientGoing
 pub mod ClientServing
+pub mod Closures
 pub mod Crewing
+pub mod Crosses
 pub mod Ending
 pub mod Ledgering
+pub mod Making
 pub mod Painting
 pub mod Returning
 pub mod Scribing

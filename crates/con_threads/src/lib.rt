@@ -5,22 +5,24 @@
 //! - A [`ClientThread`] follows its script, a [`SideThread`] sends the frames of the link, a [`PainterThread`] makes a frame of each
 //!   Paint outside the lock, and a [`WriterThread`] writes them.
 //!
-//! [`edges`] and [`mod@crew`] make all of them. [`finished`](close::finished) takes their passes together once all have returned, paints what is
-//! still due, closes the book and leaves an `Outcome`, as a session by turns does. What lets them run beside each other is not here yet.
+//! [`run_session`] makes all of them, lets them run beside each other, takes their passes together once all have returned, paints what is
+//! still due, closes the book and leaves an `Outcome`, as a session by turns does.
 //!
 //! Never promised: that a thread gets its turn, how long it waits, and that two of them ran at once.
 #![tactic(auto)]
 
 mod client;
-pub mod close;
+mod close;
 mod closing;
-pub mod crew;
-pub mod edges;
+mod crew;
+mod edges;
 mod gather;
 mod ledger;
 mod listing;
 mod painter;
+mod run;
 mod scribe;
+mod session;
 mod side;
 mod step;
 mod writer;
@@ -29,5 +31,6 @@ pub use client::{ClientThread, Moved};
 pub use ledger::{Ledger, Page, Told};
 pub use painter::PainterThread;
 pub use scribe::Scribe;
+pub use session::run_session;
 pub use side::SideThread;
 pub use writer::WriterThread;
