@@ -16,10 +16,13 @@ use Rattle.con_link.specs.declared.fault.LinkFault.TheVariants as faults
 use Rattle.con_events.specs.declared.end.End.{End}
 use Rattle.con_events.specs.declared.end.End.TheVariants as ends
 use Rattle.con_events.specs.declared.event.Event.{Event}
-use Rattle.con_session.specs.Outcome.{HasSent}
+use Rattle.con_events.specs.Session.{Clients}
+use Rattle.con_events.specs.declared.entry.Entry.{Entry}
+use Rattle.con_events.specs.declared.reply.Reply.{Reply}
+use Rattle.con_session.specs.Outcome.{HasSent, Leaves}
 use Rattle.con_trace.specs.Ending.{status_of}
 use Rattle.con_host.specs.Foretold.{Foretells, HasNoFrame, Stands}
-use Rattle.con_host.specs.Solo.{IsStatus, ending_after}
+use Rattle.con_host.specs.Sessions.{IsStatus, ending_after}
 
 abbrev spelled : List Frame → List ℕ
 spelled fs = flat_map spelling fs
@@ -226,7 +229,7 @@ bytes_are : (link taken rest : List ℕ) (before : Option (List ℕ)) → before
 bytes_are link taken rest before e f = some_is _ _ (sym f ∙ e)
 
 -- a session that ran has the end that the bytes say, or there was no memory
-pub status_foretold : OneAnswer → OneFrame → (s : ℕ) (end e : End) (frames : List Frame) (text link : List ℕ) (before left : Option (List ℕ)) (sent : List Event) → IsStatus s end → list_all is_frame frames ≡ true → before ≡ then_left (spelled frames ++ text) left
+status_foretold : OneAnswer → OneFrame → (s : ℕ) (end e : End) (frames : List Frame) (text link : List ℕ) (before left : Option (List ℕ)) (sent : List Event) → IsStatus s end → list_all is_frame frames ≡ true → before ≡ then_left (spelled frames ++ text) left
     → HasSent end frames text left sent → before ≡ Some link → Foretells link e → (s ≡ 4 → ⊥) → (s ≡ 5 → ⊥) → (s ≡ 6 → ⊥) → (s ≡ status_of (ending_after e)) ⊎ (s ≡ 9)
 status_foretold one two s end e frames text link before None sent is fine taken h f foretells l t r = let bad : None ≡ Some link = sym taken ∙ f in absurd (cc)
 status_foretold one two s end e frames text link before (Some rest) sent is fine taken h f foretells l t r = elim (settles s end is l t r) [
@@ -269,7 +272,7 @@ ended_long s end is e = elim is [
 ]
 
 -- the status of a link without a frame at a place
-pub no_frame_there : (s : ℕ) (end : End) (frames : List Frame) (text : List ℕ) (before left : Option (List ℕ)) (sent : List Event) → IsStatus s end → list_all is_frame frames ≡ true → before ≡ then_left (spelled frames ++ text) left
+no_frame_there : (s : ℕ) (end : End) (frames : List Frame) (text : List ℕ) (before left : Option (List ℕ)) (sent : List Event) → IsStatus s end → list_all is_frame frames ≡ true → before ≡ then_left (spelled frames ++ text) left
     → HasSent end frames text left sent → s ≡ 8 → IfSome before HasNoFrame
 no_frame_there s end frames text before None sent is fine taken h e = subst (λ b. IfSome b HasNoFrame) (sym taken) tt
 no_frame_there s end frames text before (Some rest) sent is fine taken h e =
@@ -278,9 +281,22 @@ no_frame_there s end frames text before (Some rest) sent is fine taken h e =
     subst (λ b. IfSome b HasNoFrame) (sym taken) (bad.0, bad.1, stopped ((spelled frames ++ text) ++ rest) (faults.Bad bad.0 bad.1) frames text rest fine sent'.0.0 refl sent'.1)
 
 -- the status of a link with too many bytes
-pub much_taken : (s : ℕ) (end : End) (frames : List Frame) (text : List ℕ) (before left : Option (List ℕ)) (sent : List Event) → IsStatus s end → before ≡ then_left (spelled frames ++ text) left → HasSent end frames text left sent → s ≡ 10
+much_taken : (s : ℕ) (end : End) (frames : List Frame) (text : List ℕ) (before left : Option (List ℕ)) (sent : List Event) → IsStatus s end → before ≡ then_left (spelled frames ++ text) left → HasSent end frames text left sent → s ≡ 10
     → (taken : List ℕ) × (before ≡ then_left taken left) × (16777216 < length taken)
 much_taken s end frames text before left sent is taken h e =
     let sent' : HasSent ends.TooLong frames text left sent = subst (λ d. HasSent d frames text left sent) (ended_long s end is e) h in
     let most = sent'.1.0 in
     (spelled frames ++ text, taken, omega (arith, most, length-append (spelled frames) text))
+
+-- ---- of what a session left
+
+pub left_foretold : OneAnswer → OneFrame → (s : ℕ) (session : Clients) (racks : List (List ℕ)) (h : List Entry) (rs : List Reply) (es : List ℕ) (end e : End) (link : List ℕ) (before left old now : Option (List ℕ)) → Leaves session racks h rs es end before left old now → IsStatus s end
+    → before ≡ Some link → Foretells link e → (s ≡ 4 → ⊥) → (s ≡ 5 → ⊥) → (s ≡ 6 → ⊥) → (s ≡ status_of (ending_after e)) ⊎ (s ≡ 9)
+left_foretold one two s session racks h rs es end e link before left old now o is known says l t r = status_foretold one two s end e o.frames o.text link before left _ is o.frames' o.taken o.side known says l t r
+
+pub left_no_frame : (s : ℕ) (session : Clients) (racks : List (List ℕ)) (h : List Entry) (rs : List Reply) (es : List ℕ) (end : End) (before left old now : Option (List ℕ)) → Leaves session racks h rs es end before left old now → IsStatus s end → s ≡ 8 → IfSome before HasNoFrame
+left_no_frame s session racks h rs es end before left old now o is e = no_frame_there s end o.frames o.text before left _ is o.frames' o.taken o.side e
+
+pub left_too_much : (s : ℕ) (session : Clients) (racks : List (List ℕ)) (h : List Entry) (rs : List Reply) (es : List ℕ) (end : End) (before left old now : Option (List ℕ)) → Leaves session racks h rs es end before left old now → IsStatus s end → s ≡ 10
+    → (taken : List ℕ) × (before ≡ then_left taken left) × (16777216 < length taken)
+left_too_much s session racks h rs es end before left old now o is e = much_taken s end o.frames o.text before left _ is o.taken o.side e

@@ -7,13 +7,13 @@ use Rattle.con_host.specs.Ending.{end_line}
 use Rattle.con_host.specs.Generating.{Generated}
 use Rattle.con_host.specs.Hosting.{Hosted}
 use Rattle.con_host.specs.Playing.{Played}
-use Rattle.con_host.specs.Solo.{Soloed}
+use Rattle.con_host.specs.Sessions.{HasRun, Soloed}
 use Rattle.con_host.specs.Typing.{Typed}
-use Rattle.con_host.specs.Words.{Asked, typing, playing, solo, generating}
+use Rattle.con_host.specs.Words.{Asked, typing, playing, running, solo, generating}
 use Rattle.con_host.proofs.Ends.{no_memory as no_playing}
 use Rattle.con_host.proofs.Generations.{no_memory as no_generating}
 use Rattle.con_host.proofs.Lines.{part_of, nothing_yet}
-use Rattle.con_host.proofs.SoloLemmas.{no_memory as no_running}
+use Rattle.con_host.proofs.SessionLemmas.{no_memory as no_running, no_turns}
 use Rattle.con_host.proofs.Types.{no_memory as no_typing}
 
 pub no_form : (s : ℕ) (asked : Option Asked) (files : Option (List ℕ → Option (List ℕ))) (files_failed : Type 0) (racks : List (List ℕ)) (before old before_report report : Option (List ℕ)) (failed : Type 0) → None ≡ asked → (s ≡ 2) ⊎ (s ≡ 9) → WroteFront (end_line 2) before_report report
@@ -29,6 +29,7 @@ no_form s asked files files_failed racks before old before_report report failed 
   typed = λ e. absurd (cc);
   played = λ size e. absurd (cc);
   ran = λ name e. absurd (cc);
+  soloed = λ name e. absurd (cc);
   generated = λ seed e. absurd (cc);
 }
 
@@ -45,6 +46,7 @@ no_words asked files files_failed racks before old before_report failed = record
   typed = λ _. ([], then_left-none before, no_typing [] before old before_report failed (omega arith));
   played = λ size _. (refl, ([], then_left-none before, no_playing size [] before before_report failed (omega arith)));
   ran = λ name _. no_running files name files_failed racks before old before_report failed;
+  soloed = λ name _. no_turns files name files_failed racks before old before_report failed;
   generated = λ seed _. (refl, no_generating seed old before_report failed);
 }
 
@@ -55,6 +57,7 @@ as_typed s asked files files_failed racks before left old now before_report repo
   typed = λ _. t;
   played = λ size e. absurd (cc);
   ran = λ name e. absurd (cc);
+  soloed = λ name e. absurd (cc);
   generated = λ seed e. absurd (cc);
 }
 
@@ -62,6 +65,7 @@ size_in : Option Asked → Size → Size
 size_in None other = other
 size_in (Some typing) other = other
 size_in (Some (playing size)) other = size
+size_in (Some (running name)) other = other
 size_in (Some (solo name)) other = other
 size_in (Some (generating seed)) other = other
 
@@ -69,6 +73,7 @@ name_in : Option Asked → List ℕ
 name_in None = []
 name_in (Some typing) = []
 name_in (Some (playing size)) = []
+name_in (Some (running name)) = name
 name_in (Some (solo name)) = name
 name_in (Some (generating seed)) = []
 
@@ -80,6 +85,10 @@ pub same_name : (asked : Option Asked) (a b : List ℕ) → Some (solo a) ≡ as
 unfolding name_in
 same_name asked a b e f = ap name_in (e ∙ f)
 
+pub same_run : (asked : Option Asked) (a b : List ℕ) → Some (running a) ≡ asked → asked ≡ Some (running b) → a ≡ b
+unfolding name_in
+same_run asked a b e f = ap name_in (e ∙ f)
+
 pub as_played : (s : ℕ) (size : Size) (asked : Option Asked) (files : Option (List ℕ → Option (List ℕ))) (files_failed : Type 0) (racks : List (List ℕ)) (before left old before_report report : Option (List ℕ)) (failed : Type 0) → Some (playing size) ≡ asked
     → (text : List ℕ) × (before ≡ then_left text left) × Played s size text left before_report report failed → Hosted s asked files files_failed racks before left old old before_report report failed
 as_played s size asked files files_failed racks before left old before_report report failed is t = record {
@@ -87,16 +96,29 @@ as_played s size asked files files_failed racks before left old before_report re
   typed = λ e. absurd (cc);
   played = λ other e. (refl, subst (λ z. (text : List ℕ) × (before ≡ then_left text left) × Played s z text left before_report report failed) (same_size asked size other is e) t);
   ran = λ name e. absurd (cc);
+  soloed = λ name e. absurd (cc);
   generated = λ seed e. absurd (cc);
 }
 
-pub as_ran : (s : ℕ) (name : List ℕ) (asked : Option Asked) (files : Option (List ℕ → Option (List ℕ))) (files_failed : Type 0) (racks : List (List ℕ)) (before left old now before_report report : Option (List ℕ)) (failed : Type 0) → Some (solo name) ≡ asked
-    → Soloed s files name files_failed racks before left old now before_report report failed → Hosted s asked files files_failed racks before left old now before_report report failed
+pub as_ran : (s : ℕ) (name : List ℕ) (asked : Option Asked) (files : Option (List ℕ → Option (List ℕ))) (files_failed : Type 0) (racks : List (List ℕ)) (before left old now before_report report : Option (List ℕ)) (failed : Type 0) → Some (running name) ≡ asked
+    → HasRun s files name files_failed racks before left old now before_report report failed → Hosted s asked files files_failed racks before left old now before_report report failed
 as_ran s name asked files files_failed racks before left old now before_report report failed is t = record {
   usage = λ e. absurd (cc);
   typed = λ e. absurd (cc);
   played = λ size e. absurd (cc);
-  ran = λ other e. subst (λ n. Soloed s files n files_failed racks before left old now before_report report failed) (same_name asked name other is e) t;
+  ran = λ other e. subst (λ n. HasRun s files n files_failed racks before left old now before_report report failed) (same_run asked name other is e) t;
+  soloed = λ name e. absurd (cc);
+  generated = λ seed e. absurd (cc);
+}
+
+pub as_soloed : (s : ℕ) (name : List ℕ) (asked : Option Asked) (files : Option (List ℕ → Option (List ℕ))) (files_failed : Type 0) (racks : List (List ℕ)) (before left old now before_report report : Option (List ℕ)) (failed : Type 0) → Some (solo name) ≡ asked
+    → Soloed s files name files_failed racks before left old now before_report report failed → Hosted s asked files files_failed racks before left old now before_report report failed
+as_soloed s name asked files files_failed racks before left old now before_report report failed is t = record {
+  usage = λ e. absurd (cc);
+  typed = λ e. absurd (cc);
+  played = λ size e. absurd (cc);
+  ran = λ name e. absurd (cc);
+  soloed = λ other e. subst (λ n. Soloed s files n files_failed racks before left old now before_report report failed) (same_name asked name other is e) t;
   generated = λ seed e. absurd (cc);
 }
 
@@ -104,6 +126,7 @@ seed_in : Option Asked → ℕ
 seed_in None = 0
 seed_in (Some typing) = 0
 seed_in (Some (playing size)) = 0
+seed_in (Some (running name)) = 0
 seed_in (Some (solo name)) = 0
 seed_in (Some (generating seed)) = seed
 
@@ -118,5 +141,6 @@ as_generated s seed asked files files_failed racks before old now before_report 
   typed = λ e. absurd (cc);
   played = λ size e. absurd (cc);
   ran = λ name e. absurd (cc);
+  soloed = λ name e. absurd (cc);
   generated = λ other e. (refl, subst (λ n. Generated s n old now before_report report failed) (same_seed asked seed other is e) t);
 }

@@ -8,7 +8,7 @@ pub mod Heard
 pub mod Hosts
 pub mod Entered
 pub mod Forms
-pub mod SoloLemmas
+pub mod SessionLemmas
 pub mod TellLemmas
 pub mod Generations
 pub mod Foretelling

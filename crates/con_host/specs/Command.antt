@@ -18,7 +18,7 @@ abbrev pub and_more : App → App → App
 and_more a more = with_subcommand a more.top
 
 abbrev pub host : App
-host = and_more (and_more (and_more (and_more bare (new_app (codes "type"))) (taking (codes "play"))) (taking (codes "solo"))) (taking (codes "gen"))
+host = and_more (and_more (and_more (and_more (and_more bare (new_app (codes "type"))) (taking (codes "play"))) (taking (codes "solo"))) (taking (codes "gen"))) (taking (codes "run"))
 
 -- a subcommand's name, and its word
 abbrev pub Named : Type 0

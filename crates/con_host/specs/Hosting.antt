@@ -5,9 +5,9 @@ use Rattle.con_outside.specs.Outside.{WrotePart, then_left}
 use Rattle.con_host.specs.Ending.{end_line}
 use Rattle.con_host.specs.Generating.{Generated}
 use Rattle.con_host.specs.Playing.{Played, Told}
-use Rattle.con_host.specs.Solo.{Soloed}
+use Rattle.con_host.specs.Sessions.{HasRun, Soloed}
 use Rattle.con_host.specs.Typing.{Typed}
-use Rattle.con_host.specs.Words.{Asked, typing, playing, solo, generating}
+use Rattle.con_host.specs.Words.{Asked, typing, playing, running, solo, generating}
 
 -- Words that are no form: the line that says so was written, or there was no memory for it.
 pub record Refused (status : ℕ) (before left old now before_report report : Option (List ℕ)) (failed : Type 0) : Type 0 where
@@ -23,5 +23,6 @@ pub record Hosted (status : ℕ) (asked : Option Asked) (files : Option (List �
   pub usage : asked ≡ None → Refused status before left old now before_report report failed
   pub typed : asked ≡ Some typing → (text : List ℕ) × (before ≡ then_left text left) × Typed status text left old now before_report report failed
   pub played : (size : Size) → asked ≡ Some (playing size) → (now ≡ old) × ((text : List ℕ) × (before ≡ then_left text left) × Played status size text left before_report report failed)
-  pub ran : (name : List ℕ) → asked ≡ Some (solo name) → Soloed status files name files_failed racks before left old now before_report report failed
+  pub ran : (name : List ℕ) → asked ≡ Some (running name) → HasRun status files name files_failed racks before left old now before_report report failed
+  pub soloed : (name : List ℕ) → asked ≡ Some (solo name) → Soloed status files name files_failed racks before left old now before_report report failed
   pub generated : (seed : ℕ) → asked ≡ Some (generating seed) → (left ≡ before) × Generated status seed old now before_report report failed

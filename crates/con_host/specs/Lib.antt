@@ -6,7 +6,7 @@ pub mod Generating
 pub mod Hosting
 pub mod Link
 pub mod Playing
-pub mod Solo
+pub mod Sessions
 pub mod Summary
 pub mod Typing
 pub mod Words

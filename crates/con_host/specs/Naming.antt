@@ -3,7 +3,7 @@ use Rattle.std.specs.Prelude.{Bool, true, false, ◌&&◌, List, [], ◌∷◌, 
 use Rattle.std.specs.Str.{bytes_eq}
 use Rattle.clap.specs.Words.{Row, Text}
 use Rattle.con_host.specs.Command.{Named, first_word}
-use Rattle.con_host.specs.Words.{Asked, typing, playing, solo, generating, at_size, of_seed, is_word, size_of, seed_of}
+use Rattle.con_host.specs.Words.{Asked, typing, playing, running, solo, generating, at_size, of_seed, is_word, size_of, seed_of}
 use Rattle.con_host.specs.declared.words.Form.{Form}
 use Rattle.con_host.specs.declared.words.Form.TheVariants as form
 
@@ -11,6 +11,7 @@ use Rattle.con_host.specs.declared.words.Form.TheVariants as form
 abbrev pub asked_of : Form → Asked
 asked_of form.Type = typing
 asked_of (form.Play size) = playing size
+asked_of (form.Run name) = running name.now
 asked_of (form.Solo name) = solo name.now
 asked_of (form.Gen seed) = generating seed
 
@@ -22,6 +23,10 @@ abbrev pub of_name : Option Text → Option Asked
 of_name None = None
 of_name (Some word) = Some (solo word)
 
+abbrev pub of_run : Option Text → Option Asked
+of_run None = None
+of_run (Some word) = Some (running word)
+
 abbrev pub of_number : Option Text → Option Asked
 of_number None = None
 of_number (Some word) = of_seed (seed_of word)
@@ -32,6 +37,7 @@ form_named p =
     else if bytes_eq p.0 (codes "play") then of_size p.1
     else if bytes_eq p.0 (codes "solo") then of_name p.1
     else if bytes_eq p.0 (codes "gen") then of_number p.1
+    else if bytes_eq p.0 (codes "run") then of_run p.1
     else None
 
 -- what was met asks for

@@ -6,10 +6,11 @@ use Rattle.con_units.specs.declared.place.Size.{Size}
 use Rattle.con_host.specs.declared.words.Form.{Form}
 use Rattle.con_host.specs.declared.words.Form.TheVariants as form
 
--- what the words ask for: a text to be typed, bytes to be played at a size, the session of a file by turns, the generated session of a number
+-- what the words ask for: a text to be typed, bytes to be played at a size, the session of a file by threads or by turns, the generated session of a number
 pub data Asked : Type 0 where
   typing : Asked
   playing : Size → Asked
+  running : List ℕ → Asked
   solo : List ℕ → Asked
   generating : ℕ → Asked
 
@@ -81,6 +82,7 @@ IsWindow size = (0 < size.w) × (0 < size.h) × (size.w ≤ 512) × (size.h ≤ 
 abbrev pub IsWindowed : Form → Type 0
 IsWindowed form.Type = Unit {0}
 IsWindowed (form.Play size) = IsWindow size
+IsWindowed (form.Run name) = Unit {0}
 IsWindowed (form.Solo name) = Unit {0}
 IsWindowed (form.Gen seed) = Unit {0}
 
@@ -105,6 +107,7 @@ with_word name word =
     if bytes_eq (codes "play") name then at_size (size_of word)
     else if bytes_eq (codes "solo") name then Some (solo word)
     else if bytes_eq (codes "gen") name then of_seed (seed_of word)
+    else if bytes_eq (codes "run") name then Some (running word)
     else None
 
 abbrev pub of_words : List (List ℕ) → Option Asked

@@ -34,12 +34,14 @@ fn command<'a>(alloc: Global) -> Result<Command<'a>, AllocError>
 {
     let typing = Command::new(alloc, "type");
     let playing = taking_one(alloc, "play")?;
-    let running = taking_one(alloc, "solo")?;
+    let turning = taking_one(alloc, "solo")?;
     let generating = taking_one(alloc, "gen")?;
+    let running = taking_one(alloc, "run")?;
     let one = alone(alloc).subcommand(typing)?;
     let two = one.subcommand(playing)?;
-    let three = two.subcommand(running)?;
-    three.subcommand(generating)
+    let three = two.subcommand(turning)?;
+    let four = three.subcommand(generating)?;
+    four.subcommand(running)
 }
 
 /// What the command makes of the words.

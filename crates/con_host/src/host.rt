@@ -9,25 +9,37 @@ ghost use Rattle.con_events.specs.declared.end.End.{End};
 ghost use Rattle.con_trace.specs.Ending.{status_of};
 ghost use Rattle.con_units.specs.declared.place.Size.{Size};
 ghost use Rattle.con_host.specs.Foretold.{Foretells, HasNoFrame, IsSession};
-ghost use Rattle.con_host.specs.Solo.{ending_after};
-ghost use Rattle.con_host.specs.Words.{form_of, typing, playing, solo, generating};
+ghost use Rattle.con_host.specs.Sessions.{ending_after};
+ghost use Rattle.con_host.specs.Words.{form_of, typing, playing, running, solo, generating};
 ghost use Rattle.con_host.specs.Hosting.{Hosted};
 
 use crate::ending::{LINK, MEMORY, REPORT, TERMINAL, TOO_LONG, USAGE, finish};
 use crate::generating::host_gen;
 use crate::playing::host_play;
+use crate::run::host_run;
 use crate::solo::host_solo;
 use crate::typing::host_type;
 use crate::words::Form;
 use con_handlers::CtrlHandler;
-use con_outside::{Files, Sink, Source};
+use con_outside::{Files, Gate, Sink, Source};
 use con_units::OutOfMemory;
 use std::alloc::Global;
+use std::sync::Wait;
+use std::thread::Threads;
 
 /// Does what the words say, and answers the status: 0 done, 2 the words are no form, 3 the file is no session, 4 the link failed, 5 the
 /// terminal failed, 6 the report failed, 7 the file could not be read, 8 the link has no frame at a place, 9 there was no memory, 10 the
-/// link has more than 16,777,216 bytes. `racks` are the handlers that a session's clients may add, by place.
-pub fn console_host<F: Files, I: Source, O: Sink, R: Sink>(
+/// link has more than 16,777,216 bytes. `racks` are the handlers that a session's clients may add, by place; `rt` makes the
+/// threads of `run`, and `gate` is called round each step of its scripts.
+pub fn console_host<
+    T: Threads + Wait + Sync,
+    F: Files,
+    I: Source + Send,
+    O: Sink + Send,
+    R: Sink,
+    G: Gate,
+>(
+    rt: &T,
     alloc: Global,
     words: &[String],
     files: &mut F,
@@ -35,6 +47,7 @@ pub fn console_host<F: Files, I: Source, O: Sink, R: Sink>(
     term: &mut O,
     report: &mut R,
     racks: Vec<Vec<Box<dyn CtrlHandler + Send>>>,
+    gate: &G,
 ) -> u8
     requires few { All (λ rack. length rack.items ≤ 255) racks.items }
     ensures outcome { Hosted result (form_of (map string_bytes words.now)) (F.files files.old) (Rose (F.faults files.old) (F.faults files.new)) (map (λ rack. map (λ b. told_kind (memory_of (asked b) (last b) (kind b))) rack.items) racks.items) (I.left link.old) (I.left link.new) (O.written term.old) (O.written term.new) (R.written report.old) (R.written report.new) (Rose (R.faults report.old) (R.faults report.new)) }
@@ -47,6 +60,9 @@ pub fn console_host<F: Files, I: Source, O: Sink, R: Sink>(
         → IfSome (I.left link.old) (λ bytes. length bytes ≤ 16777216 → (result ≡ 0) ⊎ (result ≡ 9)) }
     ensures play_complete { (size : Size) → form_of (map string_bytes words.now) ≡ Some (playing size) → ¬ (Rose (I.faults link.old) (I.faults link.new)) → ¬ (Rose (O.faults term.old) (O.faults term.new)) → ¬ (Rose (R.faults report.old) (R.faults report.new))
         → IfSome (I.left link.old) (λ bytes. length bytes ≤ 16777216 → (result ≡ 0) ⊎ (result ≡ 9)) }
+    ensures run_foretold { (name : List ℕ) (session : Clients) (bytes : List ℕ) (end : End) → form_of (map string_bytes words.now) ≡ Some (running name) → IsSession (F.files files.old) name session → I.left link.old ≡ Some bytes → Foretells bytes end
+        → ¬ (Rose (F.faults files.old) (F.faults files.new)) → ¬ (Rose (I.faults link.old) (I.faults link.new)) → ¬ (Rose (O.faults term.old) (O.faults term.new)) → ¬ (Rose (R.faults report.old) (R.faults report.new))
+        → (result ≡ status_of (ending_after end)) ⊎ (result ≡ 9) }
     ensures solo_foretold { (name : List ℕ) (session : Clients) (bytes : List ℕ) (end : End) → form_of (map string_bytes words.now) ≡ Some (solo name) → IsSession (F.files files.old) name session → I.left link.old ≡ Some bytes → Foretells bytes end
         → ¬ (Rose (F.faults files.old) (F.faults files.new)) → ¬ (Rose (I.faults link.old) (I.faults link.new)) → ¬ (Rose (O.faults term.old) (O.faults term.new)) → ¬ (Rose (R.faults report.old) (R.faults report.new))
         → (result ≡ status_of (ending_after end)) ⊎ (result ≡ 9) }
@@ -59,6 +75,9 @@ pub fn console_host<F: Files, I: Source, O: Sink, R: Sink>(
         Ok(None) => finish(alloc, report, USAGE),
         Ok(Some(Form::Type)) => host_type(alloc, link, term, report),
         Ok(Some(Form::Play(size))) => host_play(alloc, size, link, report),
+        Ok(Some(Form::Run(name))) => {
+            host_run(rt, alloc, name, files, link, term, report, racks, gate)
+        }
         Ok(Some(Form::Solo(name))) => host_solo(alloc, name, files, link, term, report, racks),
         Ok(Some(Form::Gen(seed))) => host_gen(alloc, seed, term, report),
     }

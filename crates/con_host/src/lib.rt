@@ -5,15 +5,15 @@
 //!   act, and writes one frame that shows it to the terminal ([`host_type`]);
 //! - `play WxH`: plays the link's bytes on the specified terminal of that size, and writes its dump to the report
 //!   ([`host_play`]);
-//! - `solo SESSION`: reads the session of a file, runs it by turns on one thread, and writes its history to the report
-//!   ([`host_solo`]);
+//! - `run SESSION`: reads the session of a file, runs it by threads, and writes its history to the report ([`host_run`]);
+//! - `solo SESSION`: the same by turns on one thread ([`host_solo`]);
 //! - `gen N`: runs the generated session of a number by turns, without a link, and writes its summary to the report
 //!   ([`host_gen`]).
 //!
 //! Its contract says, for each status that it answers, what was taken from the link, and what the terminal and the
 //! report have. Memory does not grow with the link: a piece of 4,096 bytes is read, heard and forgotten.
 //!
-//! Never promised: that memory is there, and that a read of the link returns.
+//! Never promised: that memory is there, that a read of the link returns, that `run` does, and that two of its threads run at once.
 #![tactic(auto)]
 
 pub mod command;
@@ -24,6 +24,8 @@ pub mod generating;
 pub mod host;
 pub mod playing;
 pub mod reading;
+pub mod run;
+pub mod session;
 pub mod solo;
 pub mod summary;
 pub mod telling;
@@ -35,5 +37,6 @@ pub use ending::{DONE, LINK, MEMORY, REPORT, TERMINAL, TOO_LONG, USAGE};
 pub use generating::host_gen;
 pub use host::console_host;
 pub use playing::host_play;
+pub use run::host_run;
 pub use solo::host_solo;
 pub use typing::host_type;

@@ -15,6 +15,8 @@ pub enum Form<'a> {
     Type,
     /// `play WxH`: the link's bytes are played on a terminal of that size; its dump goes to the report.
     Play(Size),
+    /// `run SESSION`: the session of the file of this name runs by threads; its history goes to the report.
+    Run(&'a str),
     /// `solo SESSION`: the session of the file of this name runs by turns; its history goes to the report.
     Solo(&'a str),
     /// `gen N`: the generated session of this number runs by turns; its summary goes to the report.
@@ -26,7 +28,7 @@ impl<'a> Form<'a> {
     ghost use Rattle.con_host.specs.Naming.{asked_of};
 
     /// The form that the words are, and `None` where they are none: `type` alone, `play` with a size of 1 to 512
-    /// by 1 to 256, in decimal digits without a sign or a leading zero, joined by `x`, `solo` with a name, or `gen` with a number of 0 to
+    /// by 1 to 256, in decimal digits without a sign or a leading zero, joined by `x`, `run` or `solo` with a name, or `gen` with a number of 0 to
     /// 4,294,967,295, in decimal digits without a sign or a leading zero. An empty word and one that begins with `-` stand in no form.
     pub fn of(alloc: Global, words: &'a [String]) -> Result<Option<Form<'a>>, OutOfMemory>
         ensures form { IfOk result (λ form. option_map asked_of form ≡ form_of (map string_bytes words.entry.now)) }
@@ -44,7 +46,7 @@ impl<'a> Form<'a> {
 }
 
 ghost use Rattle.con_host.specs.Words.{is_word, is_first, is_digit, number_of, side_of, size_of, is_x, digit_of, with_digit, spelled_after, seed_of, IsWindow, IsWindowed};
-ghost use Rattle.con_host.specs.Naming.{are_few, asked_of, of_size, of_name, of_number, form_named, form_met};
+ghost use Rattle.con_host.specs.Naming.{are_few, asked_of, of_size, of_name, of_number, of_run, form_named, form_met};
 ghost use Rattle.std.specs.Prelude.{true, false, option_map};
 ghost use Rattle.std.specs.List.{list_all};
 ghost use Rattle.clap.specs.Words.{subcommand_rows_of};
@@ -97,9 +99,11 @@ fn form_of_name<'a>(name: &str, word: Option<&'a str>) -> Option<Form<'a>>
     } else if name == "play" {
         playing(word)
     } else if name == "solo" {
-        running(word)
+        turning(word)
     } else if name == "gen" {
         generating(word)
+    } else if name == "run" {
+        running(word)
     } else {
         None
     }
@@ -118,12 +122,22 @@ fn playing<'a>(word: Option<&'a str>) -> Option<Form<'a>>
     }
 }
 
-fn running<'a>(word: Option<&'a str>) -> Option<Form<'a>>
+fn turning<'a>(word: Option<&'a str>) -> Option<Form<'a>>
     ensures form { option_map asked_of result ≡ of_name (option_map (λ s. s.now) word.entry) }
     ensures window { IfSome result IsWindowed }
 {
     match word {
         Some(name) => Some(Form::Solo(name)),
+        None => None,
+    }
+}
+
+fn running<'a>(word: Option<&'a str>) -> Option<Form<'a>>
+    ensures form { option_map asked_of result ≡ of_run (option_map (λ s. s.now) word.entry) }
+    ensures window { IfSome result IsWindowed }
+{
+    match word {
+        Some(name) => Some(Form::Run(name)),
         None => None,
     }
 }

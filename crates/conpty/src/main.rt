@@ -3,8 +3,11 @@
 
 use con_handlers::{CtrlHandler, Note, Once, Swallow, Tally};
 use con_host::{MEMORY, console_host};
-use con_outside::{DiskFiles, StdSink, StdSource};
+use con_outside::{DiskFiles, Files, NoGate, Sink, Source, StdSink, StdSource};
+use std::alloc::{AllocError, Global};
 use std::process::ExitCode;
+use std::sync::Wait;
+use std::thread::Threads;
 use std::{env, io};
 
 // How many clients a session may have, each with a rack of the four handlers.
@@ -26,10 +29,16 @@ fn words<R: env::Env + AllocGlobal>(rt: &R) -> io::Result<Vec<String>> {
     }
 }
 
-// Runs the program. The boxes are made here, since no function hands out one that it made.
-fn run(rt: &HostRuntime) -> io::Result<u8> {
-    let words = words(rt)?;
-    let alloc = rt.alloc();
+// Does what the words say. The boxes are made here, since no function hands out one that it made.
+fn run<T: Threads + Wait + Sync, F: Files, I: Source + Send, O: Sink + Send, R: Sink>(
+    rt: &T,
+    alloc: Global,
+    words: &[String],
+    files: &mut F,
+    link: &mut I,
+    terminal: &mut O,
+    report: &mut R,
+) -> Result<u8, AllocError> {
     let mut racks = Vec::new(alloc);
     for _ in 0..CLIENTS {
         let mut rack: Vec<Box<dyn CtrlHandler + Send>> = Vec::new(alloc);
@@ -39,10 +48,16 @@ fn run(rt: &HostRuntime) -> io::Result<u8> {
         rack.push(Box::new(alloc, Tally::new())?)?;
         racks.push(rack)?;
     }
-    let mut files = DiskFiles {
-        rt: rt.clone()?,
-        faults: 0,
+    Ok(console_host(
+        rt, alloc, words, files, link, terminal, report, racks, &NoGate,
+    ))
+}
+
+fn main(rt: HostRuntime) -> ExitCode {
+    let Ok(words) = words(&rt) else {
+        return ExitCode::from(MEMORY);
     };
+    let mut files = DiskFiles { rt, faults: 0 };
     let mut link = StdSource {
         reader: rt.stdin(),
         faults: 0,
@@ -55,17 +70,14 @@ fn run(rt: &HostRuntime) -> io::Result<u8> {
         writer: rt.stderr(),
         faults: 0,
     };
-    Ok(console_host(
-        alloc,
+    let status = run(
+        &rt,
+        rt.alloc(),
         words.as_slice(),
         &mut files,
         &mut link,
         &mut terminal,
         &mut report,
-        racks,
-    ))
-}
-
-fn main(rt: HostRuntime) -> ExitCode {
-    ExitCode::from(run(&rt).unwrap_or(MEMORY))
+    );
+    ExitCode::from(status.unwrap_or(MEMORY))
 }

@@ -2,7 +2,9 @@
 use crate::runs::{SURE, run, shown};
 use con_host::{TOO_LONG, USAGE};
 use std::alloc::Global;
+use std::sync::Wait;
 use std::test::Fail;
+use std::thread::Threads;
 
 // Some bytes, others so many times, and bytes at the end.
 fn joined(
@@ -30,8 +32,14 @@ fn lines(alloc: Global) -> Result<Vec<u8>, Fail> {
 }
 
 // Whether a text is shown so: how its dump begins and ends.
-fn is_shown(alloc: Global, text: Vec<u8>, begin: &[u8], end: &[u8]) -> Result<bool, Fail> {
-    let dump = shown(alloc, text)?;
+fn is_shown<T: Threads + Wait + Sync>(
+    rt: &T,
+    alloc: Global,
+    text: Vec<u8>,
+    begin: &[u8],
+    end: &[u8],
+) -> Result<bool, Fail> {
+    let dump = shown(rt, alloc, text)?;
     Ok(dump.as_slice().starts_with(begin) && dump.as_slice().ends_with(end))
 }
 
@@ -100,16 +108,22 @@ const ROWS: [Row<'static>; 6] = [
 fn texts_that_are_typed(rt: HostRuntime) -> Result<(), Fail> {
     for row in ROWS.iter() {
         let text = joined(rt.alloc(), row.front, row.many, row.times, row.last)?;
-        assert!(rt; is_shown(rt.alloc(), text, row.begin, row.end)?);
+        assert!(rt; is_shown(&rt, rt.alloc(), text, row.begin, row.end)?);
     }
     let text = lines(rt.alloc())?;
-    assert!(rt; is_shown(rt.alloc(), text, b"80x25 cursor 3,24\n|L02 ", b" |\n")?);
+    assert!(rt; is_shown(&rt, rt.alloc(), text, b"80x25 cursor 3,24\n|L02 ", b" |\n")?);
     Ok(())
 }
 
 // Whether a link that is played on a terminal of a size has this dump, and nothing is written to the terminal.
-fn is_dumped(alloc: Global, size: &str, link: &[u8], dump: &[u8]) -> Result<bool, Fail> {
-    let ran = run(alloc, &["play", size], link.to_vec(alloc)?, SURE)?;
+fn is_dumped<T: Threads + Wait + Sync>(
+    rt: &T,
+    alloc: Global,
+    size: &str,
+    link: &[u8],
+    dump: &[u8],
+) -> Result<bool, Fail> {
+    let ran = run(rt, alloc, &["play", size], link.to_vec(alloc)?, SURE)?;
     Ok(ran.status == 0 && ran.written.is_empty() && ran.report.as_slice() == dump)
 }
 
@@ -136,20 +150,21 @@ fn links_that_are_played(rt: HostRuntime) -> Result<(), Fail> {
         ("3x1", b"abcd", b"3x1 cursor 1,0\n|d  |\n"),
     ];
     for (size, link, dump) in table {
-        assert!(rt; is_dumped(rt.alloc(), size, link, dump)?);
+        assert!(rt; is_dumped(&rt, rt.alloc(), size, link, dump)?);
     }
     Ok(())
 }
 
 // Whether the words end with this status and this report, and nothing else.
-fn is_refused(
+fn is_refused<T: Threads + Wait + Sync>(
+    rt: &T,
     alloc: Global,
     words: &[&str],
     link: Vec<u8>,
     status: u8,
     line: &[u8],
 ) -> Result<bool, Fail> {
-    let ran = run(alloc, words, link, SURE)?;
+    let ran = run(rt, alloc, words, link, SURE)?;
     Ok(ran.status == status && ran.written.is_empty() && ran.report.as_slice() == line)
 }
 
@@ -173,13 +188,23 @@ fn words_and_links_that_are_refused(rt: HostRuntime) -> Result<(), Fail> {
     ];
     for words in forms {
         let link = b"a".to_vec(rt.alloc())?;
-        assert!(rt; is_refused(rt.alloc(), words, link, USAGE, b"[\"end\",2,\"usage\"]\n")?);
+        assert!(rt;
+            is_refused(
+                &rt,
+                rt.alloc(),
+                words,
+                link,
+                USAGE,
+                b"[\"end\",2,\"usage\"]\n"
+            )?
+        );
     }
     let long: [&[&str]; 2] = [&["type"], &["play", "80x25"]];
     for words in long {
         let link = Vec::from_elem(rt.alloc(), 0x41, 16_777_217)?;
         assert!(rt;
             is_refused(
+                &rt,
                 rt.alloc(),
                 words,
                 link,

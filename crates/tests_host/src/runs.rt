@@ -3,10 +3,12 @@ ghost use Rattle.std.specs.Prelude.{◌≤◌, All, length};
 
 use con_handlers::CtrlHandler;
 use con_host::console_host;
-use con_outside::{MemoryFiles, MemorySink, MemorySource};
+use con_outside::{MemoryFiles, MemorySink, MemorySource, NoGate};
 use con_units::Bytes;
 use std::alloc::Global;
+use std::sync::Wait;
 use std::test::Fail;
+use std::thread::Threads;
 
 /// What a run answered, wrote to the terminal and reported.
 #[derive(Drop)]
@@ -47,7 +49,13 @@ fn sink(alloc: Global, fail: u64) -> Result<MemorySink, Fail> {
 pub type Racks = Vec<Vec<Box<dyn CtrlHandler + Send>>>;
 
 /// Runs the words over a link of these bytes, with no file and no handlers.
-pub fn run(alloc: Global, words: &[&str], bytes: Vec<u8>, failing: Failing) -> Result<Ran, Fail> {
+pub fn run<T: Threads + Wait + Sync>(
+    rt: &T,
+    alloc: Global,
+    words: &[&str],
+    bytes: Vec<u8>,
+    failing: Failing,
+) -> Result<Ran, Fail> {
     let mut files = MemoryFiles {
         names: Vec::new(alloc),
         texts: Vec::new(alloc),
@@ -55,11 +63,20 @@ pub fn run(alloc: Global, words: &[&str], bytes: Vec<u8>, failing: Failing) -> R
         calls: 0,
         faults: 0,
     };
-    run_with(alloc, words, &mut files, bytes, failing, Vec::new(alloc))
+    run_with(
+        rt,
+        alloc,
+        words,
+        &mut files,
+        bytes,
+        failing,
+        Vec::new(alloc),
+    )
 }
 
 /// Runs the words with these files, over a link of these bytes, with these handlers. No rack has more than 255.
-pub fn run_with(
+pub fn run_with<T: Threads + Wait + Sync>(
+    rt: &T,
     alloc: Global,
     words: &[&str],
     files: &mut MemoryFiles,
@@ -83,6 +100,7 @@ pub fn run_with(
     let mut term = sink(alloc, failing.term)?;
     let mut report = sink(alloc, failing.report)?;
     let status = console_host(
+        rt,
         alloc,
         list.as_slice(),
         files,
@@ -90,6 +108,7 @@ pub fn run_with(
         &mut term,
         &mut report,
         racks,
+        &NoGate,
     );
     Ok(Ran {
         status,
@@ -99,8 +118,12 @@ pub fn run_with(
 }
 
 /// The dump of the frame that a text is shown by.
-pub fn shown(alloc: Global, text: Vec<u8>) -> Result<Bytes, Fail> {
-    let typed = run(alloc, &["type"], text, SURE)?;
-    let played = run(alloc, &["play", "80x25"], typed.written.0, SURE)?;
+pub fn shown<T: Threads + Wait + Sync>(
+    rt: &T,
+    alloc: Global,
+    text: Vec<u8>,
+) -> Result<Bytes, Fail> {
+    let typed = run(rt, alloc, &["type"], text, SURE)?;
+    let played = run(rt, alloc, &["play", "80x25"], typed.written.0, SURE)?;
     Ok(played.report)
 }

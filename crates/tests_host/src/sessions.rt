@@ -2,7 +2,9 @@
 use crate::runs::{Ran, SURE, run_with};
 use con_outside::MemoryFiles;
 use std::alloc::Global;
+use std::sync::Wait;
 use std::test::Fail;
+use std::thread::Threads;
 
 // A line of a report; the length after a picture may be any.
 fn is_line(line: &[u8], wanted: &[u8]) -> bool {
@@ -29,8 +31,14 @@ fn has_lines(report: &[u8], lines: &[&str]) -> bool {
     rest.is_empty()
 }
 
-// Runs the session of a document over a link.
-fn solo(alloc: Global, document: &str, link: &[u8]) -> Result<Ran, Fail> {
+// Runs the session of a document over a link, by this form.
+fn session<T: Threads + Wait + Sync>(
+    rt: &T,
+    alloc: Global,
+    form: &str,
+    document: &str,
+    link: &[u8],
+) -> Result<Ran, Fail> {
     let mut names = Vec::new(alloc);
     names.push(format!(in alloc; "session")?)?;
     let mut texts = Vec::new(alloc);
@@ -43,8 +51,9 @@ fn solo(alloc: Global, document: &str, link: &[u8]) -> Result<Ran, Fail> {
         faults: 0,
     };
     run_with(
+        rt,
         alloc,
-        &["solo", "session"],
+        &[form, "session"],
         &mut files,
         link.to_vec(alloc)?,
         SURE,
@@ -419,7 +428,7 @@ fn sessions_without_handlers(rt: HostRuntime) -> Result<(), Fail> {
         ),
     ];
     for (document, link, status, lines) in table {
-        let ran = solo(rt.alloc(), document, link)?;
+        let ran = session(&rt, rt.alloc(), "solo", document, link)?;
         assert!(rt; ran.status == status && has_lines(ran.report.as_slice(), lines));
     }
     Ok(())

@@ -9,10 +9,13 @@ returns c =
     let one_is : app_of c.in_ok-one.one ≡ with_subcommand bare (new_app (codes "type")).top =
     c.in_ok-one.ensures.shape (search rules) ∙ ap₂ with_subcommand c.alone.ensures (ap (λ (a : App). a.top) c.new-typing.ensures.app) in
     let play_is : app_of c.in_ok-playing.playing ≡ taking (codes "play") = c.in_ok-playing.ensures.app in
-    let solo_is : app_of c.in_ok-running.running ≡ taking (codes "solo") = c.in_ok-running.ensures.app in
+    let solo_is : app_of c.in_ok-turning.turning ≡ taking (codes "solo") = c.in_ok-turning.ensures.app in
     let two_is : app_of c.in_ok-two.two ≡ with_subcommand (with_subcommand bare (new_app (codes "type")).top) (taking (codes "play")).top =
     c.in_ok-two.ensures.shape (search rules) ∙ ap₂ with_subcommand one_is (ap (λ (a : App). a.top) play_is) in
     let three_is : app_of c.in_ok-three.three ≡ with_subcommand (with_subcommand (with_subcommand bare (new_app (codes "type")).top) (taking (codes "play")).top) (taking (codes "solo")).top =
     c.in_ok-three.ensures.shape (search rules) ∙ ap₂ with_subcommand two_is (ap (λ (a : App). a.top) solo_is) in
     let gen_is : app_of c.in_ok-generating.generating ≡ taking (codes "gen") = c.in_ok-generating.ensures.app in
-    IfOk-weaker c.subcommand-4.result _ _ (λ r h. h.shape (search rules) ∙ ap₂ with_subcommand three_is (ap (λ (a : App). a.top) gen_is)) c.subcommand-4.ensures
+    let four_is : app_of c.in_ok-four.four ≡ with_subcommand (with_subcommand (with_subcommand (with_subcommand bare (new_app (codes "type")).top) (taking (codes "play")).top) (taking (codes "solo")).top) (taking (codes "gen")).top =
+    c.in_ok-four.ensures.shape (search rules) ∙ ap₂ with_subcommand three_is (ap (λ (a : App). a.top) gen_is) in
+    let run_is : app_of c.in_ok-running.running ≡ taking (codes "run") = c.in_ok-running.ensures.app in
+    IfOk-weaker c.subcommand-5.result _ _ (λ r h. h.shape (search rules) ∙ ap₂ with_subcommand four_is (ap (λ (a : App). a.top) run_is)) c.subcommand-5.ensures

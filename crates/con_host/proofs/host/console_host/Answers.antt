@@ -2,8 +2,8 @@ use Rattle.std.proofs.Common.{◌≡◌, None, Some, map, string_bytes, ap, sym,
 use Rattle.std.specs.Prelude.{option_map}
 use Rattle.con_host.specs.Foretold.{IsSession}
 use Rattle.con_host.specs.Naming.{asked_of}
-use Rattle.con_host.specs.Words.{form_of, solo}
-use Rattle.con_host.proofs.Hosts.{no_form, no_words, same_name}
+use Rattle.con_host.specs.Words.{form_of, running, solo}
+use Rattle.con_host.proofs.Hosts.{no_form, no_words, same_name, same_run}
 use Rattle.con_host.proofs.host.console_host.Goals as goal
 
 pub returns-in-Ok-None-clause-outcome : goal.returns-in-Ok-None-clause-outcome
@@ -20,3 +20,10 @@ returns-in-Ok-Some-Solo-clause-solo_foretold g c name session bytes end form is 
     let asked : Some (solo here.name.now) ≡ form_of (map string_bytes c.args.words.now) = ap (option_map asked_of) (sym (here.field-0-is ∙ ap Some here.field-0-0-is)) ∙ here.ensures.form in
     let same = same_name (form_of (map string_bytes c.args.words.now)) here.name.now name asked form in
     c.host_solo.ensures.foretold session bytes end (subst (λ (n : List ℕ). IsSession (g.F.Files.files c.args.files.now) n session) (sym same) is) known says files link term report
+
+pub returns-in-Ok-Some-Run-clause-run_foretold : goal.returns-in-Ok-Some-Run-clause-run_foretold
+returns-in-Ok-Some-Run-clause-run_foretold g c name session bytes end form is known says files link term report =
+    let here = c.in-Ok-Some-Run in
+    let asked : Some (running here.name.now) ≡ form_of (map string_bytes c.args.words.now) = ap (option_map asked_of) (sym (here.field-0-is ∙ ap Some here.field-0-0-is)) ∙ here.ensures.form in
+    let same = same_run (form_of (map string_bytes c.args.words.now)) here.name.now name asked form in
+    c.host_run.ensures.foretold session bytes end (subst (λ (n : List ℕ). IsSession (g.F.Files.files c.args.files.now) n session) (sym same) is) known says files link term report

@@ -1,4 +1,4 @@
--- How a session by turns ends: from the bytes of its file and of its link to those of the terminal and of the report.
+-- How a session of a file ends, by threads and by turns: from the bytes of its file and of its link to those of the terminal and of the report.
 use Rattle.std.specs.Prelude.{◌≡◌, ◌⊎◌, ℕ, ◌≤◌, List, length, Option, IfSome, Some, None, Ok, Err, codes}
 use Rattle.con_events.specs.Session.{Clients}
 use Rattle.con_events.specs.declared.end.End.{End}
@@ -9,10 +9,12 @@ use Rattle.con_outside.specs.Outside.{then_written, WroteFront, WrotePart}
 use Rattle.con_outside.specs.Named.{IsTooLong}
 use Rattle.con_script.specs.Document.{document, json_of, path}
 use Rattle.con_script.specs.Session.{Where}
-use Rattle.con_session.specs.Outcome.{IsOutcome}
+use Rattle.con_machine.specs.Follows.{begun}
+use Rattle.con_machine.specs.Rounds.{Rounds}
+use Rattle.con_session.specs.Outcome.{Leaves}
 use Rattle.con_trace.specs.Ending.{Ending, alone, worded, at_frame, status_of, ending_of, ending_text}
-use Rattle.con_host.specs.declared.solo.Unrun.{Unrun}
-use Rattle.con_host.specs.declared.solo.Unrun.TheVariants as unrun
+use Rattle.con_host.specs.declared.session.Unrun.{Unrun}
+use Rattle.con_host.specs.declared.session.Unrun.TheVariants as unrun
 use Rattle.con_trace.specs.Line.{ended}
 use Rattle.con_trace.specs.Report.{report, said}
 use Rattle.std.specs.Str.{encode_utf8_all}
@@ -46,17 +48,23 @@ failed_after ends.Memory = 9
 abbrev pub IsStatus : ℕ → End → Type 0
 IsStatus status end = (status ≡ status_of (ending_after end)) ⊎ ((status ≡ 9) ⊎ ((status ≡ 6) × (end ≡ ends.Done)))
 
--- The session ran: one history, with the promises of its outcome, and its report, which is whole unless the report failed or there was no memory.
+-- The session ran, in whatever order its actors came: one history, with all that such a session leaves, and its report, which is whole unless the report
+-- failed or there was no memory.
 pub record Ran (status : ℕ) (session : Clients) (racks : List (List ℕ)) (before left old now before_report report' : Option (List ℕ)) (failed : Type 0) : Type 0 where
   pub entries : List Entry
   pub replies : List Reply
   pub ends' : List ℕ
   pub end : End
-  pub outcome : IsOutcome session racks entries replies ends' end before left old now
+  pub leaves : Leaves session racks entries replies ends' end before left old now
   pub status_is : IsStatus status end
   pub front : WroteFront (report_text entries replies ends' end) before_report report'
   pub whole : ¬ (status ≡ 9) → ¬ (status ≡ 6) → ¬ failed → report' ≡ then_written before_report (report_text entries replies ends' end)
   pub done : status ≡ 0 → report' ≡ then_written before_report (report_text entries replies ends' end)
+
+-- It ran by turns: the same, and its history is rounds of these turns.
+pub record RanByTurns (status : ℕ) (session : Clients) (racks : List (List ℕ)) (before left old now before_report report' : Option (List ℕ)) (failed : Type 0) : Type 0 where
+  pub ran : Ran status session racks before left old now before_report report' failed
+  pub rounds : Rounds (begun session racks) ran.entries session racks ran.end
 
 -- ---- no session
 
@@ -101,10 +109,21 @@ pub record NotRun (status : ℕ) (files : Option (List ℕ → Option (List ℕ)
 
 -- ---- all of it
 
+-- there is no session; or the file is one, of which this came
+abbrev pub OfFile : (Clients → Type 0) → ℕ → Option (List ℕ → Option (List ℕ)) → List ℕ → Type 0 → Option (List ℕ) → Option (List ℕ) → Option (List ℕ) → Option (List ℕ) → Option (List ℕ) → Option (List ℕ) → Type 0 → Type 0
+OfFile Came status files name files_failed before left old now before_report report' failed =
+    NotRun status files name files_failed before left old now before_report report' failed
+    ⊎ ((bytes : List ℕ) × (session : Clients) × IsFile files name bytes × (document bytes ≡ Some (Ok session)) × Came session)
+
+-- by threads
+abbrev pub HasRun : ℕ → Option (List ℕ → Option (List ℕ)) → List ℕ → Type 0 → List (List ℕ) → Option (List ℕ) → Option (List ℕ) → Option (List ℕ) → Option (List ℕ) → Option (List ℕ) → Option (List ℕ) → Type 0 → Type 0
+HasRun status files name files_failed racks before left old now before_report report' failed =
+    OfFile (λ session. Ran status session racks before left old now before_report report' failed) status files name files_failed before left old now before_report report' failed
+
+-- by turns
 abbrev pub Soloed : ℕ → Option (List ℕ → Option (List ℕ)) → List ℕ → Type 0 → List (List ℕ) → Option (List ℕ) → Option (List ℕ) → Option (List ℕ) → Option (List ℕ) → Option (List ℕ) → Option (List ℕ) → Type 0 → Type 0
 Soloed status files name files_failed racks before left old now before_report report' failed =
-    NotRun status files name files_failed before left old now before_report report' failed
-    ⊎ ((bytes : List ℕ) × (session : Clients) × IsFile files name bytes × (document bytes ≡ Some (Ok session)) × Ran status session racks before left old now before_report report' failed)
+    OfFile (λ session. RanByTurns status session racks before left old now before_report report' failed) status files name files_failed before left old now before_report report' failed
 
 -- ---- the code's own words
 

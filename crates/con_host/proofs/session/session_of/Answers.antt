@@ -6,8 +6,8 @@ use Rattle.con_script.specs.Document.{document, json_of, path}
 use Rattle.con_script.specs.Places.{IsJson, IsAt}
 use Rattle.con_script.specs.Session.{Where}
 use Rattle.con_trace.specs.Ending.{worded}
-use Rattle.con_host.specs.Solo.{IsFile, no_json, no_session}
-use Rattle.con_host.proofs.solo.session_of.Goals as goal
+use Rattle.con_host.specs.Sessions.{IsFile, no_json, no_session}
+use Rattle.con_host.proofs.session.session_of.Goals as goal
 
 pub returns-in-Err-Json-clause-told : goal.returns-in-Err-Json-clause-told
 returns-in-Err-Json-clause-told g c =

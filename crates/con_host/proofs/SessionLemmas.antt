@@ -1,11 +1,12 @@
 -- Statuses of a session's end.
 use Rattle.std.proofs.Common.{◌≡◌, inl, inr, refl, sym, subst, ◌∙◌, arith, ℕ, List, Option}
+use Rattle.con_events.specs.Session.{Clients}
 use Rattle.con_events.specs.declared.end.End.{End}
 use Rattle.con_events.specs.declared.end.End.TheVariants as ends
 use Rattle.con_trace.specs.declared.ending.EndLine.{EndLine}
 use Rattle.con_trace.specs.Ending.{ending_of, status_of}
-use Rattle.con_host.specs.Solo.{Explains, IsStatus, NotRun, Reason, missing, unread, too_long, no_json, no_session, Soloed, Tells, ending_after, ending_for, failed_after}
-use Rattle.con_host.specs.declared.solo.Unrun.TheVariants as unrun
+use Rattle.con_host.specs.Sessions.{Explains, IsStatus, NotRun, Reason, missing, unread, too_long, no_json, no_session, HasRun, OfFile, Ran, RanByTurns, Soloed, Tells, ending_after, ending_for, failed_after}
+use Rattle.con_host.specs.declared.session.Unrun.TheVariants as unrun
 
 pub never_six : (end : End) → status_of (ending_after end) ≡ 6 → ⊥
 never_six ends.Done e = let bad : 0 ≡ 6 = e in absurd (omega arith)
@@ -66,13 +67,19 @@ ended_term s end is e = elim is [
 ]
 
 -- there was no memory before the session ran
-pub no_memory : (files : Option (List ℕ → Option (List ℕ))) (name : List ℕ) (files_failed : Type 0) (racks : List (List ℕ)) (before old before_report : Option (List ℕ)) (failed : Type 0) → Soloed 9 files name files_failed racks before before old old before_report before_report failed
-no_memory files name files_failed racks before old before_report failed = inl (record { nothing_taken = refl; nothing_written = refl; told = inl (refl, refl) })
+none_ran : (Came : Clients → Type 0) (files : Option (List ℕ → Option (List ℕ))) (name : List ℕ) (files_failed : Type 0) (before old before_report : Option (List ℕ)) (failed : Type 0) → OfFile Came 9 files name files_failed before before old old before_report before_report failed
+none_ran Came files name files_failed before old before_report failed = inl (record { nothing_taken = refl; nothing_written = refl; told = inl (refl, refl) })
+
+pub no_memory : (files : Option (List ℕ → Option (List ℕ))) (name : List ℕ) (files_failed : Type 0) (racks : List (List ℕ)) (before old before_report : Option (List ℕ)) (failed : Type 0) → HasRun 9 files name files_failed racks before before old old before_report before_report failed
+no_memory files name files_failed racks before old before_report failed = none_ran _ files name files_failed before old before_report failed
+
+pub no_turns : (files : Option (List ℕ → Option (List ℕ))) (name : List ℕ) (files_failed : Type 0) (racks : List (List ℕ)) (before old before_report : Option (List ℕ)) (failed : Type 0) → Soloed 9 files name files_failed racks before before old old before_report before_report failed
+no_turns files name files_failed racks before old before_report failed = none_ran _ files name files_failed before old before_report failed
 
 -- a last line alone
-pub told_alone : (s : ℕ) (files : Option (List ℕ → Option (List ℕ))) (name : List ℕ) (files_failed : Type 0) (racks : List (List ℕ)) (before old before_report report : Option (List ℕ)) (failed : Type 0) (last : EndLine)
-    → Explains files name files_failed (unrun.Told last) → Tells s (ending_of last) before_report report failed → Soloed s files name files_failed racks before before old old before_report report failed
-told_alone s files name files_failed racks before old before_report report failed last why tells = inl (record {
+pub told_alone : (Came : Clients → Type 0) (s : ℕ) (files : Option (List ℕ → Option (List ℕ))) (name : List ℕ) (files_failed : Type 0) (before old before_report report : Option (List ℕ)) (failed : Type 0) (last : EndLine)
+    → Explains files name files_failed (unrun.Told last) → Tells s (ending_of last) before_report report failed → OfFile Came s files name files_failed before before old old before_report report failed
+told_alone Came s files name files_failed before old before_report report failed last why tells = inl (record {
   nothing_taken = refl;
   nothing_written = refl;
   told = inr (why.0, why.1, subst (λ ending. Tells s ending before_report report failed) why.2 tells);
@@ -122,8 +129,14 @@ two_not_run s files name files_failed before left old now before_report report f
   | inr w ↦ two_told s w.0 before_report report failed e w.2
 ]
 
-pub no_usage : (s : ℕ) (files : Option (List ℕ → Option (List ℕ))) (name : List ℕ) (files_failed : Type 0) (racks : List (List ℕ)) (before left old now before_report report : Option (List ℕ)) (failed : Type 0) → Soloed s files name files_failed racks before left old now before_report report failed → s ≡ 2 → ⊥
+pub no_usage : (s : ℕ) (files : Option (List ℕ → Option (List ℕ))) (name : List ℕ) (files_failed : Type 0) (racks : List (List ℕ)) (before left old now before_report report : Option (List ℕ)) (failed : Type 0) → HasRun s files name files_failed racks before left old now before_report report failed → s ≡ 2 → ⊥
 no_usage s files name files_failed racks before left old now before_report report failed t e = elim t [
   | inl n ↦ two_not_run s files name files_failed before left old now before_report report failed e n
   | inr r ↦ two_ran s r.4.end e r.4.status_is
+]
+
+pub no_usage_of_turns : (s : ℕ) (files : Option (List ℕ → Option (List ℕ))) (name : List ℕ) (files_failed : Type 0) (racks : List (List ℕ)) (before left old now before_report report : Option (List ℕ)) (failed : Type 0) → Soloed s files name files_failed racks before left old now before_report report failed → s ≡ 2 → ⊥
+no_usage_of_turns s files name files_failed racks before left old now before_report report failed t e = elim t [
+  | inl n ↦ two_not_run s files name files_failed before left old now before_report report failed e n
+  | inr r ↦ two_ran s r.4.ran.end e r.4.ran.status_is
 ]
