@@ -4,4 +4,4 @@ use Rattle.conpty.proofs.run.Given as goal
 
 -- each rack has few handlers
 abbrev pub invariant-loop : goal.invariant-loop
-invariant-loop l = All (λ rack. length rack.items ≤ 255) l.racks.items
+invariant-loop g l = All (λ rack. length rack.items ≤ 255) l.racks.items
