@@ -3,7 +3,7 @@ ghost use Rattle.std.specs.Prelude.{◌≤◌, All, length};
 
 use con_handlers::CtrlHandler;
 use con_host::console_host;
-use con_outside::{MemoryFiles, MemorySink, MemorySource, NoGate};
+use con_outside::{Gate, MemoryFiles, MemorySink, MemorySource, NoGate};
 use con_units::Bytes;
 use std::alloc::Global;
 use std::sync::Wait;
@@ -71,11 +71,45 @@ pub fn run<T: Threads + Wait + Sync>(
         bytes,
         failing,
         Vec::new(alloc),
+        &NoGate,
+    )
+}
+
+/// Runs the session of a document by this form, over a link, without handlers.
+pub fn session<T: Threads + Wait + Sync, G: Gate>(
+    rt: &T,
+    alloc: Global,
+    form: &str,
+    document: &str,
+    link: &[u8],
+    failing: Failing,
+    gate: &G,
+) -> Result<Ran, Fail> {
+    let mut names = Vec::new(alloc);
+    names.push(format!(in alloc; "session")?)?;
+    let mut texts = Vec::new(alloc);
+    texts.push(document.as_bytes().to_vec(alloc)?)?;
+    let mut files = MemoryFiles {
+        names,
+        texts,
+        fail: Vec::new(alloc),
+        calls: 0,
+        faults: 0,
+    };
+    run_with(
+        rt,
+        alloc,
+        &[form, "session"],
+        &mut files,
+        link.to_vec(alloc)?,
+        failing,
+        Vec::new(alloc),
+        gate,
     )
 }
 
 /// Runs the words with these files, over a link of these bytes, with these handlers. No rack has more than 255.
-pub fn run_with<T: Threads + Wait + Sync>(
+pub fn run_with<T: Threads + Wait + Sync, G: Gate>(
     rt: &T,
     alloc: Global,
     words: &[&str],
@@ -83,6 +117,7 @@ pub fn run_with<T: Threads + Wait + Sync>(
     bytes: Vec<u8>,
     failing: Failing,
     racks: Racks,
+    gate: &G,
 ) -> Result<Ran, Fail>
     requires { All (λ rack. length rack.items ≤ 255) racks.items }
 {
@@ -108,7 +143,7 @@ pub fn run_with<T: Threads + Wait + Sync>(
         &mut term,
         &mut report,
         racks,
-        &NoGate,
+        gate,
     );
     Ok(Ran {
         status,

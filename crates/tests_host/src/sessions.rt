@@ -1,10 +1,7 @@
 // Sessions by turns, worked out by hand: their status and their report, line by line.
-use crate::runs::{Ran, SURE, run_with};
-use con_outside::MemoryFiles;
-use std::alloc::Global;
-use std::sync::Wait;
+use crate::runs::{SURE, session};
+use con_outside::NoGate;
 use std::test::Fail;
-use std::thread::Threads;
 
 // A line of a report; the length after a picture may be any.
 fn is_line(line: &[u8], wanted: &[u8]) -> bool {
@@ -29,36 +26,6 @@ fn has_lines(report: &[u8], lines: &[&str]) -> bool {
         rest = &rest[at + 1..];
     }
     rest.is_empty()
-}
-
-// Runs the session of a document over a link, by this form.
-fn session<T: Threads + Wait + Sync>(
-    rt: &T,
-    alloc: Global,
-    form: &str,
-    document: &str,
-    link: &[u8],
-) -> Result<Ran, Fail> {
-    let mut names = Vec::new(alloc);
-    names.push(format!(in alloc; "session")?)?;
-    let mut texts = Vec::new(alloc);
-    texts.push(document.as_bytes().to_vec(alloc)?)?;
-    let mut files = MemoryFiles {
-        names,
-        texts,
-        fail: Vec::new(alloc),
-        calls: 0,
-        faults: 0,
-    };
-    run_with(
-        rt,
-        alloc,
-        &[form, "session"],
-        &mut files,
-        link.to_vec(alloc)?,
-        SURE,
-        Vec::new(alloc),
-    )
 }
 
 #[test]
@@ -428,7 +395,7 @@ fn sessions_without_handlers(rt: HostRuntime) -> Result<(), Fail> {
         ),
     ];
     for (document, link, status, lines) in table {
-        let ran = session(&rt, rt.alloc(), "solo", document, link)?;
+        let ran = session(&rt, rt.alloc(), "solo", document, link, SURE, &NoGate)?;
         assert!(rt; ran.status == status && has_lines(ran.report.as_slice(), lines));
     }
     Ok(())

@@ -2,11 +2,11 @@ use Rattle.std.proofs.Common.{◌≡◌, true, false}
 use Rattle.tests_host.proofs.callers.status.Goals as goal
 
 pub returns-clause-played : goal.returns-clause-played
-returns-clause-played c = λ size asked told.
+returns-clause-played g c = λ size asked told.
     let comes = (c.console_host.ensures.outcome.played size asked).1.2.comes in
     let never : false ≡ true = rw told at comes in
     absurd (cc)
 
 pub returns-clause-untouched : goal.returns-clause-untouched
-returns-clause-untouched c = λ size asked.
+returns-clause-untouched g c = λ size asked.
     let same = (c.console_host.ensures.outcome.played size asked).0 in cc
