@@ -13,3 +13,4 @@ pub mod TellLemmas
 pub mod Generations
 pub mod Foretelling
 pub mod Reasons
+pub mod Once

@@ -2,6 +2,21 @@ use Rattle.con_host.proofs.Foretelling.{left_foretold, left_no_frame, left_too_m
 use Rattle.con_host.proofs.SessionLemmas.{ended_link, ended_term}
 use Rattle.con_host.proofs.run.run.Goals as goal
 
+pub returns-clause-ran : goal.returns-clause-ran
+returns-clause-ran g c =
+    let told = c.tell.ensures in record {
+      entries = _;
+      replies = _;
+      ends' = _;
+      end = _;
+      leaves = c.run_session-outcome.ensures.outcome;
+      once = c.taken_once.ensures _ _;
+      status_is = told.status;
+      front = told.front;
+      whole = told.whole;
+      done = told.done;
+    }
+
 pub returns-clause-foretold : goal.returns-clause-foretold
 returns-clause-foretold g c bytes end known says link term report =
     let told = c.tell.ensures in

@@ -12,6 +12,7 @@ returns-clause-ran g c =
         ends' = _;
         end = _;
         leaves = left.leaves;
+        once = c.taken_once.ensures _ _;
         status_is = told.status;
         front = told.front;
         whole = told.whole;
