@@ -1,0 +1,98 @@
+#!/usr/bin/env python3
+"""Sessions by threads: whether they end as the same session by turns does, and how fast they go.
+
+    threads.py
+
+Eight clients, each of which writes on rows of its own, run a hundred times by threads: each run ends with 0 and with the picture that the session by turns leaves.
+Then it prints events a second of sessions of 1, 4, 16 and 64 such clients with 8,192 calls in all, by threads and beside it by turns; how much processor time by
+threads takes of that by turns; and the time from a byte on the link to its echo on the stream, of a hundred bytes typed one after another.
+It ends with 1 where a run ended otherwise."""
+import json
+import os
+import statistics
+import subprocess
+import sys
+import tempfile
+import time
+
+PROGRAM = os.path.join(os.path.dirname(os.path.abspath(__file__)), "..", "crates", "conpty", "out", "conpty")
+ROWS, CALLS = 25, 8_192
+
+
+def session(folder, clients, calls):
+    """A document of clients that write on rows of their own, as long as there are enough."""
+    name = os.path.join(folder, f"session{clients}")
+    scripts = [[["run-write-units", 2, 20 * (client // ROWS), client % ROWS, f"client {client} {call:5}"] for call in range(calls)] for client in range(clients)]
+    with open(name, "w", encoding="utf-8") as out:
+        json.dump({"version": 2, "size": [80, ROWS], "clients": [{"program": "sh", "group": 1, "calls": script} for script in scripts]}, out)
+    return name
+
+
+def ended(form, name):
+    """Its status, last line, stream and events, and the clock's and the processor's time."""
+    begun, before = time.perf_counter(), os.times()
+    ran = subprocess.run([PROGRAM, form, name], stdin=subprocess.DEVNULL, capture_output=True, check=False)
+    after, taken = os.times(), time.perf_counter() - begun
+    lines = ran.stderr.decode().splitlines()
+    processor = after.children_user + after.children_system - before.children_user - before.children_system
+    return ran.returncode, lines[-1], ran.stdout, len(lines) - 1, taken, processor
+
+
+def picture(stream):
+    return subprocess.run([PROGRAM, "play", f"80x{ROWS}"], input=stream, capture_output=True, check=True).stderr
+
+
+def hundred(folder):
+    """How many of a hundred runs end otherwise than the session by turns."""
+    name = session(folder, 8, 64)
+    _, _, stream, _, _, _ = ended("solo", name)
+    wanted, others = picture(stream), 0
+    for _ in range(100):
+        status, last, stream, _, _, _ = ended("run", name)
+        others += (status, last) != (0, '["end",0]') or picture(stream) != wanted
+    print(f"a hundred runs of eight clients: {others} ended otherwise than by turns", flush=True)
+    return others
+
+
+def speed(folder):
+    for clients in (1, 4, 16, 64):
+        name = session(folder, clients, min(1_024, CALLS // clients))
+        told = {form: min((ended(form, name) for _ in range(3)), key=lambda ran: ran[4]) for form in ("run", "solo")}
+        rates = {form: ran[3] / ran[4] for form, ran in told.items()}
+        print(f"{clients:2} clients: {rates['run']:8.0f} events a second by threads, {rates['solo']:8.0f} by turns; processor time {told['run'][5] / told['solo'][5]:.2f} of that by turns", flush=True)
+
+
+def echo(folder):
+    """The time from each of a hundred bytes on the link to its echo."""
+    name = os.path.join(folder, "line")
+    with open(name, "w", encoding="utf-8") as out:
+        json.dump({"version": 1, "size": [80, ROWS], "clients": [{"program": "sh", "group": 1, "calls": [["write", 2, "$"], ["read", 1, 500]]}]}, out)
+    times = []
+    with subprocess.Popen([PROGRAM, "run", name], stdin=subprocess.PIPE, stdout=subprocess.PIPE, stderr=subprocess.DEVNULL, bufsize=0) as ran:
+        seen = b""
+        while b"$" not in seen:
+            seen += ran.stdout.read(65_536)
+        for byte in b"0123456789" * 10:
+            begun, seen = time.perf_counter(), b""
+            ran.stdin.write(b"B\x00\x01" + bytes([byte]))
+            while bytes([byte]) not in seen.rpartition(b"H")[2]:
+                seen += ran.stdout.read(65_536)
+            times.append(time.perf_counter() - begun)
+            time.sleep(0.005)
+        ran.stdin.write(b"B\x00\x01\r")
+        ran.stdin.close()
+        ran.stdout.read()
+    print(f"from a byte on the link to its echo: {1e6 * statistics.median(times):.0f} microseconds, at most {1e6 * max(times):.0f}; status {ran.returncode}", flush=True)
+
+
+def main():
+    if not os.access(PROGRAM, os.X_OK):
+        sys.exit("build the program first: ./conpty type </dev/null >/dev/null")
+    with tempfile.TemporaryDirectory() as folder:
+        others = hundred(folder)
+        speed(folder)
+        echo(folder)
+    sys.exit(others > 0)
+
+
+main()
