@@ -13,6 +13,7 @@ use std::thread::Threads;
 const LOOKS: u32 = 2_000_000_000;
 
 // Clients that meet before their second step: each waits there until all have come, or has looked too often.
+#[derive(Drop)]
 struct Meeting {
     clients: u64,
     here: AtomicU64,
