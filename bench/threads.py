@@ -9,6 +9,8 @@ threads takes of that by turns; and the time from a byte on the link to its echo
 It ends with 1 where a run ended otherwise."""
 import json
 import os
+import re
+import resource
 import statistics
 import subprocess
 import sys
@@ -28,13 +30,18 @@ def session(folder, clients, calls):
     return name
 
 
+def used():
+    """The processor's time of all runs so far."""
+    runs = resource.getrusage(resource.RUSAGE_CHILDREN)
+    return runs.ru_utime + runs.ru_stime
+
+
 def ended(form, name):
     """Its status, last line, stream and events, and the clock's and the processor's time."""
-    begun, before = time.perf_counter(), os.times()
+    begun, before = time.perf_counter(), used()
     ran = subprocess.run([PROGRAM, form, name], stdin=subprocess.DEVNULL, capture_output=True, check=False)
-    after, taken = os.times(), time.perf_counter() - begun
+    taken, processor = time.perf_counter() - begun, used() - before
     lines = ran.stderr.decode().splitlines()
-    processor = after.children_user + after.children_system - before.children_user - before.children_system
     return ran.returncode, lines[-1], ran.stdout, len(lines) - 1, taken, processor
 
 
@@ -75,7 +82,7 @@ def echo(folder):
         for byte in b"0123456789" * 10:
             begun, seen = time.perf_counter(), b""
             ran.stdin.write(b"B\x00\x01" + bytes([byte]))
-            while bytes([byte]) not in seen.rpartition(b"H")[2]:
+            while bytes([byte]) not in re.sub(rb"\x1b\[[^A-Za-z]*[A-Za-z]?", b"", seen):
                 seen += ran.stdout.read(65_536)
             times.append(time.perf_counter() - begun)
             time.sleep(0.005)

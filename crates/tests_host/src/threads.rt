@@ -118,12 +118,12 @@ fn a_shell_leaves_what_it_leaves_by_turns(rt: HostRuntime) -> Result<(), Fail> {
 
 #[test]
 fn a_part_that_fails_ends_the_session(rt: HostRuntime) -> Result<(), Fail> {
-    let term = Failing { term: 2, ..SURE };
+    let term = Failing { term: 1, ..SURE };
     let ran = session(&rt, rt.alloc(), "run", SHELL, TYPED, term, &NoGate)?;
     assert!(rt;
         ran.status == TERMINAL && ran.report.as_slice().ends_with(b"[\"end\",5,\"term\"]\n")
     );
-    let link = Failing { link: 2, ..SURE };
+    let link = Failing { link: 1, ..SURE };
     let ran = session(&rt, rt.alloc(), "run", SHELL, b"PPP", link, &NoGate)?;
     assert!(rt; ran.status == LINK && ran.report.as_slice().ends_with(b"[\"end\",4,\"link\"]\n"));
     Ok(())
