@@ -16,7 +16,7 @@ use Rattle.con_term.specs.Run.{printed_next, all_printed}
 use Rattle.con_term.specs.Terminal.{Terminal}
 use Rattle.con_term.specs.Play.{units_of, typed, play}
 
-abbrev is_ascii : ℕ → Bool
+abbrev pub is_ascii : ℕ → Bool
 is_ascii b = nat_lt b 0x80
 
 not_cut : (u : ℕ) → is_ascii u ≡ true → is_cut_character (u ∷ []) ≡ false
@@ -42,17 +42,18 @@ ascii_byte t after b none small e = let h : is_ascii b ≡ true = grind (arith, 
 plain_ascii : (u : ℕ) → is_plain u ≡ true → is_ascii u ≡ true
 plain_ascii u h = grind (arith, nat_tests)
 
-plain_split : (bytes : List ℕ) → list_all is_plain bytes ≡ true → split utf8 bytes ≡ record { items = bytes; tail = [] }
+-- units that are all ASCII, by any test
+pub ascii_split : (p : ℕ → Bool) → ((u : ℕ) → p u ≡ true → is_ascii u ≡ true) → (bytes : List ℕ) → list_all p bytes ≡ true → split utf8 bytes ≡ record { items = bytes; tail = [] }
 unfolding split_after
-plain_split [] h = refl
-plain_split (b ∷ bs) h = let k = and_parts (is_plain b) (list_all is_plain bs) h in
-    (read_so utf8).whole [] bs b (b ∷ []) tt (not_cut b (plain_ascii b k.0)) (rw (plain_ascii b k.0) refl) ∙ ap (with_items (b ∷ [])) (plain_split bs k.1)
+ascii_split p law [] h = refl
+ascii_split p law (b ∷ bs) h = let k = and_parts (p b) (list_all p bs) h in
+    (read_so utf8).whole [] bs b (b ∷ []) tt (not_cut b (law b k.0)) (rw (law b k.0) refl) ∙ ap (with_items (b ∷ [])) (ascii_split p law bs k.1)
 
-plain_units : (bytes : List ℕ) → list_all is_plain bytes ≡ true → flat_map units_of bytes ≡ bytes
-plain_units [] h = refl
-plain_units (b ∷ bs) h = let k = and_parts (is_plain b) (list_all is_plain bs) h in rw (one_unit b (plain_ascii b k.0)) (ap (λ xs. b ∷ xs) (plain_units bs k.1))
+pub ascii_units : (p : ℕ → Bool) → ((u : ℕ) → p u ≡ true → is_ascii u ≡ true) → (bytes : List ℕ) → list_all p bytes ≡ true → flat_map units_of bytes ≡ bytes
+ascii_units p law [] h = refl
+ascii_units p law (b ∷ bs) h = let k = and_parts (p b) (list_all p bs) h in rw (one_unit b (law b k.0)) (ap (λ xs. b ∷ xs) (ascii_units p law bs k.1))
 
-prints_fold : (s : Page) (us : List ℕ) → fold effect s (map (λ u. Print u) us) ≡ all_printed s us
+pub prints_fold : (s : Page) (us : List ℕ) → fold effect s (map (λ u. Print u) us) ≡ all_printed s us
 unfolding effect all_printed
 prints_fold s [] = refl
 prints_fold s (u ∷ us) = prints_fold (printed_next s u) us
@@ -63,7 +64,7 @@ pub plain_run : (t : Terminal) (page : Page) (bytes : List ℕ) → PlainIsPrint
 unfolding play typed
 plain_run t page bytes law none rest h e =
     whole t page none rest
-    ∙ sym (rw (none, rest, plain_split bytes h, plain_units bytes h, (law bytes h).items) (ap (λ s. record t { page = s; bytes = []; units = [] }) (prints_fold t.page bytes ∙ sym e)))
+    ∙ sym (rw (none, rest, ascii_split is_plain plain_ascii bytes h, ascii_units is_plain plain_ascii bytes h, (law bytes h).items) (ap (λ s. record t { page = s; bytes = []; units = [] }) (prints_fold t.page bytes ∙ sym e)))
   where
     whole : (t : Terminal) (page : Page) → t.bytes ≡ [] → t.units ≡ [] → record t { page = page } ≡ record t { page = page; bytes = []; units = [] }
     whole t page none rest = rw (none, rest) refl

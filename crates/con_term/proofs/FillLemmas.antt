@@ -15,7 +15,7 @@ drop_past [] (suc n) h = refl
 drop_past (x ∷ xs) zero h = absurd (omega arith)
 drop_past (x ∷ xs) (suc n) h = drop_past xs n (omega arith)
 
-append_none : (xs : List Glyph) → xs ++ [] ≡ xs
+pub append_none : (xs : List Glyph) → xs ++ [] ≡ xs
 append_none [] = refl
 append_none (x ∷ xs) = ap (λ zs. x ∷ zs) (append_none xs)
 

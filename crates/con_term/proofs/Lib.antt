@@ -4,6 +4,8 @@ pub mod SgrLemmas
 pub mod FillLemmas
 pub mod CopyLemmas
 pub mod RunLemmas
+pub mod EndLemmas
+pub mod FrontLemmas
 pub mod AsciiLemmas
 pub mod PlayLemmas
 pub mod DumpLemmas

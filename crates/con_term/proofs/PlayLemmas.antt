@@ -39,6 +39,12 @@ played_run t before mid bytes at count first second =
     let all : take (length bytes - at) (drop at bytes) ≡ drop at bytes = take_all (length bytes - at) (drop at bytes) (omega (arith, length-drop {A = ℕ} at bytes)) in
     second ∙ ap (λ xs. play before (take count xs)) all ∙ ap (λ s. play s (take count (drop at bytes))) first ∙ play-append t (take at bytes) (take count (drop at bytes)) ∙ ap (play t) (sym (take-add at count bytes))
 
+-- a run of none
+pub played_none : (t before mid : Terminal) (bytes : List ℕ) (at count : ℕ) → count ≡ 0 → before ≡ play t (take at bytes) → mid ≡ play before (take count (take (length bytes - at) (drop at bytes))) → mid ≡ play t (take at bytes)
+played_none t before mid bytes at count none first second =
+    let same : at + count ≡ at = omega (arith, none) in
+    played_run t before mid bytes at count first second ∙ ap (λ n. play t (take n bytes)) same
+
 -- one byte
 pub played_byte : (t before after : Terminal) (bytes : List ℕ) (at : ℕ) → at < length bytes → before ≡ play t (take at bytes) → after ≡ play before (get_or bytes at 0 ∷ []) → after ≡ play t (take (at + 1) bytes)
 played_byte t before after bytes at lt first second =

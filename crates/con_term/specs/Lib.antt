@@ -12,6 +12,8 @@ pub mod Dump
 pub mod PlayLaws
 pub mod SidesLaws
 pub mod Run
+pub mod Ends
+pub mod Front
 pub mod SgrSteps
 pub mod SheetView
 pub mod BlockView

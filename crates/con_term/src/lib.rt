@@ -3,7 +3,8 @@
 //! - [`Terminal`]: contracts see its page, the bytes that are no character yet and the units that are no item yet.
 //!   [`Terminal::play`] and [`Terminal::play_all`] give what the definition gives for the whole bytes, however they are cut;
 //!   [`Terminal::view`] and [`Terminal::dump`] tell what it shows.
-//! - `page`, `pen`, `block`, `sheet`, `cells`, `dump`: its page, the pen, the block of its cells, the sheet behind it, changes of cells, and the text of a dump.
+//! - `page`, `pen`, `block`, `sheet`, `cells`, `ends`, `front`, `dump`: its page, the pen, the block of its cells, the sheet behind it, changes
+//!   of cells, line feeds and carriage returns in a row, a character of several bytes, and the text of a dump.
 //!
 //! `new`, `resize` and `dump` take memory, and nothing else does. A terminal never answers, and never writes.
 #![tactic(auto)]
@@ -11,6 +12,8 @@
 pub mod block;
 pub mod cells;
 pub mod dump;
+pub mod ends;
+pub mod front;
 pub mod page;
 pub mod pen;
 pub mod sheet;

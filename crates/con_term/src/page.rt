@@ -2,6 +2,8 @@
 ghost use Rattle.std.specs.Prelude.{IfOk, ◌≡◌, ℕ, ◌≤◌, ◌<◌, ◌*◌, ◌^◌, length, [], vec_capacity, true, take, fold, option_to_list, min, ◌+◌, ◌-◌, ◌==◌};
 ghost use Rattle.con_term.specs.Terminal.{view_of};
 ghost use Rattle.con_term.specs.Run.{all_printed};
+ghost use Rattle.con_term.specs.Play.{units_of};
+ghost use Rattle.con_term.specs.Ends.{is_end, all_done, fed, ended};
 ghost use Rattle.con_units.specs.Plain.{is_plain};
 ghost use Rattle.con_vtgram.specs.State.{item_of};
 ghost use Rattle.con_vtgram.specs.declared.item.Item.TheVariants as Item;
@@ -11,6 +13,7 @@ ghost use Rattle.con_term.specs.Page.{IsPage, blank_page, place, blank, erased, 
 
 use crate::block::Block;
 use crate::cells::copy_into;
+use crate::ends::ends_at_front;
 use crate::pen::{Pen, after_all};
 use con_units::{Cell, Coord, OutOfMemory, Rows, Size, View};
 use con_vtgram::{Csi, Found};
@@ -206,6 +209,21 @@ impl Page {
         self.wrap();
         self.put(unit);
         self.advance();
+    }
+
+    /// Prints a character of any width: its unit, or its two units.
+    #[tactic(auto, unfolding(crate::specs::Play::units_of, crate::specs::Run::all_printed))]
+    pub fn print_character(&mut self, code: u32)
+        requires { code < 0x140000 }
+        ensures { self.new ≡ all_printed self.old (units_of code) }
+    {
+        if code < 0x10000 {
+            self.print(code as u16);
+        } else {
+            let above = code - 0x10000;
+            self.print((0xD800 + above / 1024) as u16);
+            self.print((0xDC00 + above % 1024) as u16);
+        }
     }
 
     fn erase(&mut self, from: usize, upto: usize)
@@ -435,6 +453,45 @@ impl Page {
         let count = self.cells.write_run(at, bytes, most, attr);
         self.go_on(count as u16);
         count
+    }
+
+    /// Takes line feeds and carriage returns from the front on, all at once, and tells how many.
+    pub fn end_rows(&mut self, bytes: &[u8]) -> usize
+        ensures few { result ≤ length bytes.now }
+        ensures ends { list_all is_end (take result bytes.now) ≡ true }
+        ensures done { self.new ≡ all_done self.old (take result bytes.now) }
+    {
+        self.is_page();
+        let ends = ends_at_front(bytes);
+        if ends.count == 0 {
+            return 0;
+        }
+        self.end(ends.count, ends.feeds);
+        ends.count
+    }
+
+    fn end(&mut self, count: usize, feeds: usize)
+        ensures { self.new ≡ ended self.old count feeds }
+    {
+        self.feed(feeds);
+        if feeds < count {
+            self.x = 0;
+        }
+    }
+
+    /// The cursor goes down by n rows; all rows go up by those that are not there.
+    pub fn feed(&mut self, n: usize)
+        ensures { self.new ≡ fed self.old n }
+    {
+        let last = self.size.h - 1;
+        let room = (last - self.y) as usize;
+        if n <= room {
+            self.y += n as u16;
+        } else {
+            self.y = last;
+            self.lift((n - room).min(256) as u16);
+        }
+        self.pending = false;
     }
 
     // The cursor goes on in its row.

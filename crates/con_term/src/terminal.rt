@@ -5,8 +5,11 @@ ghost use Rattle.con_term.specs.Inside.{parts};
 ghost use Rattle.con_term.specs.Dump.{dump as dump_of};
 ghost use Rattle.con_term.specs.Page.{IsPage, blank_page};
 ghost use Rattle.con_term.specs.Terminal.{IsTerminal, view_of};
+ghost use Rattle.con_term.specs.Front.{IsPrintedAs};
 
 use crate::dump::dump;
+use crate::ends::is_end;
+use crate::front::front_character;
 use crate::page::Page;
 use con_units::{Cell, OutOfMemory, Size, Units, Utf8, View};
 use con_vtgram::{Found, Splitter, is_plain, plain_is_printed};
@@ -178,14 +181,8 @@ fn byte_played(bytes: &mut Utf8, page: &mut Page, units: &mut Splitter, byte: u8
     character_if(page, units, decoded.second);
 }
 
-fn begins_plain(input: &[u8]) -> bool {
-    match input.first() {
-        Some(byte) => is_plain(*byte as u16),
-        None => false,
-    }
-}
-
-// Plays bytes of printable ASCII at the front, and tells how many.
+// Plays bytes at the front that go at once, between sequences: printable ASCII, line feeds and carriage returns, or a character of
+// several bytes. Tells how many.
 fn run_played(bytes: &Utf8, page: &mut Page, units: &Splitter, input: &[u8]) -> usize
     ensures few { result ≤ length input.now }
     ensures played { parts bytes.now page.new units.now ≡ play (parts bytes.now page.old units.now) (take result input.now) }
@@ -196,11 +193,32 @@ fn run_played(bytes: &Utf8, page: &mut Page, units: &Splitter, input: &[u8]) -> 
     if bytes.held() != 0 {
         return 0;
     }
-    if !begins_plain(input) {
+    let Some(first) = input.first() else {
+        return 0;
+    };
+    if is_plain(*first as u16) {
+        plain_is_printed();
+        return page.print_run(input);
+    }
+    if is_end(*first) {
+        return page.end_rows(input);
+    }
+    character_printed(page, input)
+}
+
+// Prints a character of several bytes at the front that is no control, and tells how many bytes it has.
+fn character_printed(page: &mut Page, input: &[u8]) -> usize
+    ensures few { result ≤ length input.now }
+    ensures printed { IsPrintedAs page.old page.new (take result input.now) }
+{
+    let Some(front) = front_character(input) else {
+        return 0;
+    };
+    if front.code < 0xA0 {
         return 0;
     }
-    plain_is_printed();
-    page.print_run(input)
+    page.print_character(front.code);
+    front.count
 }
 
 fn all_played(bytes: &mut Utf8, page: &mut Page, units: &mut Splitter, input: &[u8])
@@ -209,10 +227,11 @@ fn all_played(bytes: &mut Utf8, page: &mut Page, units: &mut Splitter, input: &[
     let mut at = 0;
     while at < input.len() {
         let count = run_played(bytes, page, units, &input[at..]);
-        at += count;
-        if at < input.len() {
+        if count == 0 {
             byte_played(bytes, page, units, input[at]);
             at += 1;
+        } else {
+            at += count;
         }
     }
 }

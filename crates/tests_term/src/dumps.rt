@@ -7,7 +7,7 @@ use std::alloc::Global;
 use std::test::Fail;
 
 // Appends the dump of a terminal.
-fn append(text: &mut String, terminal: &Terminal) -> Result<(), Fail> {
+pub(crate) fn append(text: &mut String, terminal: &Terminal) -> Result<(), Fail> {
     let units = terminal.dump()?;
     for unit in units.as_slice() {
         text.push(char::from_u32(*unit as u32).unwrap_or('?'))?;
@@ -16,7 +16,13 @@ fn append(text: &mut String, terminal: &Terminal) -> Result<(), Fail> {
 }
 
 // Appends the dump of a blank terminal of this size on which the bytes were played.
-fn play(alloc: Global, text: &mut String, w: u16, h: u16, bytes: &[u8]) -> Result<(), Fail>
+pub(crate) fn play(
+    alloc: Global,
+    text: &mut String,
+    w: u16,
+    h: u16,
+    bytes: &[u8],
+) -> Result<(), Fail>
     requires some { (0 < w) × (0 < h) }
     requires few { (w ≤ 512) × (h ≤ 256) }
 {

@@ -4,3 +4,5 @@
 pub mod callers;
 #[cfg(test)]
 mod dumps;
+#[cfg(test)]
+mod rows;

@@ -1,0 +1,7 @@
+-- Two bytes.
+use Rattle.std.proofs.Common.{sym, ◌∙◌, arith}
+use Rattle.con_term.proofs.FrontLemmas.{two_front}
+use Rattle.con_term.proofs.front.two.Goals as goal
+
+pub returns : goal.returns
+returns c = two_front c.args.bytes.now (omega (arith, c.if-bytes-lt2.false)) (sym c.begins_two.ensures ∙ c.if-not-begins_two.false) (sym c.continues.ensures ∙ c.if-not-continues.false)

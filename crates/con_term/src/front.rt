@@ -1,0 +1,172 @@
+//! A character of more than one byte at the front of bytes.
+ghost use Rattle.std.specs.Prelude.{IfSome, ◌≡◌};
+ghost use Rattle.std.specs.Int.{is_in_range};
+ghost use Rattle.con_units.specs.Utf8.{may_follow, is_continuation};
+ghost use Rattle.con_term.specs.Front.{IsFront};
+
+/// How many bytes the character has, and which it is.
+#[derive(Clone, Copy, Debug)]
+pub struct Front {
+    pub count: usize,
+    pub code: u32,
+}
+
+fn follows(a: u8, b: u8) -> bool
+    ensures { result ≡ may_follow a b }
+{
+    let low = if a == 0xE0 {
+        0xA0
+    } else if a == 0xF0 {
+        0x90
+    } else {
+        0x80
+    };
+    let high = if a == 0xED {
+        0x9F
+    } else if a == 0xF4 {
+        0x8F
+    } else {
+        0xBF
+    };
+    low <= b && b <= high
+}
+
+fn continues(b: u8) -> bool
+    ensures { result ≡ is_continuation b }
+{
+    0x80 <= b && b <= 0xBF
+}
+
+fn begins_two(a: u8) -> bool
+    ensures { result ≡ is_in_range 0xC2 0xDF a }
+{
+    0xC2 <= a && a <= 0xDF
+}
+
+fn begins_three(a: u8) -> bool
+    ensures { result ≡ is_in_range 0xE0 0xEF a }
+{
+    0xE0 <= a && a <= 0xEF
+}
+
+fn begins_four(a: u8) -> bool
+    ensures { result ≡ is_in_range 0xF0 0xF4 a }
+{
+    0xF0 <= a && a <= 0xF4
+}
+
+fn begins_any(a: u8) -> bool
+    ensures { result ≡ is_in_range 0xC2 0xF4 a }
+{
+    0xC2 <= a && a <= 0xF4
+}
+
+// A byte that no character begins with, which counts as U+FFFD.
+fn one(bytes: &[u8]) -> Option<Front>
+    ensures { IfSome result (IsFront bytes.now) }
+{
+    if bytes.len() < 1 {
+        return None;
+    }
+    let a = bytes[0];
+    if a < 0x80 {
+        return None;
+    }
+    if begins_any(a) {
+        return None;
+    }
+    Some(Front {
+        count: 1,
+        code: 0xFFFD,
+    })
+}
+
+fn two(bytes: &[u8]) -> Option<Front>
+    ensures { IfSome result (IsFront bytes.now) }
+{
+    if bytes.len() < 2 {
+        return None;
+    }
+    let a = bytes[0];
+    let b = bytes[1];
+    if !begins_two(a) {
+        return None;
+    }
+    if !continues(b) {
+        return None;
+    }
+    Some(Front {
+        count: 2,
+        code: (a as u32 - 0xC0) * 64 + (b as u32 - 0x80),
+    })
+}
+
+fn three(bytes: &[u8]) -> Option<Front>
+    ensures { IfSome result (IsFront bytes.now) }
+{
+    if bytes.len() < 3 {
+        return None;
+    }
+    let a = bytes[0];
+    let b = bytes[1];
+    let c = bytes[2];
+    if !begins_three(a) {
+        return None;
+    }
+    if !follows(a, b) {
+        return None;
+    }
+    if !continues(c) {
+        return None;
+    }
+    Some(Front {
+        count: 3,
+        code: (a as u32 - 0xE0) * 4096 + (b as u32 - 0x80) * 64 + (c as u32 - 0x80),
+    })
+}
+
+fn four(bytes: &[u8]) -> Option<Front>
+    ensures { IfSome result (IsFront bytes.now) }
+{
+    if bytes.len() < 4 {
+        return None;
+    }
+    let a = bytes[0];
+    let b = bytes[1];
+    let c = bytes[2];
+    let d = bytes[3];
+    if !begins_four(a) {
+        return None;
+    }
+    if !follows(a, b) {
+        return None;
+    }
+    if !continues(c) {
+        return None;
+    }
+    if !continues(d) {
+        return None;
+    }
+    Some(Front {
+        count: 4,
+        code: (a as u32 - 0xF0) * 262144
+            + (b as u32 - 0x80) * 4096
+            + (c as u32 - 0x80) * 64
+            + (d as u32 - 0x80),
+    })
+}
+
+/// The character at the front, where it has more than one byte and all of them are there.
+pub fn front_character(bytes: &[u8]) -> Option<Front>
+    ensures { IfSome result (IsFront bytes.now) }
+{
+    let Some(first) = bytes.first() else {
+        return None;
+    };
+    match *first {
+        0xC2..=0xDF => two(bytes),
+        0xE0..=0xEF => three(bytes),
+        0xF0..=0xF4 => four(bytes),
+        _ => one(bytes),
+    }
+}
