@@ -12,7 +12,7 @@ invariant_of-self c = let h = c.if-from-self.true in let f = c.fill_in.ensures i
 pub invariant_of-self-else-goes_on : goal.invariant_of-self-else-goes_on
 invariant_of-self-else-goes_on c = let g = c.greater-self-inside.ensures in let f = c.fill_in-else-goes_on in let n : length c.self.inside.cells.items ≡ length c.args.self.now = ap length c.self.view_is in record {
   within = g.least _ (omega (arith, c.self.invariant.within, f.ensures.len)) (omega (arith, n, c.requires.inside, f.ensures.len));
-  bare = filled_before c.self.inside.cells.items f.new.cells.items c.self.inside.bare c.greater-self-inside.result c.args.from c.args.upto c.self.inside.blank c.args.cell g.above.0 g.above.1 c.requires.order (omega (arith, n, c.requires.inside)) f.ensures.len f.ensures.cells c.self.invariant.bare;
+  bare = filled_before c.self.inside.cells.items f.new.cells.items c.self.inside.bare c.greater-self-inside.result c.args.from c.args.upto c.self.inside.blank _ g.above.0 g.above.1 c.requires.order (omega (arith, n, c.requires.inside)) f.ensures.len f.ensures.cells c.self.invariant.bare;
 }
 
 pub returns-then-from-self-clause-cells : goal.returns-then-from-self-clause-cells
