@@ -9,4 +9,6 @@ mod documents;
 #[cfg(test)]
 mod drawn;
 #[cfg(test)]
+mod kinds;
+#[cfg(test)]
 mod large;
