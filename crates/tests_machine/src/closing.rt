@@ -91,7 +91,20 @@ const OUTSIDE: Row = Row {
     pictures: "",
 };
 
-const ROWS: [Row; 4] = [IDLE, BY_TURNS, LAST_WAITS, OUTSIDE];
+// A client that exits takes its read along, and the next one is served.
+const LEFT: Row = Row {
+    start: USUAL,
+    report: "[\"c1\",\"begin-read\",[1,9],[\"ok\"]]
+[\"c2\",\"begin-read-input\",[1,1],[\"ok\"]]
+[\"c1\",\"exit\",[0],[\"ok\"]]
+[\"t\",\"feed\",[\"61\"],[\"ok\"]]
+[\"c2\",\"collect\",[],[\"ok\",[[\"key\",true,1,65,0,97,0]]]]
+[\"c2\",\"count\",[1],[\"ok\",1]]
+",
+    pictures: "",
+};
+
+const ROWS: [Row; 5] = [IDLE, BY_TURNS, LAST_WAITS, OUTSIDE, LEFT];
 
 #[test]
 fn a_console_closes(rt: HostRuntime) -> Result<(), Fail> {

@@ -77,7 +77,24 @@ const MOVED: Row = Row {
     pictures: "",
 };
 
-const ROWS: [Row; 6] = [ARROW, EURO, SEQUENCES, BUTTON, WHEEL, MOVED];
+// A button that goes down, or up, without the mode stays as it was.
+const UNSEEN: Row = Row {
+    start: USUAL,
+    report: "[\"c1\",\"set-mode\",[1,39],[\"ok\"]]
+[\"t\",\"feed\",[\"1b5b3c303b313b314d\"],[\"ok\"]]
+[\"c1\",\"set-mode\",[1,55],[\"ok\"]]
+[\"t\",\"feed\",[\"1b5b3c33353b333b334d\"],[\"ok\"]]
+[\"t\",\"feed\",[\"1b5b3c303b313b314d\"],[\"ok\"]]
+[\"c1\",\"set-mode\",[1,39],[\"ok\"]]
+[\"t\",\"feed\",[\"1b5b3c303b313b316d\"],[\"ok\"]]
+[\"c1\",\"set-mode\",[1,55],[\"ok\"]]
+[\"t\",\"feed\",[\"1b5b3c33353b323b314d\"],[\"ok\"]]
+[\"c1\",\"peek\",[1,10],[\"ok\",[[\"mouse\",2,2,0,0,1],[\"mouse\",0,0,1,0,0],[\"mouse\",1,0,1,0,1]]]]
+",
+    pictures: "",
+};
+
+const ROWS: [Row; 7] = [ARROW, EURO, SEQUENCES, BUTTON, WHEEL, MOVED, UNSEEN];
 
 #[test]
 fn keys_and_the_mouse(rt: HostRuntime) -> Result<(), Fail> {

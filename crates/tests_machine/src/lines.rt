@@ -260,7 +260,59 @@ const UNSEEN: Row = Row {
     pictures: "80x25 cursor 0,0 new marks all\n",
 };
 
-const ROWS: [Row; 14] = [
+// Two lines that an alias makes: an answer ends with the first CR LF, also behind the LF of one that was cut apart; a read of
+// nothing leaves all.
+const PARTS: Row = Row {
+    start: USUAL,
+    report: "[\"c1\",\"alias-add\",[\"0061\",\"0078\",\"0061002400540062\"],[\"ok\"]]
+[\"c1\",\"begin-read\",[1,100],[\"ok\"]]
+[\"t\",\"feed\",[\"780d\"],[\"ok\"]]
+[\"c1\",\"collect\",[],[\"ok\",\"0061000d000a\"]]
+[\"c1\",\"begin-read\",[1,0],[\"ok\"]]
+[\"c1\",\"collect\",[],[\"ok\",\"\"]]
+[\"c1\",\"begin-read\",[1,100],[\"ok\"]]
+[\"c1\",\"collect\",[],[\"ok\",\"0062000d000a\"]]
+[\"c1\",\"begin-read\",[1,2],[\"ok\"]]
+[\"t\",\"feed\",[\"780d\"],[\"ok\"]]
+[\"c1\",\"collect\",[],[\"ok\",\"0061000d\"]]
+[\"c1\",\"begin-read\",[1,100],[\"ok\"]]
+[\"c1\",\"collect\",[],[\"ok\",\"000a0062000d000a\"]]
+",
+    pictures: "",
+};
+
+// A read of units passes over what is left of a line, and a text to begin with.
+const PASSED_OVER: Row = Row {
+    start: USUAL,
+    report: "[\"c1\",\"begin-read\",[1,2],[\"ok\"]]
+[\"t\",\"feed\",[\"6162630d\"],[\"ok\"]]
+[\"c1\",\"collect\",[],[\"ok\",\"00610062\"]]
+[\"c1\",\"set-mode\",[1,1],[\"ok\"]]
+[\"c1\",\"begin-read-with\",[1,5,\"0071\",0],[\"ok\"]]
+[\"t\",\"feed\",[\"7a\"],[\"ok\"]]
+[\"c1\",\"collect\",[],[\"ok\",\"007a\"]]
+[\"c1\",\"set-mode\",[1,55],[\"ok\"]]
+[\"c1\",\"begin-read-with\",[1,9,\"0071\",0],[\"ok\"]]
+[\"c1\",\"collect\",[],[\"ok\",\"0063000d000a\"]]
+",
+    pictures: "",
+};
+
+// Each record that a line takes shows its caret, also one that changes nothing.
+const SHOWN_AGAIN: Row = Row {
+    start: USUAL,
+    report: "[\"c1\",\"begin-read\",[1,100],[\"ok\"]]
+[\"t\",\"feed\",[\"61\"],[\"ok\"]]
+[\"c2\",\"set-cursor\",[2,5,5],[\"ok\"]]
+[\"c2\",\"info\",[2],[\"ok\",80,25,5,5,7,0,0,79,24]]
+[\"c2\",\"write-input\",[1,[[\"focus\",true]]],[\"ok\",1]]
+[\"c2\",\"info\",[2],[\"ok\",80,25,1,0,7,0,0,79,24]]
+[\"c2\",\"count\",[1],[\"ok\",0]]
+",
+    pictures: "",
+};
+
+const ROWS: [Row; 17] = [
     TYPED,
     RECALLED,
     NOTHING,
@@ -275,6 +327,9 @@ const ROWS: [Row; 14] = [
     OTHERS_BUFFER,
     EXPANDED,
     UNSEEN,
+    PARTS,
+    PASSED_OVER,
+    SHOWN_AGAIN,
 ];
 
 #[test]

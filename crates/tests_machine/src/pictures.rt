@@ -116,7 +116,23 @@ const MARKS: Row = Row {
 ",
 };
 
-const ROWS: [Row; 4] = [ALTERNATE, ASKED, SIZES, MARKS];
+// A buffer goes with the client that has its last handle, and the main one shows.
+const LEFT: Row = Row {
+    start: USUAL,
+    report: "[\"c1\",\"buffer-create\",[3],[\"ok\",4]]
+[\"c1\",\"activate\",[4],[\"ok\"]]
+[\"c1\",\"write\",[4,\"0078\"],[\"ok\",1]]
+[\"p\",\"paint\",[],[\"painted\",0]]
+[\"c1\",\"exit\",[0],[\"ok\"]]
+[\"p\",\"paint\",[],[\"painted\",0]]
+",
+    pictures: "80x25 cursor 1,0 new marks all
+0|x
+80x25 cursor 0,0 marks all
+",
+};
+
+const ROWS: [Row; 5] = [ALTERNATE, ASKED, SIZES, MARKS, LEFT];
 
 #[test]
 fn pictures(rt: HostRuntime) -> Result<(), Fail> {

@@ -95,7 +95,33 @@ const GROUPS: Row = Row {
     pictures: "",
 };
 
-const ROWS: [Row; 5] = [CAUGHT, ALL_KINDS, SECOND_LINE, SERVED_FIRST, GROUPS];
+// Bytes with ctrl+C among them: the first line ends with what it took, shows as it was, and is no line of a history; the next
+// line begins behind it.
+const IN_ONE_FEED: Row = Row {
+    start: USUAL,
+    report: "[\"c1\",\"begin-read\",[1,100],[\"ok\"]]
+[\"c2\",\"begin-read\",[1,100],[\"ok\"]]
+[\"t\",\"feed\",[\"6103620d\"],[\"ok\"]]
+[\"c1\",\"collect\",[],[\"fail\",995]]
+[\"c2\",\"collect\",[],[\"ok\",\"0062000d000a\"]]
+[\"c1\",\"count\",[1],[\"ok\",1]]
+[\"c1\",\"history-list\",[],[\"ok\",[]]]
+[\"c2\",\"history-list\",[],[\"ok\",[\"0062\"]]]
+[\"p\",\"paint\",[],[\"painted\",0]]
+",
+    pictures: "80x25 cursor 0,1 new marks all
+0|ab
+",
+};
+
+const ROWS: [Row; 6] = [
+    CAUGHT,
+    ALL_KINDS,
+    SECOND_LINE,
+    SERVED_FIRST,
+    GROUPS,
+    IN_ONE_FEED,
+];
 
 #[test]
 fn control_events(rt: HostRuntime) -> Result<(), Fail> {
