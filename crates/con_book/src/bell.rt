@@ -10,6 +10,8 @@ use std::sync::atomic::Ordering::SeqCst;
 #[derive(Drop)]
 pub struct Bell {
     rings: AtomicU64,
+    // The threads that sleep until it is rung.
+    sleepers: AtomicU64,
 }
 
 impl Bell {
@@ -17,6 +19,7 @@ impl Bell {
     pub fn new() -> Bell {
         Bell {
             rings: AtomicU64::new(0),
+            sleepers: AtomicU64::new(0),
         }
     }
 
@@ -28,7 +31,9 @@ impl Bell {
     /// Wakes all that wait for it.
     pub fn ring(&self) {
         self.rings.fetch_add(1, SeqCst);
-        self.rings.wake_all();
+        if self.sleepers.load(SeqCst) != 0 {
+            self.rings.wake_all();
+        }
     }
 
     /// Waits until it was rung after the mark. The thread sleeps meanwhile.
@@ -38,7 +43,9 @@ impl Bell {
             if self.rings.load(SeqCst) != seen {
                 return;
             }
+            self.sleepers.fetch_add(1, SeqCst);
             self.rings.park(rt, low);
+            self.sleepers.fetch_sub(1, SeqCst);
         }
         unreachable!()
     }

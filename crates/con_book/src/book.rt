@@ -15,9 +15,9 @@ use std::alloc::Global;
 use std::hint::spin_loop;
 use std::marker::Brand;
 use std::snapshot::Snapshot;
-use std::sync::Wait;
 use std::sync::atomic::AtomicU64;
 use std::sync::atomic::Ordering::SeqCst;
+use std::sync::{Mutex, MutexGuard, Wait};
 use std::thread::yield_now;
 
 // The words of the table: the number of tickets drawn, and the number of turns served.
@@ -32,7 +32,7 @@ const YIELDS: u32 = 128;
 
 /// A machine that many threads use, one event at a time, and the one history of what they did.
 ///
-/// It is a ticket lock by design; who is served first is no promise. Threads share it by reference, each with a [`Pass`] of its own.
+/// It is a ticket lock by design, behind a door that lets few threads draw a ticket at once; who is served first is no promise. Threads share it by reference, each with a [`Pass`] of its own.
 /// Every call takes a pass of this book (`pass_id` of the pass is `book_id` of the book).
 #[derive(Drop)]
 pub struct Book<M: Machine> {
@@ -45,6 +45,8 @@ pub struct Book<M: Machine> {
     >,
     // The threads that sleep until another turn is served.
     sleepers: AtomicU64,
+    // Who finds a ticket out waits here before it draws one. It keeps no fact: the tickets do.
+    door: Mutex<()>,
     ghost sized: { (table.shared.table_id.words ≡ 3) × (table.shared.table_id.slots ≡ 1) },
 }
 
@@ -71,10 +73,22 @@ impl<M: Machine> Book<M> {
                 book: Book {
                     table,
                     sleepers: AtomicU64::new(0),
+                    door: Mutex::new(()),
                 },
                 pass: Pass { actor: 0, seat },
             }),
             Err(Refused { slots: _ }) => Err(OutOfMemory),
+        }
+    }
+
+    // Waits at the door where a ticket is out, and stands in it until its turn is over. So hardly more than one thread waits with a ticket,
+    // and the others sleep. One that comes while no ticket is out goes past them.
+    fn wait_at_door<R: Wait>(&self, rt: &R) -> Option<MutexGuard<'_, ()>> {
+        let shared = &self.table.shared;
+        if shared.peek(DRAWN) == shared.peek(SERVED) {
+            None
+        } else {
+            Some(self.door.lock(rt))
         }
     }
 
@@ -193,6 +207,7 @@ impl<M: Machine> Book<M> {
         ensures entered { IfOk result (λ reply. Enters M.next M.is_ready M.answer M.answer_to M.tells (view_of pass.old) event reply (view_of pass.new)) }
         ensures refused { IfErr result (λ _. SeesOthers (view_of pass.old) (view_of pass.new)) }
     {
+        let _door = self.wait_at_door(rt);
         let kept = self.enter(rt, &mut pass.seat);
         self.act(&mut pass.seat, pass.actor, kept, event)
     }
@@ -213,6 +228,7 @@ impl<M: Machine> Book<M> {
         ensures blocked { IfOk result (λ answer. IfNone answer (SeesOthers (view_of pass.old) (view_of pass.new) × IsBlocked M.next M.is_ready (view_of pass.new) event)) }
         ensures refused { IfErr result (λ _. SeesOthers (view_of pass.old) (view_of pass.new)) }
     {
+        let _door = self.wait_at_door(rt);
         let kept = self.enter(rt, &mut pass.seat);
         if !kept.machine.ready(pass.actor, &event) {
             self.leave(&mut pass.seat, kept);
@@ -233,6 +249,7 @@ impl<M: Machine> Book<M> {
         ensures seen { SeesOthers (view_of pass.old) (view_of pass.new) }
         ensures ready { result ≡ M.is_ready (after M.next (view_of pass.new).start (view_of pass.new).seen) (actor_of pass.new) event.now }
     {
+        let _door = self.wait_at_door(rt);
         let kept = self.enter(rt, &mut pass.seat);
         let ready = kept.machine.ready(pass.actor, event);
         self.leave(&mut pass.seat, kept);
@@ -291,7 +308,11 @@ impl<M: Machine> Book<M> {
         requires whole { length (view_of last).kept ≡ length (view_of last).made }
         ensures { Ends M.state M.next M.is_ready (view_of last) result.log.items result.machine }
     {
-        let Book { table, sleepers: _ } = self;
+        let Book {
+            table,
+            sleepers: _,
+            door: _,
+        } = self;
         let Pass { actor: _, seat } = last;
         let mut closed = table.close_with(seat);
         let slot = closed.take(0);

@@ -14,7 +14,8 @@
 //! place. At [`Book::close`] the log is one legal history, in which each actor's entries are its pass's own.
 //!
 //! Inside, a book is a ticket lock: `specs/Lock` has its rule, and `specs/Plays` what each kind of step tells. A thread
-//! that waits looks a few times, then lets others run, and then sleeps until another turn is served.
+//! that waits with a ticket looks a few times, then lets others run, and then sleeps until another turn is served. One that finds a ticket out
+//! waits at a door, a mutex of std, before it draws its own, so that few wait with a ticket, and the others sleep.
 //!
 //! Never promised: that a thread gets its turn, how long it waits, and what a bell does.
 #![tactic(auto)]
