@@ -1,6 +1,6 @@
 //! How many turns a second a book makes, beside a mutex round the same machine.
 //!
-//! With a word on its command line, the number of turns of each measurement, it prints a line for 1, 2, 4 and 16 passes. With
+//! With a word on its command line, the number of turns of each measurement, it prints a line for 1, 2, 4, 16 and 64 passes. With
 //! none it lets two threads take 1,000 turns each, and prints what the closed book says of them.
 #![tactic(auto)]
 

@@ -19,7 +19,7 @@ fn of_book<R: Threads + Wait + Clock + Sync>(
     passes: u32,
     turns: u32,
 ) -> io::Result<u128>
-    requires { (0 < passes) × (passes ≤ 16) }
+    requires { (0 < passes) × (passes ≤ 64) }
 {
     let Ok(Opened { book, mut pass }) = Book::new(alloc, Counter { count: 0 }) else {
         return Ok(0);
@@ -47,7 +47,7 @@ fn of_mutex<R: Threads + Wait + Clock + Sync>(
     passes: u32,
     turns: u32,
 ) -> io::Result<u128>
-    requires { (0 < passes) × (passes ≤ 16) }
+    requires { (0 < passes) × (passes ≤ 64) }
 {
     let shared = plain(alloc);
     let mut actors = Vec::new(alloc);
@@ -77,7 +77,7 @@ pub fn print<R: Threads + Wait + Clock + Print + Sync>(
     turns: u32,
 ) -> io::Result<()> {
     println!(rt; "passes  book turns/s  mutex turns/s  book/mutex")?;
-    for passes in [1u32, 2, 4, 16] {
+    for passes in [1u32, 2, 4, 16, 64] {
         let book = of_book(rt, alloc, passes, turns)?;
         let mutex = of_mutex(rt, alloc, passes, turns)?;
         println!(rt;
