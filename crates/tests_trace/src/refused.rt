@@ -50,8 +50,10 @@ fn a_report_has_one_last_line_and_nothing_behind_it(rt: HostRuntime) -> Result<(
             &[QUIET, b"[\"t\",\"quiet\",[],[\"ok\"]]\r\n", END],
             1,
         )?,
+        is_wrong_at(alloc, &[b"\xEF\xBB\xBF", QUIET, END], 0)?,
+        is_wrong_at(alloc, &[QUIET, b"[\"end\",0] \n"], 1)?,
     ];
-    assert!(rt; seen == [true; 8]);
+    assert!(rt; seen == [true; 10]);
     Ok(())
 }
 
@@ -106,10 +108,38 @@ fn a_line_has_its_actors_event_and_the_reply_of_its_form(rt: HostRuntime) -> Res
 }
 
 #[test]
+fn a_number_is_in_its_range_and_a_word_is_the_formats(rt: HostRuntime) -> Result<(), Fail> {
+    let alloc = rt.alloc();
+    let lines: [&[u8]; 14] = [
+        b"[\"p\",\"paint\",[],[\"painted\",18446744073709551616]]",
+        b"[\"p\",\"paint\",[],[\"painted\",-1]]",
+        b"[\"p\",\"paint\",[],[\"printed\",1]]",
+        b"[\"p\",\"paint\",[],[\"painted\"]]",
+        b"[\"c1\",\"history-info\",[],[\"ok\",9223372036854775808,4,0]]",
+        b"[\"c1\",\"history-info\",[],[\"ok\",-9223372036854775809,4,0]]",
+        b"[\"c1\",\"take-ctrl\",[],[\"ctrl\",4294967296]]",
+        b"[\"c1\",\"count\",[1],[\"ok\",4294967296]]",
+        b"[\"t\",\"resize\",[65536,1],[\"ok\"]]",
+        b"[\"t\",\"feed\",[\"0A\"],[\"ok\"]]",
+        b"[\"c\",\"exit\",[0],[\"ok\"]]",
+        b"[\"c+1\",\"exit\",[0],[\"ok\"]]",
+        b"[\"c1\",\"exit\",[0],[\"OK\"]]",
+        b"[\"c1\",\"read\",[1,4],[\"ok\"]]",
+    ];
+    assert!(rt; are_wrong(alloc, &lines)?);
+    Ok(())
+}
+
+#[test]
 fn last_lines_are_those_of_the_statuses(rt: HostRuntime) -> Result<(), Fail> {
     let alloc = rt.alloc();
-    let lines: [&[u8]; 8] = [
+    let lines: [&[u8]; 13] = [
         b"[\"end\",1]",
+        b"[\"fin\",0]",
+        b"[\"end\",\"0\"]",
+        b"[\"end\",3]",
+        b"[\"end\",3,\"caf\\u00e9\"]",
+        b"[\"end\",3,\"\\ud800\"]",
         b"[\"end\",2,\"use\"]",
         b"[\"end\",4,\"term\"]",
         b"[\"end\",6]",

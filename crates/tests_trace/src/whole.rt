@@ -46,6 +46,7 @@ const LINES: &str =
 [\"c3\",\"count\",[1],[\"ok\",0]]
 [\"c3\",\"flush\",[1],[\"ok\"]]
 [\"c3\",\"history-info\",[],[\"ok\",50,4,0]]
+[\"c3\",\"history-info\",[],[\"ok\",-9223372036854775808,9223372036854775807,0]]
 [\"c3\",\"set-history\",[2,4,1],[\"ok\"]]
 [\"c3\",\"history-list\",[],[\"ok\",[\"0061\",\"\",\"00620063\"]]]
 [\"c3\",\"history-clear\",[],[\"ok\"]]
@@ -142,7 +143,7 @@ fn each_call_and_event_comes_back(rt: HostRuntime) -> Result<(), Fail> {
     let alloc = rt.alloc();
     let seen = [
         comes_back(alloc, &[], 0, &[])?,
-        comes_back(alloc, &[HANDLES, CELLS, LINES, EVENTS], 64, &[0, u64::MAX])?,
+        comes_back(alloc, &[HANDLES, CELLS, LINES, EVENTS], 65, &[0, u64::MAX])?,
     ];
     assert!(rt; seen == [true, true]);
     Ok(())
