@@ -10,5 +10,3 @@ mod rows;
 mod runs;
 #[cfg(test)]
 mod sessions;
-#[cfg(test)]
-mod threads;
