@@ -1,21 +1,38 @@
 #!/usr/bin/env python3
-"""A console for one of whose allocations there is no memory: the program of tests_memory, with each allocation failing in turn.
+"""Runs in which there is no memory for one allocation, for each of them in turn, until a run meets no failure.
 
-    memory.py
+    memory.py                 the console: the program of tests_memory
+    memory.py solo [NAME..]   sessions by turns: the examples
+    memory.py run [NAME..]    sessions by threads: the examples
 
-An event that was begun in vain must leave no trace: each run prints what it prints with all memory, or ends with status 1 and prints
-nothing, where what failed was none of the console's. It prints how many runs there were of each kind, and each other one."""
+An event of the console that was begun in vain must leave no trace: each run prints what it prints with all memory, or ends with status 1 and prints
+nothing, where what failed was none of the console's.
+
+A session by turns ends with status 9, and what stands of its report and of its stream is a front of the right ones: whole lines and then the last line, or,
+where there was no memory for those either, a part of that. A Paint without its frame has the length 0. Or it ends with status 0 and all is right. Of the
+examples the right reports are worked out by hand. By threads events come in another order each time: each run ends, with status 9 and the last line
+or a part of the report, or with status 0 and the last line.
+
+It prints how many runs there were of each kind, and each other one, and ends with 1 where there was one."""
 import os
+import re
 import subprocess
 import sys
 import tempfile
 
-PROGRAM = os.path.join(os.path.dirname(os.path.abspath(__file__)), "..", "crates", "tests_memory", "out", "tests_memory")
+import examples
+
+CRATES = os.path.join(os.path.dirname(os.path.abspath(__file__)), "..", "crates")
+CONSOLE = os.path.join(CRATES, "tests_memory", "out", "tests_memory")
+PROGRAM = os.path.join(CRATES, "conpty", "out", "conpty")
+MOST = 100_000
 SHIM = """
 #define _GNU_SOURCE
 #include <dlfcn.h>
+#include <fcntl.h>
 #include <stdio.h>
 #include <stdlib.h>
+#include <unistd.h>
 
 static long count, fails;
 
@@ -26,14 +43,18 @@ __attribute__((constructor)) static void begin(void)
     count = 0;
 }
 
+static int is_due(void)
+{
+    return __atomic_add_fetch(&count, 1, __ATOMIC_SEQ_CST) == fails;
+}
+
 __attribute__((destructor)) static void end(void)
 {
     const char *name = getenv("COUNT_TO");
-    FILE *out = name ? fopen(name, "w") : 0;
-    if (out) {
-        fprintf(out, "%ld", count);
-        fclose(out);
-    }
+    char text[32];
+    int out = name ? open(name, O_WRONLY | O_CREAT | O_TRUNC, 0600) : -1;
+    if (out >= 0 && write(out, text, snprintf(text, sizeof text, "%ld", count)) > 0)
+        close(out);
 }
 
 void *malloc(size_t size)
@@ -41,7 +62,7 @@ void *malloc(size_t size)
     static void *(*real)(size_t);
     if (!real)
         real = dlsym(RTLD_NEXT, "malloc");
-    return ++count == fails ? 0 : real(size);
+    return is_due() ? 0 : real(size);
 }
 
 void *realloc(void *old, size_t size)
@@ -49,34 +70,123 @@ void *realloc(void *old, size_t size)
     static void *(*real)(void *, size_t);
     if (!real)
         real = dlsym(RTLD_NEXT, "realloc");
-    return ++count == fails ? 0 : real(old, size);
+    return is_due() ? 0 : real(old, size);
 }
 """
 
 
-def run(shim, **more):
-    return subprocess.run([PROGRAM], env={"LD_PRELOAD": shim, **more}, capture_output=True, check=False)
+def sweep(shim, words, link=None):
+    """Runs with each allocation failing in turn, each with its number, until one meets no failure; before them one with all memory."""
+    counted = shim + ".count"
+    for n in range(MOST):
+        if os.path.exists(counted):
+            os.remove(counted)
+        given = open(link, "rb") if link else subprocess.DEVNULL
+        ran = subprocess.run(words, env={"LD_PRELOAD": shim, "FAIL_AT": str(n), "COUNT_TO": counted}, stdin=given, capture_output=True, check=False, timeout=60)
+        if link:
+            given.close()
+        if os.path.exists(counted):
+            with open(counted, encoding="ascii") as count:
+                if n > int(count.read()):
+                    return
+        yield n, ran
+    sys.exit(f"more than {MOST} allocations")
+
+
+def told(what, kinds, others):
+    print(f"{what}: {sum(kinds.values())} allocations; " + ", ".join(f"{count} {kind}" for kind, count in kinds.items()), flush=True)
+    for other in others:
+        print(f"OTHERWISE: {what}, {other}")
+    return len(others)
+
+
+def console(shim):
+    kinds, others, whole = {"as with all memory": 0, "ended with status 1": 0}, [], None
+    for n, one in sweep(shim, [CONSOLE]):
+        whole = whole or one
+        if n == 0:
+            continue
+        if (one.returncode, one.stdout) == (whole.returncode, whole.stdout):
+            kinds["as with all memory"] += 1
+        elif (one.returncode, one.stdout) == (1, b""):
+            kinds["ended with status 1"] += 1
+        else:
+            others.append(f"allocation {n}: status {one.returncode}, {one.stdout!r}")
+    return told("console", kinds, others)
+
+
+END = b'["end",9]\n'
+
+
+def fronts(lines):
+    """The reports of a session that ended for want of memory: behind so many of its events, the last of which may be a Paint without its frame."""
+    for count in range(len(lines) + 1):
+        before = b"".join(lines[:count])
+        yield before + END
+        if count and lines[count - 1].startswith(b'["p",'):
+            yield b"".join(lines[:count - 1]) + re.sub(rb"\d+\]\]\n$", b"0]]\n", lines[count - 1]) + END
+
+
+def lengths(report):
+    return [int(length) for length in re.findall(rb'\["painted",(\d+)\]', report)]
+
+
+def kind_by_turns(one, whole):
+    """What a session by turns ended with, or None where that is not right."""
+    if (one.returncode, one.stdout, one.stderr) == (0, whole.stdout, whole.stderr):
+        return "with status 0, whole"
+    if one.returncode != 9 or not whole.stdout.startswith(one.stdout):
+        return None
+    reports = list(fronts(whole.stderr.splitlines(keepends=True)[:-1]))
+    if one.stderr in reports:
+        ends = lengths(one.stderr)
+        # What was written is all that was there before the last frame, and no more than its length.
+        least = max(ends[:-1], default=0)
+        return "with status 9 and the last line" if least <= len(one.stdout) <= max(ends, default=0) else None
+    if any(report.startswith(one.stderr) for report in reports) or whole.stderr.startswith(one.stderr):
+        return "with status 9 and a part of the report"
+    return None
+
+
+def kind_by_threads(one):
+    if one.returncode == 0:
+        return "with status 0, whole" if one.stderr.endswith(b'\n["end",0]\n') else None
+    if one.returncode != 9:
+        return None
+    if one.stderr.endswith(END):
+        return "with status 9 and the last line"
+    last = b"".join(one.stderr.splitlines(keepends=True)[-1:])
+    return None if last.startswith(b'["end",') and not END.startswith(last) else "with status 9 and a part of the report"
+
+
+def session(shim, way, name):
+    kinds, others, whole = {}, [], None
+    for n, one in sweep(shim, [PROGRAM, way, examples.path(name, "json")], examples.path(name, "link")):
+        if n == 0:
+            whole = one
+            if way == "solo" and (one.returncode != 0 or examples.without_lengths(one.stderr) != examples.report_of(name)):
+                others.append("with all memory, another report")
+            continue
+        kind = kind_by_turns(one, whole) if way == "solo" else kind_by_threads(one)
+        if kind:
+            kinds[kind] = kinds.get(kind, 0) + 1
+        else:
+            others.append(f"allocation {n}: status {one.returncode}, {len(one.stdout)} bytes, {one.stderr.decode(errors='replace')}")
+    return told(f"{way} {name}", kinds, others)
 
 
 def main():
-    if not os.access(PROGRAM, os.X_OK):
-        sys.exit("build the program first: cd crates/tests_memory && rt run")
+    way = sys.argv[1] if sys.argv[1:] else "console"
+    if not os.access(CONSOLE if way == "console" else PROGRAM, os.X_OK):
+        sys.exit("build the program first: cd crates/tests_memory && rt run; ./conpty type </dev/null >/dev/null")
     with tempfile.TemporaryDirectory() as folder:
-        shim, counted = os.path.join(folder, "shim.so"), os.path.join(folder, "count")
+        shim = os.path.join(folder, "shim.so")
         subprocess.run(["cc", "-shared", "-fPIC", "-O1", "-x", "c", "-", "-o", shim, "-ldl"], input=SHIM, text=True, check=True)
-        whole = run(shim, COUNT_TO=counted)
-        with open(counted, encoding="ascii") as count:
-            total = int(count.read())
-        same = ended = 0
-        for n in range(1, total + 1):
-            one = run(shim, FAIL_AT=str(n))
-            if (one.returncode, one.stdout) == (whole.returncode, whole.stdout):
-                same += 1
-            elif (one.returncode, one.stdout) == (1, b""):
-                ended += 1
-            else:
-                print(f"allocation {n}: status {one.returncode}, {one.stdout!r}")
-        print(f"{total} allocations: {same} runs as with all memory, {ended} ended with status 1")
+        if way == "console":
+            wrong = console(shim)
+        else:
+            wrong = sum(session(shim, way, name) for name in sys.argv[2:] or examples.NAMES)
+    sys.exit(wrong > 0)
 
 
 main()
