@@ -10,10 +10,12 @@ pub mod Ledgering
 pub mod Making
 pub mod Painting
 pub mod Returning
+pub mod Rows
 pub mod Scribing
 pub mod SendingLaws
 pub mod SideLaws
 pub mod Taking
+pub mod ThreadRows
 pub mod Turning
 pub mod WholeLog
 pub mod Writing
