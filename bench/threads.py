@@ -4,8 +4,9 @@
     threads.py
 
 Eight clients, each of which writes on rows of its own, run a hundred times by threads: each run ends with 0 and with the picture that the session by turns leaves.
-Then it prints events a second of sessions of 1, 4, 16 and 64 such clients with 8,192 calls in all, by threads and beside it by turns; how much processor time by
-threads takes of that by turns; and the time from a byte on the link to its echo on the stream, of a hundred bytes typed one after another.
+Then it prints events a second of sessions of 1, 4, 16 and 64 such clients with 8,192 calls in all, by threads, beside it by turns, and by threads that enter the same calls
+into the same console under a mutex of std, with no history, painter and report (`bench_threads`); what part of the last one's events by threads makes, and how much
+processor time it takes of that by turns; and the time from a byte on the link to its echo on the stream, of a hundred bytes typed one after another.
 It ends with 1 where a run ended otherwise."""
 import json
 import os
@@ -17,7 +18,9 @@ import sys
 import tempfile
 import time
 
-PROGRAM = os.path.join(os.path.dirname(os.path.abspath(__file__)), "..", "crates", "conpty", "out", "conpty")
+CRATES = os.path.join(os.path.dirname(os.path.abspath(__file__)), "..", "crates")
+PROGRAM = os.path.join(CRATES, "conpty", "out", "conpty")
+MUTEX = os.path.join(CRATES, "bench_threads", "out", "bench_threads")
 ROWS, CALLS = 25, 8_192
 
 
@@ -45,6 +48,13 @@ def ended(form, name):
     return ran.returncode, lines[-1], ran.stdout, len(lines) - 1, taken, processor
 
 
+def entered(name):
+    """How many events the threads at a mutex enter in a second of the clock, from the program's start to its end."""
+    begun = time.perf_counter()
+    ran = subprocess.run([MUTEX, name], capture_output=True, check=True, text=True)
+    return int(ran.stdout.split()[0]) / (time.perf_counter() - begun)
+
+
 def picture(stream):
     return subprocess.run([PROGRAM, "play", f"80x{ROWS}"], input=stream, capture_output=True, check=True).stderr
 
@@ -64,9 +74,14 @@ def hundred(folder):
 def speed(folder):
     for clients in (1, 4, 16, 64):
         name = session(folder, clients, min(1_024, CALLS // clients))
-        told = {form: min((ended(form, name) for _ in range(3)), key=lambda ran: ran[4]) for form in ("run", "solo")}
-        rates = {form: ran[3] / ran[4] for form, ran in told.items()}
-        print(f"{clients:2} clients: {rates['run']:8.0f} events a second by threads, {rates['solo']:8.0f} by turns; processor time {told['run'][5] / told['solo'][5]:.2f} of that by turns", flush=True)
+        told, mutex = {"run": [], "solo": []}, []
+        for _ in range(3):
+            for form, runs in told.items():
+                runs.append(ended(form, name))
+            mutex.append(entered(name))
+        run, solo = (min(told[form], key=lambda ran: ran[4]) for form in ("run", "solo"))
+        here, beside = run[3] / run[4], max(mutex)
+        print(f"{clients:2} clients: {here:8.0f} events a second by threads, {solo[3] / solo[4]:8.0f} by turns, {beside:8.0f} at a mutex; by threads {here / beside:.2f} of those at a mutex, and {run[5] / solo[5]:.2f} of the processor time by turns", flush=True)
 
 
 def echo(folder):
@@ -95,6 +110,8 @@ def echo(folder):
 def main():
     if not os.access(PROGRAM, os.X_OK):
         sys.exit("build the program first: ./conpty type </dev/null >/dev/null")
+    if not os.access(MUTEX, os.X_OK):
+        sys.exit("build what it is measured beside first: cd crates/bench_threads && rt run")
     with tempfile.TemporaryDirectory() as folder:
         others = hundred(folder)
         speed(folder)

@@ -1,0 +1,51 @@
+// A client's thread, at a console under a mutex.
+use con_events::{Actor, Event, Step};
+use con_machine::Console;
+use con_session::copied_call;
+use con_units::OutOfMemory;
+use std::sync::{Mutex, Wait};
+
+/// A console, and how many events were entered.
+#[derive(Drop)]
+pub struct Desk {
+    pub console: Console,
+    pub events: u64,
+}
+
+impl Desk {
+    // Enters an event, where it is ready.
+    fn enter(&mut self, actor: Actor, event: &Event) -> Result<(), OutOfMemory> {
+        if self.console.ready(actor, event) {
+            let room = self.console.prepare(actor, event)?;
+            let _ = self.console.apply(actor, event, room);
+            self.events = self.events.saturating_add(1);
+        }
+        Ok(())
+    }
+}
+
+/// A client's number, and its script.
+#[derive(Drop)]
+pub struct Client<'a> {
+    pub number: u8,
+    pub steps: &'a [Step],
+}
+
+impl Client<'_> {
+    // Makes its calls, and exits.
+    fn follow<R: Wait>(&self, rt: &R, desk: &Mutex<Desk>) -> Result<(), OutOfMemory> {
+        let actor = Actor::Client(self.number);
+        for step in self.steps {
+            if let Step::Call(call) = step {
+                let event = Event::Call(copied_call(call)?);
+                desk.lock(rt).enter(actor, &event)?;
+            }
+        }
+        desk.lock(rt).enter(actor, &Event::Exit(0))
+    }
+
+    /// Makes its calls, and exits; or fewer of them, where there is no memory.
+    pub fn work<R: Wait>(&self, rt: &R, desk: &Mutex<Desk>) {
+        let _ = self.follow(rt, desk);
+    }
+}

@@ -1,0 +1,74 @@
+// A session's clients, all at once.
+use crate::client::{Client, Desk};
+use con_events::Session;
+use con_machine::Console;
+use con_script::{generated, read_session};
+use std::alloc::{AllocError, Global};
+use std::io::Read;
+use std::rt::Files;
+use std::sync::{Mutex, Wait};
+use std::thread::{Threads, for_each_mut};
+use std::{fs, io};
+
+// The clients of a session, in the order of their numbers.
+fn clients_of(alloc: Global, session: &Session) -> Result<Vec<Client<'_>>, AllocError> {
+    let mut clients = Vec::new(alloc);
+    let mut number = 0u8;
+    for script in session.scripts() {
+        number = number.saturating_add(1);
+        clients.push(Client {
+            number,
+            steps: script.steps.0.as_slice(),
+        })?;
+    }
+    Ok(clients)
+}
+
+// How many events they enter into a console.
+fn entered<R: Threads + Wait + Sync>(rt: &R, console: Console, clients: &mut [Client<'_>]) -> u64 {
+    let desk = Mutex::new(Desk { console, events: 0 });
+    let threads = clients.len().max(1);
+    for_each_mut(
+        rt,
+        clients,
+        threads,
+        &|_, client: &mut Client<'_>| { client.work(rt, &desk) },
+    );
+    desk.into_inner().events
+}
+
+// Prints how many events the clients of a session enter.
+fn print<R: Threads + Wait + Print + Sync>(
+    rt: &R,
+    alloc: Global,
+    session: &Session,
+) -> io::Result<()> {
+    let Ok(console) = Console::new(alloc, session, &[]) else {
+        return println!(rt; "no memory");
+    };
+    let mut clients = clients_of(alloc, session)?;
+    let events = entered(rt, console, clients.as_mut_slice());
+    println!(rt; "{events} events")
+}
+
+/// Prints it of the session that is generated from the number 1.
+pub fn print_generated<R: Threads + Wait + Print + Sync>(rt: &R, alloc: Global) -> io::Result<()> {
+    match generated(alloc, 1) {
+        Ok(session) => print(rt, alloc, &session),
+        Err(_) => println!(rt; "no memory"),
+    }
+}
+
+/// Prints it of the session of a file.
+pub fn print_file<R: Threads + Wait + Print + Files + Sync>(
+    rt: &R,
+    alloc: Global,
+    name: &str,
+) -> io::Result<()> {
+    let mut bytes = Vec::new(alloc);
+    fs::open(rt, name)?.read_to_end(&mut bytes)?;
+    match read_session(alloc, bytes.as_slice()) {
+        Ok(session) => print(rt, alloc, &session),
+        Err(_) => println!(rt; "no session"),
+    }
+}
