@@ -1,4 +1,4 @@
-//! A character of more than one byte at the front of bytes.
+//! A character at the front of bytes that are no ASCII.
 ghost use Rattle.std.specs.Prelude.{IfSome, ◌≡◌};
 ghost use Rattle.std.specs.Int.{is_in_range};
 ghost use Rattle.con_units.specs.Utf8.{may_follow, is_continuation};
@@ -156,7 +156,7 @@ fn four(bytes: &[u8]) -> Option<Front>
     })
 }
 
-/// The character at the front, where it has more than one byte and all of them are there.
+/// The character at the front, where all its bytes are there: of two to four bytes, or U+FFFD for a byte that no character begins with.
 pub fn front_character(bytes: &[u8]) -> Option<Front>
     ensures { IfSome result (IsFront bytes.now) }
 {

@@ -185,7 +185,7 @@ fn place_behind_a_doubted_width(rt: HostRuntime) -> Result<(), Fail> {
     let text = two_frames(rt.alloc(), &first, &second)?;
     assert!(rt;
         text.as_str().ends_with(
-            "\n^[H\u{D8}\u{80}^[1;6HX^[2H\n6x3 cursor 0,1\n|\u{600}bcdeX|\n|      |\n|      |\n"
+            "\n^[H\u{d8}\u{80}^[1;6HX^[2H\n6x3 cursor 0,1\n|\u{600}bcdeX|\n|      |\n|      |\n"
         )
     );
     let first = view(&rt, rt.alloc(), b"                  ", 7, 0, 2)?;
@@ -193,7 +193,7 @@ fn place_behind_a_doubted_width(rt: HostRuntime) -> Result<(), Fail> {
     let text = two_frames(rt.alloc(), &first, &second)?;
     assert!(rt;
         text.as_str().ends_with(
-            "\n^[?25l^[H\u{D8}\u{80}^[1;2Ha\r\nbcdefg^[3H^[?25h\n6x3 cursor 0,2\n|\u{600}a    |\n|bcdefg|\n|      |\n"
+            "\n^[?25l^[H\u{d8}\u{80}^[1;2Ha\r\nbcdefg^[3H^[?25h\n6x3 cursor 0,2\n|\u{600}a    |\n|bcdefg|\n|      |\n"
         )
     );
     Ok(())
