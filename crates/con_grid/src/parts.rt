@@ -48,7 +48,7 @@ pub fn lift(cells: &mut [Cell], by: usize, cell: Cell)
 {
     let len = cells.len();
     let by = by.min(len);
-    cells.rotate_left(by);
+    cells.copy_within(by..len, 0);
     fill(cells, len - by, len, cell);
 }
 
@@ -59,7 +59,7 @@ pub fn lower(cells: &mut [Cell], by: usize, cell: Cell)
 {
     let len = cells.len();
     let by = by.min(len);
-    cells.rotate_right(by);
+    cells.copy_within(0..len - by, by);
     fill(cells, 0, by, cell);
 }
 
