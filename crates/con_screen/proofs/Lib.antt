@@ -3,6 +3,7 @@ pub mod WriteLemmas
 pub mod AlternateLemmas
 pub mod SidesLemmas
 pub mod RunLemmas
+pub mod EndLemmas
 pub mod TabLemmas
 pub mod FitLemmas
 pub mod WordLemmas

@@ -26,5 +26,6 @@ pub mod ScreenView
 pub mod FitView
 pub mod AnswersView
 pub mod Run
+pub mod Ends
 pub mod Done
 pub mod Completed

@@ -23,7 +23,9 @@
 #![tactic(auto)]
 
 pub mod answers;
+mod ends;
 pub mod fit;
+mod front;
 pub mod info;
 pub mod margins;
 pub mod mode;

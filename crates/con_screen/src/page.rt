@@ -10,6 +10,7 @@ mod alternate;
 mod apply;
 mod echo;
 mod edit;
+mod ends;
 mod motion;
 mod print;
 mod resize;

@@ -1,6 +1,5 @@
 //! What a write does with each unit, or with a run of printable ones.
-ghost use Rattle.std.specs.Prelude.{◌≡◌, ℕ, ◌-◌, ◌<◌, ◌≤◌, true, [], length, take, min, max, Some};
-ghost use Rattle.std.specs.List.{list_all};
+ghost use Rattle.std.specs.Prelude.{◌≡◌, ℕ, ◌-◌, ◌<◌, ◌≤◌, true, [], length, take, Some};
 ghost use Rattle.con_vtgram.specs.Text as text;
 ghost use Rattle.con_vtgram.specs.State.{item_of};
 ghost use Rattle.con_vtgram.specs.declared.item.Csi.{Csi as TheCsi};
@@ -8,77 +7,15 @@ ghost use Rattle.con_vtgram.specs.declared.item.Item.TheVariants as item;
 ghost use Rattle.con_screen.specs.Told as tells;
 ghost use Rattle.con_screen.specs.Parts as parts;
 ghost use Rattle.con_screen.specs.Page.{IsPage};
-ghost use Rattle.con_screen.specs.Done.{Done, DoneSome};
+ghost use Rattle.con_screen.specs.Done.{Done, DoneSome, IsRun};
 ghost use Rattle.con_screen.specs.Completed.{effect_if, told_if, switch_if};
-ghost use Rattle.con_units.specs.Plain.{is_plain};
-ghost use Rattle.con_screen.specs.Run.{CanRun};
 ghost use Rattle.con_screen.specs.Effect.{effect};
 
 use crate::answers::Answers;
+use crate::ends::is_end;
 use crate::mode::Mode;
 use crate::page::Page;
-use con_vtgram::{Csi, Found, Splitter, is_plain, plain_count};
-
-// How many units are looked at together.
-const BLOCK: usize = 16;
-
-// How many units are looked at one by one, before blocks.
-const SHORT: usize = 8;
-
-fn lesser(a: u16, b: u16) -> u16
-    ensures { result ≡ min a b }
-{
-    a.min(b)
-}
-
-fn greater(a: u16, b: u16) -> u16
-    ensures { result ≡ max a b }
-{
-    a.max(b)
-}
-
-// Whether all units are printable. The least and the greatest of them are found many units at a time.
-fn are_printable(units: &[u16]) -> bool
-    ensures { result ≡ true → list_all is_plain units.now ≡ true }
-{
-    let mut least = 0xFFFF;
-    let mut most = 0;
-    for unit in units {
-        least = lesser(least, *unit);
-        most = greater(most, *unit);
-    }
-    0x20 <= least && most <= 0x7E
-}
-
-// How many units at the front are printable, in whole blocks.
-fn printable_blocks(units: &[u16]) -> usize
-    ensures count { result ≤ length units.now }
-    ensures all { list_all is_plain (take result units.now) ≡ true }
-{
-    let mut at = 0;
-    while at + BLOCK <= units.len() {
-        if !are_printable(&units[at..at + BLOCK]) {
-            return at;
-        }
-        at += BLOCK;
-    }
-    at
-}
-
-// How many units at the front are printable, up to a limit. A short run is counted unit by unit.
-pub(crate) fn printable_front(units: &[u16], limit: usize) -> usize
-    ensures count { result ≤ length units.now }
-    ensures limit { result ≤ limit }
-    ensures all { list_all is_plain (take result units.now) ≡ true }
-{
-    let limit = limit.min(units.len());
-    let near = plain_count(&units[..limit.min(SHORT)]);
-    if near < SHORT {
-        return near;
-    }
-    let far = near + printable_blocks(&units[near..limit]);
-    far + plain_count(&units[far..limit])
-}
+use con_vtgram::{Csi, Found, Splitter};
 
 pub(crate) fn is_acting(unit: u16) -> bool
     ensures { result ≡ text.is_acting unit }
@@ -244,7 +181,26 @@ pub(crate) fn write_unit(
     }
 }
 
-// Writes some units: a run of printable ones, or one.
+// Writes the units at the front that go at once, where no sequence is unfinished, and tells how many: printed ones of the cursor's row,
+// or line feeds and carriage returns.
+pub(crate) fn write_run(page: &mut Page, text: &Splitter, units: &[u16]) -> usize
+    requires page { IsPage page.old }
+    requires some { 0 < length units.now }
+    ensures page { IsPage page.new }
+    ensures count { result ≤ length units.now }
+    ensures run { IsRun (record { page = page.old; text = text.now.tail }) (take result units.now) page.new }
+{
+    if !text.is_clear() {
+        return 0;
+    }
+    if is_end(units[0]) {
+        page.end_rows(units)
+    } else {
+        page.print_run(units)
+    }
+}
+
+// Writes some units: a run, or one.
 pub(crate) fn write_some(
     page: &mut Page,
     text: &mut Splitter,
@@ -260,28 +216,12 @@ pub(crate) fn write_some(
     ensures inside { result.0 ≤ length units.now }
     ensures one { result.1 ≡ true → result.0 ≡ 1 }
 {
-    let n = run_length(page, text, units);
+    let n = write_run(page, text, units);
     if 0 < n {
-        page.write_run(&units[..n]);
         answers.spend_some(n);
         (n, false)
     } else {
         let switched = write_unit(page, text, units[0], answers);
         (1, switched)
-    }
-}
-
-// How many units at the front can be written as they are.
-pub(crate) fn run_length(page: &Page, text: &Splitter, units: &[u16]) -> usize
-    requires page { IsPage page.now }
-    requires some { 0 < length units.now }
-    ensures count { result ≤ length units.now }
-    ensures run { 0 < result → CanRun page.now result × (text.now.tail ≡ []) }
-    ensures all { list_all is_plain (take result units.now) ≡ true }
-{
-    if text.is_clear() && is_plain(units[0]) {
-        printable_front(units, page.run_room())
-    } else {
-        0
     }
 }

@@ -13,6 +13,8 @@ mod lines;
 #[cfg(test)]
 mod rows;
 #[cfg(test)]
+mod runs;
+#[cfg(test)]
 mod setters;
 #[cfg(test)]
 mod texts;

@@ -1,12 +1,13 @@
 //! Units that are printed.
-ghost use Rattle.std.specs.Prelude.{◌≡◌, ℕ, ◌<◌, ◌≤◌, length, true};
+ghost use Rattle.std.specs.Prelude.{◌≡◌, ℕ, ◌<◌, ◌≤◌, length, take, true};
 ghost use Rattle.std.specs.List.{list_all};
 ghost use Rattle.con_screen.specs.Page.{IsPage};
 ghost use Rattle.con_screen.specs.Print.{drawn, line_of as line_unit, wrapped, put, advanced, printed};
 ghost use Rattle.con_units.specs.Plain.{is_plain};
-ghost use Rattle.con_screen.specs.Run.{CanRun, ran};
+ghost use Rattle.con_screen.specs.Run.{is_printed, all_printed, CanRun, ran};
 
 use super::Page;
+use crate::front::printable_front;
 use con_units::Cell;
 
 #[tactic(auto, unfolding(crate::specs::Print::line_of))]
@@ -90,8 +91,8 @@ impl Page {
         self.advance();
     }
 
-    /// How many printable units can be written as they are from the cursor on.
-    pub(crate) fn run_room(&self) -> usize
+    // How many printed units can be written at once from the cursor on.
+    fn run_room(&self) -> usize
         requires { IsPage self.now }
         ensures { (n : ℕ) → 0 < n → n ≤ result → CanRun self.now n }
     {
@@ -99,18 +100,18 @@ impl Page {
         let left = self.left as usize;
         let top = self.top as usize;
         let y = self.y as usize;
-        if self.late || self.drawing || x < left || y < top || top + self.h as usize <= y {
+        if self.late || x < left || y < top || top + self.h as usize <= y {
             return 0;
         }
         let end = self.width().min(left + self.w as usize);
         if end <= x + 1 { 0 } else { end - x - 1 }
     }
 
-    /// Writes printable units from the cursor on.
-    pub(crate) fn write_run(&mut self, units: &[u16])
+    // Writes units of printable ASCII from the cursor on, as they are.
+    fn write_plain(&mut self, units: &[u16])
         requires page { IsPage self.old }
         requires given { CanRun self.old (length units.now) }
-        requires printable { list_all is_plain units.now ≡ true }
+        requires plain { list_all is_plain units.now ≡ true }
         ensures effect { self.new ≡ ran self.old units.now }
         ensures page { IsPage self.new }
     {
@@ -118,5 +119,24 @@ impl Page {
         let attr = self.pen.attr();
         self.grid.put_plain(at, units, attr);
         self.x += units.len() as u16;
+    }
+
+    /// Prints units at the front that end before the row does, and tells how many.
+    pub(crate) fn print_run(&mut self, units: &[u16]) -> usize
+        requires page { IsPage self.old }
+        ensures page { IsPage self.new }
+        ensures count { result ≤ length units.now }
+        ensures all { list_all is_printed (take result units.now) ≡ true }
+        ensures effect { self.new ≡ all_printed self.old (take result units.now) }
+    {
+        if self.drawing {
+            return 0;
+        }
+        let n = printable_front(units, self.run_room());
+        if n == 0 {
+            return 0;
+        }
+        self.write_plain(&units[..n]);
+        n
     }
 }

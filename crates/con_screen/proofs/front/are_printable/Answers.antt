@@ -1,6 +1,6 @@
 use Rattle.std.proofs.Common.{arith}
 use Rattle.con_screen.proofs.ScanLemmas.{between_more, between_printable}
-use Rattle.con_screen.proofs.write.are_printable.Goals as goal
+use Rattle.con_screen.proofs.front.are_printable.Goals as goal
 
 pub loop-unit-preserved : goal.loop-unit-preserved
 loop-unit-preserved c = rw (c.lesser-least.ensures, c.greater-most.ensures) (between_more c.args.units.now c.loop-unit.unit-index c.loop-unit.least c.loop-unit.most c.loop-unit-test.true c.loop-unit.invariant)

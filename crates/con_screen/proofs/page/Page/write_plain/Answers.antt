@@ -2,7 +2,7 @@ use Rattle.std.proofs.Common.{◌≡◌, sym, ap, ◌∙◌}
 use Rattle.con_screen.specs.Page.{place, attr}
 use Rattle.con_screen.specs.PageView.{page_of}
 use Rattle.con_screen.proofs.RunLemmas.{ran_put}
-use Rattle.con_screen.proofs.page.Page.write_run.Goals as goal
+use Rattle.con_screen.proofs.page.Page.write_plain.Goals as goal
 
 pub returns-clause-effect : goal.returns-clause-effect
 returns-clause-effect c =

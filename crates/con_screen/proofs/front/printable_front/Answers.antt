@@ -1,6 +1,6 @@
 use Rattle.std.proofs.Common.{◌+◌}
 use Rattle.con_screen.proofs.ScanLemmas.{printable_first, printable_part}
-use Rattle.con_screen.proofs.write.printable_front.Goals as goal
+use Rattle.con_screen.proofs.front.printable_front.Goals as goal
 
 pub returns-clause-all : goal.returns-clause-all
 returns-clause-all c =
