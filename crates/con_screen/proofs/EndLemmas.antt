@@ -4,7 +4,6 @@ use Rattle.std.specs.List.{list_all}
 use Rattle.std.proofs.lemmas.List.{take_more, drop-append-le, drop-replicate, replicate-append-replicate, drop_all, length-take-le}
 use Rattle.std.proofs.lemmas.Grind.{common_steps}
 use Rattle.std.proofs.lemmas.List.Sums.{fold-append}
-use Rattle.std.proofs.lemmas.List.Folds.{list_all-append}
 use Rattle.std.proofs.lemmas.Bool.{and_parts, cases_lt}
 use Rattle.std.proofs.lemmas.Bool.Decides.{nat_tests}
 use Rattle.std.proofs.Math.Nat.{mul-le-mul_right}
@@ -29,9 +28,6 @@ feeds_next units at feeds one lt h k = rw (take_more units at 0 lt, fold-append 
     by : (b : Bool) → feeds + cond b 1 0 ≡ cond b (feeds + 1) feeds
     by true = refl
     by false = omega arith
-
-pub all_next : (units : List ℕ) (at : ℕ) → at < length units → list_all is_end (take at units) ≡ true → is_end (get_or units at 0) ≡ true → list_all is_end (take (at + 1) units) ≡ true
-all_next units at lt h k = rw (take_more units at 0 lt) (list_all-append is_end (take at units) (get_or units at 0 ∷ []) ∙ rw (h, k) refl)
 
 -- ---- rows that go up
 

@@ -1,5 +1,5 @@
 -- Units that are printable, block by block.
-use Rattle.std.proofs.Common.{◌≡◌, ℕ, ◌+◌, ◌-◌, ◌<◌, ◌≤◌, true, nat_le, min, max, List, [], ◌∷◌, length, take, drop, get_or, refl, sym, ap, ◌∙◌, arith, take-add}
+use Rattle.std.proofs.Common.{◌≡◌, ℕ, ◌+◌, ◌-◌, ◌<◌, ◌≤◌, Bool, true, nat_le, min, max, List, [], ◌∷◌, length, take, drop, get_or, refl, sym, ap, ◌∙◌, arith, take-add}
 use Rattle.std.specs.List.{list_all}
 use Rattle.std.specs.Int.{is_in_range}
 use Rattle.std.proofs.lemmas.Bool.{and_parts}
@@ -40,3 +40,7 @@ pub printable_next : (us : List ℕ) (i n m : ℕ) → m ≡ n → i + n ≤ len
 printable_next us i n m e inside h k =
     let part : list_all is_plain (take n (drop i us)) ≡ true = ap (λ j. list_all is_plain (take j (drop i us))) (sym e) ∙ k in
     (inside, ap (list_all is_plain) (take-add i n us) ∙ list_all-append is_plain (take i us) (take n (drop i us)) ∙ rw (h, part) refl)
+
+-- one unit on, whatever is tested
+pub all_next : (test : ℕ → Bool) (us : List ℕ) (at : ℕ) → at < length us → list_all test (take at us) ≡ true → test (get_or us at 0) ≡ true → list_all test (take (at + 1) us) ≡ true
+all_next test us at lt h k = list_all_more test us at 0 lt ∙ rw (h, k) refl

@@ -2,6 +2,7 @@
 ghost use Rattle.std.specs.Prelude.{◌≡◌, ◌≤◌, true, length, take, min, max};
 ghost use Rattle.std.specs.List.{list_all};
 ghost use Rattle.con_units.specs.Plain.{is_plain};
+ghost use Rattle.con_screen.specs.Run as run;
 
 use con_vtgram::plain_count;
 
@@ -64,4 +65,27 @@ pub(crate) fn printable_front(units: &[u16], limit: usize) -> usize
     }
     let far = near + printable_blocks(&units[near..limit]);
     far + plain_count(&units[far..limit])
+}
+
+fn is_printed(unit: u16) -> bool
+    ensures { result ≡ run.is_printed unit }
+{
+    (0x20 <= unit && unit <= 0x7E) || 0xA0 <= unit
+}
+
+/// How many units at the front are no controls, up to a limit.
+pub(crate) fn printed_front(units: &[u16], limit: usize) -> usize
+    ensures count { result ≤ length units.now }
+    ensures limit { result ≤ limit }
+    ensures all { list_all run.is_printed (take result units.now) ≡ true }
+{
+    let end = limit.min(units.len());
+    let mut count = 0;
+    while count < end {
+        if !is_printed(units[count]) {
+            return count;
+        }
+        count += 1;
+    }
+    count
 }

@@ -1,5 +1,5 @@
 //! Units that are printed.
-ghost use Rattle.std.specs.Prelude.{◌≡◌, ℕ, ◌<◌, ◌≤◌, length, take, true};
+ghost use Rattle.std.specs.Prelude.{◌≡◌, ℕ, ◌<◌, ◌≤◌, length, take, true, false};
 ghost use Rattle.std.specs.List.{list_all};
 ghost use Rattle.con_screen.specs.Page.{IsPage};
 ghost use Rattle.con_screen.specs.Print.{drawn, line_of as line_unit, wrapped, put, advanced, printed};
@@ -7,8 +7,9 @@ ghost use Rattle.con_units.specs.Plain.{is_plain};
 ghost use Rattle.con_screen.specs.Run.{is_printed, all_printed, CanRun, ran};
 
 use super::Page;
-use crate::front::printable_front;
+use crate::front::{printable_front, printed_front};
 use con_units::Cell;
+use con_vtgram::is_plain as is_plain_unit;
 
 #[tactic(auto, unfolding(crate::specs::Print::line_of))]
 fn line_of(unit: u16) -> u16
@@ -121,9 +122,57 @@ impl Page {
         self.x += units.len() as u16;
     }
 
+    // Writes units from the cursor on, as they are.
+    fn write_any(&mut self, units: &[u16])
+        requires page { IsPage self.old }
+        requires given { CanRun self.old (length units.now) }
+        ensures effect { self.new ≡ ran self.old units.now }
+        ensures page { IsPage self.new }
+    {
+        let at = self.place();
+        let attr = self.pen.attr();
+        self.grid.put_units(at, units, attr);
+        self.x += units.len() as u16;
+    }
+
+    // Prints units of printable ASCII at the front.
+    fn print_plain(&mut self, units: &[u16]) -> usize
+        requires page { IsPage self.old }
+        requires given { self.old.drawing ≡ false }
+        ensures page { IsPage self.new }
+        ensures count { result ≤ length units.now }
+        ensures all { list_all is_printed (take result units.now) ≡ true }
+        ensures effect { self.new ≡ all_printed self.old (take result units.now) }
+    {
+        let n = printable_front(units, self.run_room());
+        if n == 0 {
+            return 0;
+        }
+        self.write_plain(&units[..n]);
+        n
+    }
+
+    // Prints units at the front that are no controls.
+    fn print_any(&mut self, units: &[u16]) -> usize
+        requires page { IsPage self.old }
+        requires given { self.old.drawing ≡ false }
+        ensures page { IsPage self.new }
+        ensures count { result ≤ length units.now }
+        ensures all { list_all is_printed (take result units.now) ≡ true }
+        ensures effect { self.new ≡ all_printed self.old (take result units.now) }
+    {
+        let n = printed_front(units, self.run_room());
+        if n == 0 {
+            return 0;
+        }
+        self.write_any(&units[..n]);
+        n
+    }
+
     /// Prints units at the front that end before the row does, and tells how many.
     pub(crate) fn print_run(&mut self, units: &[u16]) -> usize
         requires page { IsPage self.old }
+        requires some { 0 < length units.now }
         ensures page { IsPage self.new }
         ensures count { result ≤ length units.now }
         ensures all { list_all is_printed (take result units.now) ≡ true }
@@ -132,11 +181,10 @@ impl Page {
         if self.drawing {
             return 0;
         }
-        let n = printable_front(units, self.run_room());
-        if n == 0 {
-            return 0;
+        if is_plain_unit(units[0]) {
+            self.print_plain(units)
+        } else {
+            self.print_any(units)
         }
-        self.write_plain(&units[..n]);
-        n
     }
 }

@@ -1,19 +1,6 @@
--- Nothing, or a run in the cursor's row.
-use Rattle.std.proofs.Common.{arith, take, sym, ap, ◌∙◌}
-use Rattle.con_screen.specs.Page.{Page}
-use Rattle.con_screen.proofs.RunLemmas.{plain_printed, none_printed, printed_so}
+-- Nothing, where lines are drawn.
+use Rattle.con_screen.proofs.RunLemmas.{none_printed}
 use Rattle.con_screen.proofs.page.Page.print_run.Goals as goal
 
 pub returns-then-self-clause-effect : goal.returns-then-self-clause-effect
 returns-then-self-clause-effect c = none_printed _
-
-pub returns-then-n-eq0-clause-effect : goal.returns-then-n-eq0-clause-effect
-returns-then-n-eq0-clause-effect c = none_printed _
-
-pub returns-clause-all : goal.returns-clause-all
-returns-clause-all c = plain_printed (take c.printable_front-n.result c.args.units.now) c.printable_front-n.ensures.all
-
-pub returns-clause-effect : goal.returns-clause-effect
-returns-clause-effect c =
-    let n = c.printable_front-n in
-    printed_so c.args.self.now _ c.args.units.now n.result n.ensures.count (c.run_room.ensures n.result (omega (arith, c.if-n-eq0.false)) n.ensures.limit) (ap (λ (q : Page). q.drawing) (sym c.self.view_is) ∙ c.if-self.false) c.write_plain.ensures.effect
