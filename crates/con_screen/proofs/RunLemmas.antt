@@ -4,7 +4,7 @@ use Rattle.std.specs.Prelude.{fold}
 use Rattle.std.specs.List.{list_all}
 use Rattle.std.proofs.lemmas.Nat.{mul-add-lt}
 use Rattle.std.proofs.lemmas.Bool.Decides.{nat_tests}
-use Rattle.std.proofs.lemmas.List.{take_all, take-append-drop, length-take-le, length-drop, length-set, length-map, take_more_set, drop-set-lt}
+use Rattle.std.proofs.lemmas.List.{take_all, take-append-drop, length-take-le, length-drop, length-set, take_more_set, drop-set-lt}
 use Rattle.con_grid.specs.Picture.{units_put}
 use Rattle.con_units.specs.Attr.{Attribute}
 use Rattle.con_units.specs.Glyph.{Glyph, cell_of}
@@ -234,6 +234,9 @@ as_lines p us can on = ap (ran p) (sym (same us)) ∙ sym (run_is p us can)
     same : (vs : List ℕ) → map (drawn p) vs ≡ map line_of vs
     same [] = refl
     same (v ∷ vs) = rw (on, same vs) refl
+
+pub lines_so : (p after : Page) (units : List ℕ) (n : ℕ) → n ≤ length units → CanRun p n → p.drawing ≡ true → after ≡ ran p (map line_of (take n units)) → after ≡ all_printed p (take n units)
+lines_so p after units n le can on e = e ∙ as_lines p (take n units) (rw (length-take-le n units le) can) on
 
 -- nothing is printed
 pub none_printed : (p : Page) → p ≡ all_printed p []

@@ -1,5 +1,5 @@
 //! Units that are printed.
-ghost use Rattle.std.specs.Prelude.{◌≡◌, ℕ, ◌<◌, ◌≤◌, length, take, true, false};
+ghost use Rattle.std.specs.Prelude.{◌≡◌, ℕ, ◌<◌, ◌≤◌, length, map, take, true, false};
 ghost use Rattle.std.specs.List.{list_all};
 ghost use Rattle.con_screen.specs.Page.{IsPage};
 ghost use Rattle.con_screen.specs.Print.{drawn, line_of as line_unit, wrapped, put, advanced, printed};
@@ -28,6 +28,19 @@ fn line_of(unit: u16) -> u16
         0x77 => 0x252C,
         0x78 => 0x2502,
         _ => unit,
+    }
+}
+
+// How many units are drawn at once.
+const DRAWN: usize = 64;
+
+// Writes for each unit the one that is drawn for it.
+fn draw(units: &[u16], lines: &mut [u16; DRAWN])
+    requires { length units.now ≤ 64 }
+    ensures { take (length units.now) lines.new ≡ map line_unit units.now }
+{
+    for k in 0..units.len() {
+        lines[k] = line_of(units[k]);
     }
 }
 
@@ -169,6 +182,36 @@ impl Page {
         n
     }
 
+    // Writes what is drawn for units from the cursor on.
+    fn write_lines(&mut self, units: &[u16])
+        requires page { IsPage self.old }
+        requires few { length units.now ≤ 64 }
+        requires given { CanRun self.old (length units.now) }
+        ensures effect { self.new ≡ ran self.old (map line_unit units.now) }
+        ensures page { IsPage self.new }
+    {
+        let mut lines = [0; DRAWN];
+        draw(units, &mut lines);
+        self.write_any(&lines[..units.len()]);
+    }
+
+    // Prints units at the front that are no controls, where lines are drawn.
+    fn print_lines(&mut self, units: &[u16]) -> usize
+        requires page { IsPage self.old }
+        requires given { self.old.drawing ≡ true }
+        ensures page { IsPage self.new }
+        ensures count { result ≤ length units.now }
+        ensures all { list_all is_printed (take result units.now) ≡ true }
+        ensures effect { self.new ≡ all_printed self.old (take result units.now) }
+    {
+        let n = printed_front(units, self.run_room().min(DRAWN));
+        if n == 0 {
+            return 0;
+        }
+        self.write_lines(&units[..n]);
+        n
+    }
+
     /// Prints units at the front that end before the row does, and tells how many.
     pub(crate) fn print_run(&mut self, units: &[u16]) -> usize
         requires page { IsPage self.old }
@@ -179,9 +222,8 @@ impl Page {
         ensures effect { self.new ≡ all_printed self.old (take result units.now) }
     {
         if self.drawing {
-            return 0;
-        }
-        if is_plain_unit(units[0]) {
+            self.print_lines(units)
+        } else if is_plain_unit(units[0]) {
             self.print_plain(units)
         } else {
             self.print_any(units)

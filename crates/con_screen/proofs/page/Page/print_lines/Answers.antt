@@ -1,0 +1,12 @@
+-- Nothing, or a run in the cursor's row.
+use Rattle.std.proofs.Common.{arith}
+use Rattle.con_screen.proofs.RunLemmas.{none_printed, lines_so}
+use Rattle.con_screen.proofs.page.Page.print_lines.Goals as goal
+
+pub returns-then-n-eq0-clause-effect : goal.returns-then-n-eq0-clause-effect
+returns-then-n-eq0-clause-effect c = none_printed _
+
+pub returns-clause-effect : goal.returns-clause-effect
+returns-clause-effect c =
+    let n = c.printed_front-n in
+    lines_so c.args.self.now _ c.args.units.now n.result n.ensures.count (c.run_room.ensures n.result (omega (arith, c.if-n-eq0.false)) (omega (arith, n.ensures.limit, c.min.ensures))) c.requires.given c.write_lines.ensures.effect
