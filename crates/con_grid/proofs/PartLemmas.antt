@@ -1,9 +1,9 @@
 -- Parts of rows that are what they were.
-use Rattle.std.proofs.Common.{◌≡◌, ℕ, ◌+◌, ◌*◌, ◌≤◌, List, length, take, drop, get_or, min, sym, ap, ◌∙◌, arith, Option, Some, None}
+use Rattle.std.proofs.Common.{◌≡◌, ℕ, ◌+◌, ◌≤◌, List, take, drop, sym, ap, ◌∙◌, arith, Option, Some, None}
 use Rattle.std.proofs.lemmas.List.{same_lists, places}
 use Rattle.con_units.specs.Glyph.{Glyph}
 use Rattle.con_units.specs.View.{row_of, row_part}
-use Rattle.con_grid.specs.Picture.{Picture, IsRowOf}
+use Rattle.con_grid.specs.Picture.{IsRowOf}
 use Rattle.con_grid.specs.Parts.{IsPartOf, PartsFollowRows}
 
 -- a part of a row is a part of the list that the row is

@@ -1,6 +1,6 @@
 -- Rows that are not stamped with the number are what they were.
-use Rattle.std.proofs.Common.{◌≡◌, ◌≢◌, ℕ, ◌+◌, ◌-◌, ◌*◌, ◌/◌, ◌%◌, ◌<◌, ◌≤◌, List, true, false, ◌++◌, length, take, drop, replicate, get_or, set, min, nat_lt, refl, sym, ap, ◌∙◌, ◌⊎◌, inl, inr, arith, rules, Option, Some, None}
-use Rattle.std.proofs.lemmas.List.{same_lists, length-take, length-drop, length-set, get_or-take, get_or-drop, get_or-set_other, get_or-set_same, get_or_default, get_or_past, length-replicate, length-map, places, take_at}
+use Rattle.std.proofs.Common.{◌≡◌, ℕ, ◌+◌, ◌-◌, ◌*◌, ◌/◌, ◌%◌, ◌<◌, ◌≤◌, List, true, false, ◌++◌, length, take, drop, replicate, get_or, set, min, nat_lt, refl, sym, ap, ◌∙◌, ◌⊎◌, inl, inr, arith, rules, Option, Some, None}
+use Rattle.std.proofs.lemmas.List.{same_lists, length-take, length-drop, length-set, get_or-take, get_or-drop, get_or-set_other, get_or_default, get_or_past, length-replicate, length-map, places, take_at}
 use Rattle.std.proofs.lemmas.Grind.{common_steps, rows}
 use Rattle.std.proofs.lemmas.Nat.{le-div}
 use Rattle.std.proofs.lemmas.Bool.{cases_lt}
@@ -10,7 +10,7 @@ use Rattle.con_units.specs.Glyph.{Glyph, cell_of as glyph_of}
 use Rattle.con_units.specs.View.{row_of}
 use Rattle.con_grid.specs.Picture.{Picture, IsRowOf, raised, filled, lifted, lowered, part_lifted, part_lowered, written_over, part_of, glyphs_of, units_put}
 use Rattle.con_grid.proofs.FillLemmas.{fill-none, fill-more}
-use Rattle.con_grid.specs.Stamps.{RowStamps, stamp_of, AreStamps, IsApart, AreStampedBy, AreStampsOf}
+use Rattle.con_grid.specs.Stamps.{RowStamps, AreStamps, AreStampedBy, AreStampsOf}
 
 -- two lists that agree at a row's places have the same row
 row_same : (w : ℕ) (xs ys : List Glyph) (y : ℕ) → length xs ≡ length ys → ((i : ℕ) (d : Glyph) → i < w → get_or xs (y * w + i) d ≡ get_or ys (y * w + i) d) → row_of w xs y ≡ row_of w ys y

@@ -1,4 +1,4 @@
-use Rattle.std.proofs.Common.{arith, ◌+◌, ◌≤◌, length, ◌∙◌}
+use Rattle.std.proofs.Common.{arith, ◌+◌, ◌≤◌, length}
 use Rattle.std.proofs.lemmas.Grind.{common_steps}
 use Rattle.con_grid.specs.Inside.{picture_of}
 use Rattle.con_grid.proofs.StampLemmas.{units_keeps, renumbered}

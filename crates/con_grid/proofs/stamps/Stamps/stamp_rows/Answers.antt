@@ -1,4 +1,4 @@
-use Rattle.std.proofs.Common.{◌≡◌, ◌++◌, ◌-◌, take, drop, replicate, length, ◌∙◌}
+use Rattle.std.proofs.Common.{◌∙◌}
 use Rattle.con_grid.proofs.StampLemmas.{whole, written_bound}
 use Rattle.con_grid.proofs.stamps.Stamps.stamp_rows.Goals as goal
 
