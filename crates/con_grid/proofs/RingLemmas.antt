@@ -1,12 +1,12 @@
 -- Cells whose first one may stand anywhere in their block.
-use Rattle.std.proofs.Common.{◌≡◌, ℕ, ◌+◌, ◌-◌, ◌<◌, ◌≤◌, List, None, [], ◌∷◌, ◌++◌, length, take, drop, replicate, get_or, set, min, refl, sym, ap, ◌∙◌, append_assoc, arith}
-use Rattle.std.proofs.lemmas.List.{same_lists, places, take-append-drop, length-replicate, length-map, take_more_set, drop-set-lt}
+use Rattle.std.proofs.Common.{◌≡◌, ℕ, ◌+◌, ◌-◌, ◌<◌, ◌≤◌, List, None, [], ◌∷◌, ◌++◌, length, take, drop, replicate, map, get_or, set, min, refl, sym, ap, ◌∙◌, append_assoc, arith}
+use Rattle.std.proofs.lemmas.List.{same_lists, places, take-append-drop, length-replicate, length-map, length-take-le, length-drop, take_rest, map-append, take_more_set, drop-set-lt}
 use Rattle.std.proofs.lemmas.Grind.{common_steps}
 use Rattle.con_units.specs.Attr.{Attribute}
 use Rattle.con_units.specs.Glyph.{Glyph, cell_of as glyph_of}
 use Rattle.con_grid.specs.Picture.{Picture, written_over, part_of, lifted, lowered, filled, part_lifted, part_lowered, units_put, glyphs_of}
-use Rattle.con_grid.proofs.StampLemmas.{length-lifted, length-lowered}
-use Rattle.con_grid.specs.Ring.{turned, IsSpot, IsIndex}
+use Rattle.con_grid.specs.Ring.{turned, copied, IsRun, IsSpot, IsIndex}
+use Rattle.std.specs.List.{copy_within}
 
 pub length-turned : (s : List Glyph) (t : ℕ) → length (turned s t) ≡ length s
 unfolding turned
@@ -84,6 +84,29 @@ lifted_few s r t by n few c same is count =
     let long : n ≡ length r = count ∙ sym (length-turned s t) ∙ ap length same in
     ap (λ (xs : List Glyph). lifted xs few c) same ∙ ap (λ k. lifted r k c) (is ∙ ap (λ k. min by k) long) ∙ lifted_all r by c
 
+-- ---- all cells lowered
+
+pub lower_turns : (s : List Glyph) (t by : ℕ) (c : Glyph) → t ≤ length s → by ≤ t → turned (filled s (t - by) t c) (t - by) ≡ lowered (turned s t) by c
+unfolding turned filled lowered
+lower_turns s t by c inside few =
+    same_lists _ _ (grind (arith, places)) (λ k d h. grind (arith, places))
+
+-- the last cells lie on both sides of the block's start
+pub lower_wraps : (s : List Glyph) (t by : ℕ) (c : Glyph) → t ≤ length s → by ≤ length s → t < by
+    → turned (filled (filled s (length s - (by - t)) (length s) c) 0 t c) (length s - (by - t)) ≡ lowered (turned s t) by c
+unfolding turned filled lowered
+lower_wraps s t by c inside few over =
+    same_lists _ _ (grind (arith, places)) (λ k d h. grind (arith, places))
+
+lowered_all : (s : List Glyph) (by : ℕ) (c : Glyph) → lowered s (min by (length s)) c ≡ lowered s by c
+unfolding lowered
+lowered_all s by c = same_lists _ _ (grind (arith, places)) (λ k d h. grind (arith, places))
+
+pub lowered_few : (s r : List Glyph) (t by n few : ℕ) (c : Glyph) → turned s t ≡ r → few ≡ min by n → n ≡ length s → lowered (turned s t) few c ≡ lowered r by c
+lowered_few s r t by n few c same is count =
+    let long : n ≡ length r = count ∙ sym (length-turned s t) ∙ ap length same in
+    ap (λ (xs : List Glyph). lowered xs few c) same ∙ ap (λ k. lowered r k c) (is ∙ ap (λ k. min by k) long) ∙ lowered_all r by c
+
 -- ---- one cell
 
 set_over : (s : List Glyph) (i : ℕ) (c : Glyph) → i < length s → set s i c ≡ written_over s i (i + (i + 1 - i)) (c ∷ [])
@@ -128,13 +151,25 @@ high_index s t at inside end high = record {
 pub in_block : (s r : List Glyph) (t n : ℕ) → turned s t ≡ r → n ≤ length r → n ≤ length s
 in_block s r t n e h = omega (arith, length-turned s t, ap length e, h)
 
--- ---- what is done at a spot
+-- ---- runs
 
-pub whole_spot : (s : List Glyph) (from upto : ℕ) → from ≤ upto → upto ≤ length s → IsSpot s 0 from upto from
-whole_spot s from upto order inside =
-    let h = low_spot s 0 from upto (omega arith) order (omega (arith, inside)) in
-    let e : 0 + from ≡ from = omega arith in
-    rw e at h
+pub front_run : (n t from count k : ℕ) → t ≤ n → from + count ≤ n → k ≡ min count (n - t - from) → IsRun n t from (from + k)
+front_run n t from count k first inside is = record {
+  first = first;
+  order = omega arith;
+  inside = omega (arith, inside, is);
+  side = λ h. omega (arith, first, is, h);
+}
+
+pub back_run : (n t from count k : ℕ) → t ≤ n → from + count ≤ n → k ≡ min count (n - t - from) → IsRun n t (from + k) (from + count)
+back_run n t from count k first inside is = record {
+  first = first;
+  order = omega (arith, is);
+  inside = inside;
+  side = λ h. omega (arith, first, inside, is, h);
+}
+
+-- ---- what is done at a spot
 
 pub fill_spot : (s r : List Glyph) (t from upto at : ℕ) (c : Glyph) → IsSpot s t from upto at → turned s t ≡ r → turned (filled s at (at + (upto - from)) c) t ≡ filled r from upto c
 unfolding filled
@@ -149,38 +184,152 @@ units_spot s r t from at us w spot same =
     let over = rw e at (spot.over (glyphs_of us w)) in
     rw (← same) (over (length-map us (λ u. glyph_of u w)))
 
-part_long : (s : List Glyph) (at n : ℕ) → at + n ≤ length s → length (part_of s at (at + n)) ≡ n
-part_long s at n inside = grind (arith, places)
+pub copy_spot : (s : List Glyph) (t from to n i j : ℕ) → IsSpot s t from (from + n) i → IsSpot s t to (to + n) j → turned (copy_within s i (i + n) j) t ≡ copied (turned s t) from to n
+unfolding copied
+copy_spot s t from to n i j source target =
+    let a : i + n - i ≡ n = omega arith in
+    let b : from + n - from ≡ n = omega arith in
+    let d : to + n - to ≡ n = omega arith in
+    let part = rw b at source.part in
+    let over = rw d at target.over in
+    let long : length (take n (drop i s)) ≡ n = grind (arith, places, source.inside) in
+    rw (a, append_assoc (take j s) (take n (drop i s)) (drop (j + n) s)) (over (take n (drop i s)) long ∙ ap (λ (xs : List Glyph). written_over (turned s t) to (to + n) xs) (sym (rw a at part)))
 
-pub lift_spot : (s r : List Glyph) (t from upto at by : ℕ) (c : Glyph) → IsSpot s t from upto at → turned s t ≡ r → turned (part_lifted s at (at + (upto - from)) by c) t ≡ part_lifted r from upto by c
-unfolding part_lifted
-lift_spot s r t from upto at by c spot same =
-    let part : List Glyph = part_of s at (at + (upto - from)) in
-    let long : length (lifted part by c) ≡ upto - from = length-lifted part by c ∙ part_long s at (upto - from) spot.inside in
-    rw (← same, spot.part) (spot.over (lifted part by c) long)
+-- ---- what is done in two runs
 
-pub lower_spot : (s r : List Glyph) (t from upto at by : ℕ) (c : Glyph) → IsSpot s t from upto at → turned s t ≡ r → turned (part_lowered s at (at + (upto - from)) by c) t ≡ part_lowered r from upto by c
-unfolding part_lowered
-lower_spot s r t from upto at by c spot same =
-    let part : List Glyph = part_of s at (at + (upto - from)) in
-    let long : length (lowered part by c) ≡ upto - from = length-lowered part by c ∙ part_long s at (upto - from) spot.inside in
-    rw (← same, spot.part) (spot.over (lowered part by c) long)
+pub filled_twice : (r : List Glyph) (from middle upto : ℕ) (c : Glyph) → from ≤ middle → middle ≤ upto → upto ≤ length r → filled (filled r from middle c) middle upto c ≡ filled r from upto c
+unfolding filled
+filled_twice r from middle upto c low high inside =
+    same_lists _ _ (grind (arith, places)) (λ k d h. grind (arith, places))
 
-pub part_whole : (xs : List Glyph) (by : ℕ) (c : Glyph) → part_lifted xs 0 (length xs) by c ≡ lifted xs by c
-unfolding part_lifted
-part_whole xs by c =
+written_twice : (r xs ys : List Glyph) (at n m k : ℕ) → length xs ≡ n → length ys ≡ m → at + k ≤ length r → n + m ≡ k → written_over (written_over r at (at + n) xs) (at + n) (at + n + m) ys ≡ written_over r at (at + k) (xs ++ ys)
+written_twice r xs ys at n m k few rest inside all =
+    same_lists _ _ (grind (arith, places)) (λ i d h. grind (arith, places))
+
+pub units_twice : (r : List Glyph) (at k : ℕ) (us : List ℕ) (w : Attribute) → k ≤ length us → at + length us ≤ length r → units_put (units_put r at (take k us) w) (at + k) (drop k us) w ≡ units_put r at us w
+unfolding units_put
+units_twice r at k us w few inside =
+    let f : ℕ → Glyph = λ u. glyph_of u w in
+    let front : length (take k us) ≡ k = length-take-le k us few in
+    let back : length (drop k us) ≡ length us - k = length-drop k us in
+    let joined : map f (take k us) ++ map f (drop k us) ≡ map f us = sym (map-append f (take k us) (drop k us)) ∙ ap (λ (vs : List ℕ). map f vs) (take-append-drop k us) in
+    rw (front, ← joined) (written_twice r (map f (take k us)) (map f (drop k us)) at k (length (drop k us)) (length us) (length-map (take k us) f ∙ front) (length-map (drop k us) f) inside (omega (arith, back, few)))
+
+length-copied : (r : List Glyph) (from to n : ℕ) → from + n ≤ length r → to + n ≤ length r → length (copied r from to n) ≡ length r
+unfolding copied
+length-copied r from to n source target = grind (arith, places)
+
+-- the cells in front are copied first
+pub copied_upwards : (r : List Glyph) (from to n m : ℕ) → to ≤ from → from + (n + m) ≤ length r → copied (copied r from to n) (from + n) (to + n) m ≡ copied r from to (n + m)
+unfolding copied
+copied_upwards r from to n m up inside =
+    same_lists _ _ (grind (arith, places)) (λ k d h. grind (arith, places))
+
+-- the cells behind are copied first
+pub copied_downwards : (r : List Glyph) (from to n m : ℕ) → from ≤ to → to + (n + m) ≤ length r → copied (copied r (from + n) (to + n) m) from to n ≡ copied r from to (n + m)
+unfolding copied
+copied_downwards r from to n m down inside =
+    same_lists _ _ (grind (arith, places)) (λ k d h. grind (arith, places))
+
+pub copied_up : (s s1 s2 s3 : List Glyph) (t from to a b n : ℕ) → turned s1 t ≡ copied (turned s t) from to a → turned s2 t ≡ copied (turned s1 t) (from + a) (to + a) (b - a) → turned s3 t ≡ copied (turned s2 t) (from + b) (to + b) (n - b)
+    → to ≤ from → a ≤ b → b ≤ n → from + n ≤ length s → turned s3 t ≡ copied (turned s t) from to n
+copied_up s s1 s2 s3 t from to a b n one two three up ab bn inside =
+    let r = turned s t in
+    let long = length-turned s t in
+    let ab_is : a + (b - a) ≡ b = omega (arith, ab) in
+    let bn_is : b + (n - b) ≡ n = omega (arith, bn) in
+    three ∙ ap (λ (xs : List Glyph). copied xs (from + b) (to + b) (n - b)) (two ∙ ap (λ (xs : List Glyph). copied xs (from + a) (to + a) (b - a)) one
+    ∙ copied_upwards r from to a (b - a) up (omega (arith, ab, bn, inside, long)) ∙ ap (λ k. copied r from to k) ab_is)
+    ∙ copied_upwards r from to b (n - b) up (omega (arith, bn, inside, long)) ∙ ap (λ k. copied r from to k) bn_is
+
+pub copied_down : (s s1 s2 s3 : List Glyph) (t from to a b n : ℕ) → turned s1 t ≡ copied (turned s t) (from + b) (to + b) (n - b) → turned s2 t ≡ copied (turned s1 t) (from + a) (to + a) (b - a) → turned s3 t ≡ copied (turned s2 t) from to a
+    → from ≤ to → a ≤ b → b ≤ n → to + n ≤ length s → turned s3 t ≡ copied (turned s t) from to n
+copied_down s s1 s2 s3 t from to a b n one two three down ab bn inside =
+    let r = turned s t in
+    let long = length-turned s t in
+    let ab_is : a + (b - a) ≡ b = omega (arith, ab) in
+    let bn_is : b + (n - b) ≡ n = omega (arith, bn) in
+    three ∙ ap (λ (xs : List Glyph). copied xs from to a) (two ∙ ap (λ (xs : List Glyph). copied xs (from + a) (to + a) (b - a)) one)
+    ∙ rest r long ab_is bn_is
+  where
+    rest : (r : List Glyph) → length r ≡ length s → a + (b - a) ≡ b → b + (n - b) ≡ n → copied (copied (copied r (from + b) (to + b) (n - b)) (from + a) (to + a) (b - a)) from to a ≡ copied r from to n
+    rest r long ab_is bn_is =
+        let same : length (copied r (from + b) (to + b) (n - b)) ≡ length r = length-copied r (from + b) (to + b) (n - b) (omega (arith, down, bn, inside, long)) (omega (arith, bn, inside, long)) in
+        copied_downwards (copied r (from + b) (to + b) (n - b)) from to a (b - a) down (omega (arith, ab, bn, inside, long, same))
+        ∙ rw ab_is (copied_downwards r from to b (n - b) down (omega (arith, bn, inside, long)))
+        ∙ ap (λ k. copied r from to k) bn_is
+
+pub filled_in_two : (s s1 s2 : List Glyph) (t from middle upto : ℕ) (c : Glyph) → turned s1 t ≡ filled (turned s t) from middle c → turned s2 t ≡ filled (turned s1 t) middle upto c → from ≤ middle → middle ≤ upto → upto ≤ length s
+    → turned s2 t ≡ filled (turned s t) from upto c
+filled_in_two s s1 s2 t from middle upto c one two low high inside =
+    two ∙ ap (λ (xs : List Glyph). filled xs middle upto c) one ∙ filled_twice (turned s t) from middle upto c low high (omega (arith, inside, length-turned s t))
+
+pub front_units : (s r : List Glyph) (t at k : ℕ) (us : List ℕ) → turned s t ≡ r → t ≤ length s → at + length us ≤ length r → k ≡ min (length us) (length s - t - at) → IsRun (length s) t at (at + length (take k us))
+front_units s r t at k us same first inside is =
+    let few : length (take k us) ≡ k = length-take-le k us (omega (arith, is)) in
+    rw few (front_run (length s) t at (length us) k first (in_block s r t (at + length us) same inside) is)
+
+pub back_units : (s s1 r : List Glyph) (t at k : ℕ) (us : List ℕ) → turned s t ≡ r → length s1 ≡ length s → t ≤ length s → at + length us ≤ length r → k ≡ min (length us) (length s - t - at) → IsRun (length s1) t (at + k) (at + k + length (take (length us - k) (drop k us)))
+back_units s s1 r t at k us same long first inside is =
+    let rest : at + k + length (drop k us) ≡ at + length us = omega (arith, length-drop k us, is) in
+    rw (take_rest us k, rest, long) (back_run (length s) t at (length us) k first (in_block s r t (at + length us) same inside) is)
+
+pub units_in_two : (s s1 s2 r : List Glyph) (t at k : ℕ) (us : List ℕ) (w : Attribute) → turned s t ≡ r → turned s1 t ≡ units_put (turned s t) at (take k us) w → turned s2 t ≡ units_put (turned s1 t) (at + k) (take (length us - k) (drop k us)) w
+    → k ≤ length us → at + length us ≤ length r → turned s2 t ≡ units_put r at us w
+units_in_two s s1 s2 r t at k us w same one two few inside =
+    two ∙ ap (λ (vs : List ℕ). units_put (turned s1 t) (at + k) vs w) (take_rest us k)
+    ∙ ap (λ (xs : List Glyph). units_put xs (at + k) (drop k us) w) (one ∙ ap (λ (xs : List Glyph). units_put xs at (take k us) w) same)
+    ∙ units_twice r at k us w few inside
+
+-- ---- parts
+
+-- what is done to the part that is all cells
+over_all : (xs : List Glyph) (f : List Glyph → List Glyph) → written_over xs 0 (length xs) (f (part_of xs 0 (length xs))) ≡ f xs
+over_all xs f =
     let part : part_of xs 0 (length xs) ≡ xs = grind (arith, common_steps) in
     let past : drop (length xs) xs ≡ [] = grind (arith, common_steps) in
-    rw (part, past) (append_none (lifted xs by c))
+    rw (part, past) (append_none (f xs))
   where
     append_none : (zs : List Glyph) → zs ++ [] ≡ zs
     append_none zs = grind (arith, common_steps)
 
-pub part_all : (xs r : List Glyph) (from upto by : ℕ) (c : Glyph) → from ≤ upto → upto ≤ length xs → upto - from ≡ length xs → r ≡ lifted xs by c → r ≡ part_lifted xs from upto by c
-part_all xs r from upto by c order inside all is =
+over_part : (xs : List Glyph) (from upto : ℕ) (f : List Glyph → List Glyph) → from ≤ upto → upto ≤ length xs → upto - from ≡ length xs → written_over xs from upto (f (part_of xs from upto)) ≡ f xs
+over_part xs from upto f order inside all =
     let none : from ≡ 0 = omega (arith, order, inside, all) in
     let end : upto ≡ length xs = omega (arith, order, inside, all) in
-    is ∙ rw (none, end) (sym (part_whole xs by c))
+    rw (none, end) (over_all xs f)
+
+pub part_lift : (r : List Glyph) (from upto by few : ℕ) (c : Glyph) → from ≤ upto → upto ≤ length r → few ≡ min by (upto - from) → filled (copied r (from + few) from (upto - from - few)) (upto - few) upto c ≡ part_lifted r from upto by c
+unfolding copied filled part_lifted lifted
+part_lift r from upto by few c order inside is =
+    same_lists _ _ (grind (arith, places)) (λ k d h. grind (arith, places))
+
+pub part_lower : (r : List Glyph) (from upto by few : ℕ) (c : Glyph) → from ≤ upto → upto ≤ length r → few ≡ min by (upto - from) → filled (copied r from (from + few) (upto - from - few)) from (from + few) c ≡ part_lowered r from upto by c
+unfolding copied filled part_lowered lowered
+part_lower r from upto by few c order inside is =
+    same_lists _ _ (grind (arith, places)) (λ k d h. grind (arith, places))
+
+pub part_lift_is : (s s1 s2 r : List Glyph) (t from upto by few : ℕ) (c : Glyph) → turned s t ≡ r → turned s1 t ≡ copied (turned s t) (from + few) from (upto - from - few) → turned s2 t ≡ filled (turned s1 t) (upto - few) upto c
+    → from ≤ upto → upto ≤ length r → few ≡ min by (upto - from) → turned s2 t ≡ part_lifted r from upto by c
+part_lift_is s s1 s2 r t from upto by few c same one two order inside is =
+    two ∙ ap (λ (xs : List Glyph). filled xs (upto - few) upto c) (one ∙ ap (λ (xs : List Glyph). copied xs (from + few) from (upto - from - few)) same) ∙ part_lift r from upto by few c order inside is
+
+pub part_lower_is : (s s1 s2 r : List Glyph) (t from upto by few : ℕ) (c : Glyph) → turned s t ≡ r → turned s1 t ≡ copied (turned s t) from (from + few) (upto - from - few) → turned s2 t ≡ filled (turned s1 t) from (from + few) c
+    → from ≤ upto → upto ≤ length r → few ≡ min by (upto - from) → turned s2 t ≡ part_lowered r from upto by c
+part_lower_is s s1 s2 r t from upto by few c same one two order inside is =
+    two ∙ ap (λ (xs : List Glyph). filled xs from (from + few) c) (one ∙ ap (λ (xs : List Glyph). copied xs from (from + few) (upto - from - few)) same) ∙ part_lower r from upto by few c order inside is
+
+pub part_whole : (xs : List Glyph) (by : ℕ) (c : Glyph) → part_lifted xs 0 (length xs) by c ≡ lifted xs by c
+unfolding part_lifted
+part_whole xs by c = over_all xs (λ ys. lifted ys by c)
+
+pub part_all : (xs r : List Glyph) (from upto by : ℕ) (c : Glyph) → from ≤ upto → upto ≤ length xs → upto - from ≡ length xs → r ≡ lifted xs by c → r ≡ part_lifted xs from upto by c
+unfolding part_lifted
+part_all xs r from upto by c order inside all is = is ∙ sym (over_part xs from upto (λ ys. lifted ys by c) order inside all)
+
+pub part_all_lowered : (xs r : List Glyph) (from upto by : ℕ) (c : Glyph) → from ≤ upto → upto ≤ length xs → upto - from ≡ length xs → r ≡ lowered xs by c → r ≡ part_lowered xs from upto by c
+unfolding part_lowered
+part_all_lowered xs r from upto by c order inside all is = is ∙ sym (over_part xs from upto (λ ys. lowered ys by c) order inside all)
 
 pub with_same : (q p : Picture) (xs ys : List Glyph) → q ≡ record p { cells = xs } → xs ≡ ys → q ≡ record p { cells = ys }
 with_same q p xs ys e same = e ∙ rw same refl

@@ -14,6 +14,17 @@ ring_of r = turned r.block.items r.top
 abbrev pub IsRing : Inside → Type 0
 IsRing r = r.top ≤ length r.block.items
 
+-- so many cells are written over those from another place on
+unfoldable pub copied : List Glyph → ℕ → ℕ → ℕ → List Glyph
+copied cells from to n = written_over cells to (to + n) (take n (drop from cells))
+
+-- the cells from one place up to another are a run: in a block of this length, none lies behind the seam, or all do
+pub record IsRun (len top from upto : ℕ) : Type 0 where
+  pub first : top ≤ len
+  pub order : from ≤ upto
+  pub inside : upto ≤ len
+  pub side : top + from < len → top + upto ≤ len
+
 -- the cells from one place up to another lie side by side in the block, from `at` on
 pub record IsSpot (block : List Glyph) (top from upto at : ℕ) : Type 0 where
   pub inside : at + (upto - from) ≤ length block

@@ -1,6 +1,6 @@
 //! Changes of cells that lie in a row.
 ghost use Rattle.std.specs.Prelude.{◌≡◌, ℕ, ◌+◌, ◌-◌, ◌*◌, ◌<◌, ◌≤◌, ◌++◌, ◌^◌, length, take, drop, replicate, true, IfOk};
-ghost use Rattle.con_grid.specs.Picture.{filled, lifted, lowered, part_lifted, part_lowered, glyphs_of, units_put, resized_cells};
+ghost use Rattle.con_grid.specs.Picture.{filled, glyphs_of, units_put, resized_cells};
 ghost use Rattle.con_units.specs.Plain.{is_plain};
 ghost use Rattle.std.specs.List.{list_all};
 
@@ -39,48 +39,6 @@ pub fn fill_ends(cells: &mut [Cell], from: usize, upto: usize, cell: Cell)
     let count = cells.len();
     fill(cells, from, count, cell);
     fill(cells, 0, upto, cell);
-}
-
-/// Lifts all cells.
-#[tactic(auto, unfolding(crate::specs::Picture::lifted, crate::specs::Picture::filled))]
-pub fn lift(cells: &mut [Cell], by: usize, cell: Cell)
-    ensures { cells.new ≡ lifted cells.old by cell }
-{
-    let len = cells.len();
-    let by = by.min(len);
-    cells.copy_within(by..len, 0);
-    fill(cells, len - by, len, cell);
-}
-
-/// Lowers all cells.
-#[tactic(auto, unfolding(crate::specs::Picture::lowered, crate::specs::Picture::filled))]
-pub fn lower(cells: &mut [Cell], by: usize, cell: Cell)
-    ensures { cells.new ≡ lowered cells.old by cell }
-{
-    let len = cells.len();
-    let by = by.min(len);
-    cells.copy_within(0..len - by, by);
-    fill(cells, 0, by, cell);
-}
-
-/// Lifts the cells from one place up to another.
-#[tactic(auto, unfolding(crate::specs::Picture::part_lifted))]
-pub fn lift_part(cells: &mut [Cell], from: usize, upto: usize, by: usize, cell: Cell)
-    requires order { from ≤ upto }
-    requires inside { upto ≤ length cells.old }
-    ensures { cells.new ≡ part_lifted cells.old from upto by cell }
-{
-    lift(&mut cells[from..upto], by, cell);
-}
-
-/// Lowers the cells from one place up to another.
-#[tactic(auto, unfolding(crate::specs::Picture::part_lowered))]
-pub fn lower_part(cells: &mut [Cell], from: usize, upto: usize, by: usize, cell: Cell)
-    requires order { from ≤ upto }
-    requires inside { upto ≤ length cells.old }
-    ensures { cells.new ≡ part_lowered cells.old from upto by cell }
-{
-    lower(&mut cells[from..upto], by, cell);
 }
 
 /// Makes the cells those that show the units in an attribute.

@@ -1,8 +1,8 @@
 //! Cells in a block whose first cell may stand anywhere, so that a scroll of all rows moves none.
-ghost use Rattle.std.specs.Prelude.{◌≡◌, ◌+◌, ◌*◌, ◌<◌, ◌≤◌, List, Some, length, min, replicate, slice_get, slice_set, IfOk, true};
+ghost use Rattle.std.specs.Prelude.{◌≡◌, ◌+◌, ◌-◌, ◌*◌, ◌<◌, ◌≤◌, List, Some, length, min, replicate, slice_get, slice_set, IfOk, true};
 ghost use Rattle.con_units.specs.Glyph.{Glyph};
-ghost use Rattle.con_grid.specs.Picture.{filled, units_put, lifted, part_lifted, part_lowered};
-ghost use Rattle.con_grid.specs.Ring.{turned, IsSpot, IsIndex};
+ghost use Rattle.con_grid.specs.Picture.{filled, units_put, lifted, lowered, part_lifted, part_lowered};
+ghost use Rattle.con_grid.specs.Ring.{turned, copied, IsRun, IsSpot, IsIndex};
 ghost use Rattle.con_units.specs.Plain.{is_plain};
 ghost use Rattle.std.specs.List.{list_all};
 
@@ -31,34 +31,24 @@ impl Model for Ring {
     ghost invariant = { IsRing };
 }
 
-// Turns the block so that its first cell is the first.
-#[tactic(auto, unfolding(crate::specs::Ring::turned))]
-fn turn(block: &mut Vec<Cell>, top: usize)
-    requires { top ≤ length block.old.items }
-    ensures { block.new.items ≡ turned block.old.items top }
+// The block ends at a seam and goes on at its start. Cells in their order of which none, or all, lie behind the seam are a run.
+
+// How many of so many cells from a place on lie in front of the seam.
+fn front_count(block: &Vec<Cell>, top: usize, from: usize, count: usize) -> usize
+    requires { top ≤ length block.now.items }
+    ensures { result ≡ min count (length block.now.items - top - from) }
 {
-    block.rotate_left(top);
+    let seam = block.len() - top;
+    lesser(count, seam.saturating_sub(from))
 }
 
-// Where the cells from one place up to another lie in the block, which is turned where they do not lie side by side.
-fn spot(block: &mut Vec<Cell>, top: &mut usize, from: usize, upto: usize) -> usize
-    requires top { top.old ≤ length block.old.items }
-    requires order { from ≤ upto }
-    requires inside { upto ≤ length block.old.items }
-    ensures same { turned block.new.items top.new ≡ turned block.old.items top.old }
-    ensures top { top.new ≤ length block.new.items }
-    ensures spot { IsSpot block.new.items top.new from upto result }
+// Where the cells of a run lie in the block.
+fn spot(block: &Vec<Cell>, top: usize, from: usize, upto: usize) -> usize
+    requires { IsRun (length block.now.items) top from upto }
+    ensures { IsSpot block.now.items top from upto result }
 {
-    let seam = block.len() - *top;
-    if upto <= seam {
-        *top + from
-    } else if seam <= from {
-        from - seam
-    } else {
-        turn(block, *top);
-        *top = 0;
-        from
-    }
+    let seam = block.len() - top;
+    if from < seam { top + from } else { from - seam }
 }
 
 // Where the cell at a place lies in the block.
@@ -84,6 +74,95 @@ fn lesser(a: usize, b: usize) -> usize
     ensures { result ≡ min a b }
 {
     a.min(b)
+}
+
+// Writes a cell over the cells of a run.
+fn fill_run(block: &mut Vec<Cell>, top: usize, from: usize, upto: usize, cell: Cell)
+    requires { IsRun (length block.old.items) top from upto }
+    ensures len { length block.new.items ≡ length block.old.items }
+    ensures cells { turned block.new.items top ≡ filled (turned block.old.items top) from upto cell }
+{
+    let at = spot(block, top, from, upto);
+    parts::fill(block, at, at + (upto - from), cell);
+}
+
+// Writes a cell over the cells from one place up to another.
+#[tactic(auto, using(crate::proofs::RingLemmas::filled_in_two))]
+fn fill(block: &mut Vec<Cell>, top: usize, from: usize, upto: usize, cell: Cell)
+    requires top { top ≤ length block.old.items }
+    requires order { from ≤ upto }
+    requires inside { upto ≤ length block.old.items }
+    ensures len { length block.new.items ≡ length block.old.items }
+    ensures cells { turned block.new.items top ≡ filled (turned block.old.items top) from upto cell }
+{
+    let middle = from + front_count(block, top, from, upto - from);
+    fill_run(block, top, from, middle, cell);
+    fill_run(block, top, middle, upto, cell);
+}
+
+// Writes the cells that show the units in an attribute over a run.
+fn units_run(block: &mut Vec<Cell>, top: usize, at: usize, units: &[u16], attr: Attr)
+    requires { IsRun (length block.old.items) top at (at + length units.now) }
+    ensures len { length block.new.items ≡ length block.old.items }
+    ensures cells { turned block.new.items top ≡ units_put (turned block.old.items top) at units.now attr }
+{
+    let from = spot(block, top, at, at + units.len());
+    parts::put_units(block, from, units, attr);
+}
+
+// Writes the cells that show units of printable ASCII in an attribute over a run.
+fn plain_run(block: &mut Vec<Cell>, top: usize, at: usize, units: &[u16], attr: Attr)
+    requires run { IsRun (length block.old.items) top at (at + length units.now) }
+    requires plain { list_all is_plain units.now ≡ true }
+    ensures len { length block.new.items ≡ length block.old.items }
+    ensures cells { turned block.new.items top ≡ units_put (turned block.old.items top) at units.now attr }
+{
+    let from = spot(block, top, at, at + units.len());
+    parts::put_plain(block, from, units, attr);
+}
+
+// Copies the cells of a run over as many others that are a run.
+fn copy_run(block: &mut Vec<Cell>, top: usize, from: usize, to: usize, count: usize)
+    requires source { IsRun (length block.old.items) top from (from + count) }
+    requires target { IsRun (length block.old.items) top to (to + count) }
+    ensures len { length block.new.items ≡ length block.old.items }
+    ensures cells { turned block.new.items top ≡ copied (turned block.old.items top) from to count }
+{
+    let source = spot(block, top, from, from + count);
+    let target = spot(block, top, to, to + count);
+    block.copy_within(source..source + count, target);
+}
+
+// Copies so many cells from one place on to another that does not lie behind it.
+#[tactic(auto, using(crate::proofs::RingLemmas::copied_up))]
+fn copy_up(block: &mut Vec<Cell>, top: usize, from: usize, to: usize, count: usize)
+    requires top { top ≤ length block.old.items }
+    requires up { to ≤ from }
+    requires inside { from + count ≤ length block.old.items }
+    ensures len { length block.new.items ≡ length block.old.items }
+    ensures cells { turned block.new.items top ≡ copied (turned block.old.items top) from to count }
+{
+    let first = front_count(block, top, from, count);
+    let second = front_count(block, top, to, count);
+    copy_run(block, top, from, to, first);
+    copy_run(block, top, from + first, to + first, second - first);
+    copy_run(block, top, from + second, to + second, count - second);
+}
+
+// Copies so many cells from one place on to another that does not lie in front of it.
+#[tactic(auto, using(crate::proofs::RingLemmas::copied_down))]
+fn copy_down(block: &mut Vec<Cell>, top: usize, from: usize, to: usize, count: usize)
+    requires top { top ≤ length block.old.items }
+    requires down { from ≤ to }
+    requires inside { to + count ≤ length block.old.items }
+    ensures len { length block.new.items ≡ length block.old.items }
+    ensures cells { turned block.new.items top ≡ copied (turned block.old.items top) from to count }
+{
+    let first = front_count(block, top, to, count);
+    let second = front_count(block, top, from, count);
+    copy_run(block, top, from + second, to + second, count - second);
+    copy_run(block, top, from + first, to + first, second - first);
+    copy_run(block, top, from, to, first);
 }
 
 impl Ring {
@@ -131,8 +210,7 @@ impl Ring {
         requires inside { upto ≤ length self.old }
         ensures { self.new ≡ filled self.old from upto cell }
     {
-        let at = spot(&mut self.block, &mut self.top, from, upto);
-        parts::fill(&mut self.block, at, at + (upto - from), cell);
+        fill(&mut self.block, self.top, from, upto, cell);
     }
 
     /// Writes the cells that show the units in an attribute, from one place on.
@@ -140,8 +218,9 @@ impl Ring {
         requires { at + length units.now ≤ length self.old }
         ensures { self.new ≡ units_put self.old at units.now attr }
     {
-        let from = spot(&mut self.block, &mut self.top, at, at + units.len());
-        parts::put_units(&mut self.block, from, units, attr);
+        let count = front_count(&self.block, self.top, at, units.len());
+        units_run(&mut self.block, self.top, at, &units[..count], attr);
+        units_run(&mut self.block, self.top, at + count, &units[count..], attr);
     }
 
     /// Writes the cells that show units of printable ASCII in an attribute, from one place on.
@@ -150,8 +229,9 @@ impl Ring {
         requires plain { list_all is_plain units.now ≡ true }
         ensures { self.new ≡ units_put self.old at units.now attr }
     {
-        let from = spot(&mut self.block, &mut self.top, at, at + units.len());
-        parts::put_plain(&mut self.block, from, units, attr);
+        let count = front_count(&self.block, self.top, at, units.len());
+        plain_run(&mut self.block, self.top, at, &units[..count], attr);
+        plain_run(&mut self.block, self.top, at + count, &units[count..], attr);
     }
 
     /// Lifts the cells from one place up to another.
@@ -164,8 +244,9 @@ impl Ring {
             self.lift(by, cell);
             return;
         }
-        let at = spot(&mut self.block, &mut self.top, from, upto);
-        parts::lift_part(&mut self.block, at, at + (upto - from), by, cell);
+        let by = lesser(by, upto - from);
+        copy_up(&mut self.block, self.top, from + by, from, upto - from - by);
+        fill(&mut self.block, self.top, upto - by, upto, cell);
     }
 
     /// Lowers the cells from one place up to another.
@@ -174,8 +255,13 @@ impl Ring {
         requires inside { upto ≤ length self.old }
         ensures { self.new ≡ part_lowered self.old from upto by cell }
     {
-        let at = spot(&mut self.block, &mut self.top, from, upto);
-        parts::lower_part(&mut self.block, at, at + (upto - from), by, cell);
+        if upto - from == self.block.len() {
+            self.lower(by, cell);
+            return;
+        }
+        let by = lesser(by, upto - from);
+        copy_down(&mut self.block, self.top, from, from + by, upto - from - by);
+        fill(&mut self.block, self.top, from, from + by, cell);
     }
 
     /// Lifts all cells. The first ones become the last ones in their places; none else is touched.
@@ -192,6 +278,23 @@ impl Ring {
         } else {
             let end = by - seam;
             parts::fill_ends(&mut self.block, self.top, end, cell);
+            self.top = end;
+        }
+    }
+
+    /// Lowers all cells. The last ones become the first ones in their places; none else is touched.
+    pub fn lower(&mut self, by: usize, cell: Cell)
+        ensures { self.new ≡ lowered self.old by cell }
+    {
+        let count = self.block.len();
+        let by = lesser(by, count);
+        if by <= self.top {
+            let end = self.top - by;
+            parts::fill(&mut self.block, end, self.top, cell);
+            self.top = end;
+        } else {
+            let end = count - (by - self.top);
+            parts::fill_ends(&mut self.block, end, self.top, cell);
             self.top = end;
         }
     }

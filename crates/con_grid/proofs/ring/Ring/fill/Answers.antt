@@ -1,13 +1,12 @@
-use Rattle.std.proofs.Common.{◌∙◌}
-use Rattle.con_grid.proofs.StampLemmas.{whole}
-use Rattle.con_grid.proofs.RingLemmas.{in_block, fill_spot}
+use Rattle.std.proofs.Common.{ap, ◌∙◌}
+use Rattle.con_units.specs.Glyph.{Glyph}
+use Rattle.std.proofs.Common.{List}
+use Rattle.con_grid.specs.Picture.{filled}
+use Rattle.con_grid.proofs.RingLemmas.{in_block}
 use Rattle.con_grid.proofs.ring.Ring.fill.Goals as goal
 
-pub spot-at-requires-clause-inside : goal.spot-at-requires-clause-inside
-spot-at-requires-clause-inside c = in_block c.self.inside.block.items c.args.self.now c.self.inside.top c.args.upto c.self.view_is c.requires.inside
+pub fill-requires-clause-inside : goal.fill-requires-clause-inside
+fill-requires-clause-inside c = in_block c.self.inside.block.items c.args.self.now c.self.inside.top c.args.upto c.self.view_is c.requires.inside
 
 pub returns : goal.returns
-returns c =
-    let now = whole c.spot-at.new.block.len c.spot-at.new.block.items c.fill.new.cells (c.fill.auto.cells ∙ c.deref_mut.ensures.len) in
-    let is = rw c.deref_mut.ensures.value at c.fill.ensures in
-    rw (now, is) (fill_spot c.spot-at.new.block.items c.args.self.now c.spot-at.new.top c.args.from c.args.upto c.spot-at.result c.args.cell c.spot-at.ensures.spot (c.spot-at.ensures.same ∙ c.self.view_is))
+returns c = c.fill.ensures.cells ∙ ap (λ (xs : List Glyph). filled xs c.args.from c.args.upto c.args.cell) c.self.view_is

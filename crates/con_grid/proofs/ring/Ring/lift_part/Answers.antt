@@ -1,17 +1,20 @@
 use Rattle.std.proofs.Common.{◌≡◌, ◌-◌, length, ap, arith, ◌∙◌}
 use Rattle.std.proofs.lemmas.Grind.{common_steps}
-use Rattle.con_grid.proofs.StampLemmas.{whole}
-use Rattle.con_grid.proofs.RingLemmas.{in_block, lift_spot, part_all, length-turned}
+use Rattle.con_grid.proofs.RingLemmas.{in_block, part_lift_is, part_all, length-turned}
 use Rattle.con_grid.proofs.ring.Ring.lift_part.Goals as goal
 
-pub spot-at-requires-clause-inside : goal.spot-at-requires-clause-inside
-spot-at-requires-clause-inside c = in_block c.self.inside.block.items c.args.self.now c.self.inside.top c.args.upto c.self.view_is c.requires.inside
+pub copy_up-requires-clause-inside : goal.copy_up-requires-clause-inside
+copy_up-requires-clause-inside c =
+    let inside = in_block c.self.inside.block.items c.args.self.now c.self.inside.top c.args.upto c.self.view_is c.requires.inside in
+    omega (arith, inside, c.requires.order, c.lesser-by.ensures)
+
+pub fill-requires-clause-inside : goal.fill-requires-clause-inside
+fill-requires-clause-inside c =
+    let inside = in_block c.self.inside.block.items c.args.self.now c.self.inside.top c.args.upto c.self.view_is c.requires.inside in
+    omega (arith, inside, c.copy_up.ensures.len)
 
 pub returns : goal.returns
-returns c =
-    let now = whole c.spot-at.new.block.len c.spot-at.new.block.items c.lift_part.new.cells (c.lift_part.auto.cells ∙ c.deref_mut.ensures.len) in
-    let is = rw c.deref_mut.ensures.value at c.lift_part.ensures in
-    rw (now, is) (lift_spot c.spot-at.new.block.items c.args.self.now c.spot-at.new.top c.args.from c.args.upto c.spot-at.result c.args.by c.args.cell c.spot-at.ensures.spot (c.spot-at.ensures.same ∙ c.self.view_is))
+returns c = part_lift_is _ _ _ c.args.self.now _ c.args.from c.args.upto c.args.by _ c.args.cell c.self.view_is c.copy_up.ensures.cells c.fill.ensures.cells c.requires.order c.requires.inside c.lesser-by.ensures
 
 pub returns-then-upto-from : goal.returns-then-upto-from
 returns-then-upto-from c =

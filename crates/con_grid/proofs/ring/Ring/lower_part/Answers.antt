@@ -1,13 +1,23 @@
-use Rattle.std.proofs.Common.{◌∙◌}
-use Rattle.con_grid.proofs.StampLemmas.{whole}
-use Rattle.con_grid.proofs.RingLemmas.{in_block, lower_spot}
+use Rattle.std.proofs.Common.{◌≡◌, ◌-◌, length, ap, arith, ◌∙◌}
+use Rattle.std.proofs.lemmas.Grind.{common_steps}
+use Rattle.con_grid.proofs.RingLemmas.{in_block, part_lower_is, part_all_lowered, length-turned}
 use Rattle.con_grid.proofs.ring.Ring.lower_part.Goals as goal
 
-pub spot-at-requires-clause-inside : goal.spot-at-requires-clause-inside
-spot-at-requires-clause-inside c = in_block c.self.inside.block.items c.args.self.now c.self.inside.top c.args.upto c.self.view_is c.requires.inside
+pub copy_down-requires-clause-inside : goal.copy_down-requires-clause-inside
+copy_down-requires-clause-inside c =
+    let inside = in_block c.self.inside.block.items c.args.self.now c.self.inside.top c.args.upto c.self.view_is c.requires.inside in
+    omega (arith, inside, c.requires.order, c.lesser-by.ensures)
+
+pub fill-requires-clause-inside : goal.fill-requires-clause-inside
+fill-requires-clause-inside c =
+    let inside = in_block c.self.inside.block.items c.args.self.now c.self.inside.top c.args.upto c.self.view_is c.requires.inside in
+    omega (arith, inside, c.copy_down.ensures.len)
 
 pub returns : goal.returns
-returns c =
-    let now = whole c.spot-at.new.block.len c.spot-at.new.block.items c.lower_part.new.cells (c.lower_part.auto.cells ∙ c.deref_mut.ensures.len) in
-    let is = rw c.deref_mut.ensures.value at c.lower_part.ensures in
-    rw (now, is) (lower_spot c.spot-at.new.block.items c.args.self.now c.spot-at.new.top c.args.from c.args.upto c.spot-at.result c.args.by c.args.cell c.spot-at.ensures.spot (c.spot-at.ensures.same ∙ c.self.view_is))
+returns c = part_lower_is _ _ _ c.args.self.now _ c.args.from c.args.upto c.args.by _ c.args.cell c.self.view_is c.copy_down.ensures.cells c.fill.ensures.cells c.requires.order c.requires.inside c.lesser-by.ensures
+
+pub returns-then-upto-from : goal.returns-then-upto-from
+returns-then-upto-from c =
+    let e : c.len.result ≡ length c.self.inside.block.items = grind (arith, common_steps) in
+    let all : c.args.upto - c.args.from ≡ length c.args.self.now = c.if-upto-from.true ∙ e ∙ omega (arith, length-turned c.self.inside.block.items c.self.inside.top, ap length c.self.view_is) in
+    part_all_lowered c.args.self.now _ c.args.from c.args.upto c.args.by c.args.cell c.requires.order c.requires.inside all c.lower.ensures
