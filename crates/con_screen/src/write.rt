@@ -13,6 +13,7 @@ ghost use Rattle.con_screen.specs.Effect.{effect};
 
 use crate::answers::Answers;
 use crate::ends::is_end;
+use crate::front::is_printed;
 use crate::mode::Mode;
 use crate::page::Page;
 use con_vtgram::{Csi, Found, Splitter};
@@ -193,11 +194,14 @@ pub(crate) fn write_run(page: &mut Page, text: &Splitter, units: &[u16]) -> usiz
     if !text.is_clear() {
         return 0;
     }
-    if is_end(units[0]) {
-        page.end_rows(units)
-    } else {
-        page.print_run(units)
+    let first = units[0];
+    if is_end(first) {
+        return page.end_rows(units);
     }
+    if !is_printed(first) {
+        return 0;
+    }
+    page.print_run(units)
 }
 
 // Writes some units: a run, or one.

@@ -10,6 +10,9 @@ pub returns-then-is_end-clause-run : goal.returns-then-is_end-clause-run
 returns-then-is_end-clause-run c = let e = c.end_rows.ensures in
     ended_if _ c.args.units.now c.end_rows.result _ e.count (c.is_clear.ensures.clear c.if-not-is_clear.false) e.acting e.all e.effect
 
-pub returns-else-is_end-clause-run : goal.returns-else-is_end-clause-run
-returns-else-is_end-clause-run c = let e = c.print_run.ensures in
+pub returns-then-not-is_printed-clause-run : goal.returns-then-not-is_printed-clause-run
+returns-then-not-is_printed-clause-run c = none_run _
+
+pub returns-clause-run : goal.returns-clause-run
+returns-clause-run c = let e = c.print_run.ensures in
     printed_run _ (take c.print_run.result c.args.units.now) _ (c.is_clear.ensures.clear c.if-not-is_clear.false) e.all e.effect
