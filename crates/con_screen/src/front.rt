@@ -67,8 +67,7 @@ pub(crate) fn printable_front(units: &[u16], limit: usize) -> usize
     far + plain_count(&units[far..limit])
 }
 
-/// Whether the unit is no control.
-pub(crate) fn is_printed(unit: u16) -> bool
+fn is_printed(unit: u16) -> bool
     ensures { result ≡ run.is_printed unit }
 {
     (0x20 <= unit && unit <= 0x7E) || 0xA0 <= unit

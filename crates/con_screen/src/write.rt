@@ -13,7 +13,6 @@ ghost use Rattle.con_screen.specs.Effect.{effect};
 
 use crate::answers::Answers;
 use crate::ends::is_end;
-use crate::front::is_printed;
 use crate::mode::Mode;
 use crate::page::Page;
 use con_vtgram::{Csi, Found, Splitter};
@@ -195,13 +194,13 @@ pub(crate) fn write_run(page: &mut Page, text: &Splitter, units: &[u16]) -> usiz
         return 0;
     }
     let first = units[0];
+    if 0x20 <= first {
+        return page.print_run(units);
+    }
     if is_end(first) {
         return page.end_rows(units);
     }
-    if !is_printed(first) {
-        return 0;
-    }
-    page.print_run(units)
+    0
 }
 
 // Writes some units: a run, or one.

@@ -67,6 +67,7 @@ impl Page {
     }
 
     /// Those at the front act, where several may at once. Tells how many.
+    #[inline(never)]
     pub(crate) fn end_rows(&mut self, units: &[u16]) -> usize
         requires page { IsPage self.old }
         ensures page { IsPage self.new }

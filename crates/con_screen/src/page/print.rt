@@ -166,6 +166,7 @@ impl Page {
     }
 
     // Prints units at the front that are no controls.
+    #[inline(never)]
     fn print_any(&mut self, units: &[u16]) -> usize
         requires page { IsPage self.old }
         requires given { self.old.drawing ≡ false }
@@ -196,6 +197,7 @@ impl Page {
     }
 
     // Prints units at the front that are no controls, where lines are drawn.
+    #[inline(never)]
     fn print_lines(&mut self, units: &[u16]) -> usize
         requires page { IsPage self.old }
         requires given { self.old.drawing ≡ true }
