@@ -11,6 +11,7 @@ use Rattle.con_units.specs.Split.{split, with_items, split_after}
 use Rattle.con_units.specs.ReadLaws.{read_so}
 use Rattle.con_vtgram.specs.Text.{grammar, is_front, whole, is_acting}
 use Rattle.con_vtgram.specs.declared.item.Item.TheVariants.{Control}
+use Rattle.con_term.specs.Ascii.{is_ascii_byte}
 use Rattle.con_term.specs.Page.{Page, IsPage, blank, raised, lowered}
 use Rattle.con_term.specs.Effect.{control_effect, unpended, effect}
 use Rattle.con_term.specs.Ends.{is_end, all_done, one_more, feeds_in, ended}
@@ -18,7 +19,7 @@ use Rattle.con_term.specs.Terminal.{Terminal}
 use Rattle.con_term.specs.Play.{typed, play}
 use Rattle.con_term.proofs.BlockLemmas.{two_steps}
 use Rattle.con_term.proofs.FillLemmas.{append_none}
-use Rattle.con_term.proofs.AsciiLemmas.{is_ascii, ascii_split, ascii_units}
+use Rattle.con_term.proofs.AsciiLemmas.{ascii_split, ascii_units}
 
 -- ---- rows that go up
 
@@ -165,7 +166,7 @@ feeds_next bytes at feeds one lt h k = rw (take_more bytes at 0 lt, fold-append 
 
 -- ---- as bytes of a text
 
-end_ascii : (u : ℕ) → is_end u ≡ true → is_ascii u ≡ true
+end_ascii : (u : ℕ) → is_end u ≡ true → is_ascii_byte u ≡ true
 end_ascii u h = grind (arith, nat_tests)
 
 no_escape : (u : ℕ) → is_end u ≡ true → (u == 0x1B) ≡ false

@@ -8,4 +8,5 @@ pub mod EndLemmas
 pub mod FrontLemmas
 pub mod AsciiLemmas
 pub mod PlayLemmas
+pub mod DecodeLemmas
 pub mod DumpLemmas

@@ -12,6 +12,7 @@ pub mod Dump
 pub mod PlayLaws
 pub mod SidesLaws
 pub mod Run
+pub mod Ascii
 pub mod Ends
 pub mod Front
 pub mod SgrSteps

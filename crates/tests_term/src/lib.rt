@@ -6,3 +6,5 @@ pub mod callers;
 mod dumps;
 #[cfg(test)]
 mod rows;
+#[cfg(test)]
+mod units;
