@@ -20,6 +20,16 @@ pub turned-all : (s : List Glyph) (t : ℕ) → t ≡ length s → turned s t �
 unfolding turned
 turned-all s t e = grind (arith, common_steps)
 
+-- ---- another cell is the first
+
+pub moved_low : (s : List Glyph) (t by : ℕ) → t + by ≤ length s → turned s (t + by) ≡ turned (turned s t) by
+unfolding turned
+moved_low s t by few = same_lists _ _ (grind (arith, places)) (λ k d h. grind (arith, places))
+
+pub moved_high : (s : List Glyph) (t by n : ℕ) → n ≡ length s → t ≤ n → by ≤ n → n - t < by → turned s (by - (n - t)) ≡ turned (turned s t) by
+unfolding turned
+moved_high s t by n count inside few high = same_lists _ _ (grind (arith, places)) (λ k d h. grind (arith, places))
+
 -- ---- cells in front of the seam
 
 low_over : (s : List Glyph) (t from upto : ℕ) (part : List Glyph) → t ≤ length s → from ≤ upto → t + upto ≤ length s → length part ≡ upto - from
@@ -195,6 +205,14 @@ copy_spot s t from to n i j source target =
     let long : length (take n (drop i s)) ≡ n = grind (arith, places, source.inside) in
     rw (a, append_assoc (take j s) (take n (drop i s)) (drop (j + n) s)) (over (take n (drop i s)) long ∙ ap (λ (xs : List Glyph). written_over (turned s t) to (to + n) xs) (sym (rw a at part)))
 
+none_copied : (r : List Glyph) (from to n : ℕ) → n ≡ 0 → to ≤ length r → r ≡ copied r from to n
+unfolding copied
+none_copied r from to n none inside =
+    same_lists _ _ (grind (arith, places)) (λ k d h. grind (arith, places))
+
+pub copied_none : (s : List Glyph) (t from to n : ℕ) → n ≡ 0 → to + n ≤ length s → turned s t ≡ copied (turned s t) from to n
+copied_none s t from to n none inside = none_copied (turned s t) from to n none (omega (arith, none, inside, length-turned s t))
+
 -- ---- what is done in two runs
 
 pub filled_twice : (r : List Glyph) (from middle upto : ℕ) (c : Glyph) → from ≤ middle → middle ≤ upto → upto ≤ length r → filled (filled r from middle c) middle upto c ≡ filled r from upto c
@@ -282,6 +300,64 @@ units_in_two s s1 s2 r t at k us w same one two few inside =
     ∙ units_twice r at k us w few inside
 
 -- ---- parts
+
+-- the others are copied to where they stand once all are lifted or lowered
+lifted_over : (r xs : List Glyph) (from upto by : ℕ) (c : Glyph) → length xs ≡ by → from + by ≤ upto → upto ≤ length r
+    → filled (copied (take from r ++ (drop (from + by) r ++ xs)) (upto - by) upto (length r - upto)) (upto - by) upto c ≡ part_lifted r from upto by c
+unfolding copied filled part_lifted lifted
+lifted_over r xs from upto by c long few inside =
+    same_lists _ _ (grind (arith, places)) (λ k d h. grind (arith, places))
+
+front_lowered : (r : List Glyph) (from by : ℕ) → from + by ≤ length r → turned (copied r 0 by from) by ≡ take from r ++ (drop (from + by) r ++ take by (copied r 0 by from))
+unfolding copied turned
+front_lowered r from by few = same_lists _ _ (grind (arith, places)) (λ k d h. grind (arith, places))
+
+lowered_over : (r xs : List Glyph) (from upto by : ℕ) (c : Glyph) → length xs ≡ by → from + by ≤ upto → upto ≤ length r
+    → filled (copied (xs ++ (take (upto - by) r ++ drop upto r)) by 0 from) from (from + by) c ≡ part_lowered r from upto by c
+unfolding copied filled part_lowered lowered
+lowered_over r xs from upto by c long few inside =
+    same_lists _ _ (grind (arith, places)) (λ k d h. grind (arith, places))
+
+back_lifted : (r : List Glyph) (upto by : ℕ) → by ≤ upto → upto ≤ length r
+    → turned (copied r upto (upto - by) (length r - upto)) (length r - by) ≡ drop (length r - by) (copied r upto (upto - by) (length r - upto)) ++ (take (upto - by) r ++ drop upto r)
+unfolding copied turned
+back_lifted r upto by few inside = same_lists _ _ (grind (arith, places)) (λ k d h. grind (arith, places))
+
+pub most_lifted : (s s1 s2 s3 : List Glyph) (t u from upto by n : ℕ) (c : Glyph) → n ≡ length s → length s1 ≡ length s → ((block : List Glyph) → length block ≡ n → turned block u ≡ turned (turned block t) by)
+    → turned s1 t ≡ copied (turned s t) 0 by from → turned s2 u ≡ copied (turned s1 u) (upto - by) upto (n - upto) → turned s3 u ≡ filled (turned s2 u) (upto - by) upto c
+    → from + by ≤ upto → upto ≤ length s → turned s3 u ≡ part_lifted (turned s t) from upto by c
+most_lifted s s1 s2 s3 t u from upto by n c count same move one two three few inside =
+    let r = turned s t in
+    let long : length s ≡ length r = sym (length-turned s t) in
+    let first : length (take by (copied r 0 by from)) ≡ by = length-take-le by (copied r 0 by from) (omega (arith, few, inside, long, length-copied r 0 by from (omega (arith, few, inside, long)) (omega (arith, few, inside, long)))) in
+    three ∙ ap (λ (xs : List Glyph). filled xs (upto - by) upto c) (two ∙ ap (λ (xs : List Glyph). copied xs (upto - by) upto (n - upto)) (move s1 (same ∙ sym count) ∙ ap (λ (xs : List Glyph). turned xs by) one ∙ front_lowered r from by (omega (arith, few, inside, long))))
+    ∙ ap (λ k. filled (copied (take from r ++ (drop (from + by) r ++ take by (copied r 0 by from))) (upto - by) upto (k - upto)) (upto - by) upto c) (count ∙ long)
+    ∙ lifted_over r (take by (copied r 0 by from)) from upto by c first few (omega (arith, inside, long))
+
+pub most_lowered : (s s1 s2 s3 : List Glyph) (t u from upto by n : ℕ) (c : Glyph) → n ≡ length s → length s1 ≡ length s → ((block : List Glyph) → length block ≡ n → turned block u ≡ turned (turned block t) (n - by))
+    → turned s1 t ≡ copied (turned s t) upto (upto - by) (n - upto) → turned s2 u ≡ copied (turned s1 u) by 0 from → turned s3 u ≡ filled (turned s2 u) from (from + by) c
+    → from + by ≤ upto → upto ≤ length s → turned s3 u ≡ part_lowered (turned s t) from upto by c
+most_lowered s s1 s2 s3 t u from upto by n c count same move one two three few inside =
+    let r = turned s t in
+    let long : n ≡ length r = count ∙ sym (length-turned s t) in
+    let lifted_back : List Glyph = copied r upto (upto - by) (length r - upto) in
+    let last : length (drop (length r - by) lifted_back) ≡ by = length-drop (length r - by) lifted_back ∙ omega (arith, few, inside, count, long, length-copied r upto (upto - by) (length r - upto) (omega (arith, few, inside, count, long)) (omega (arith, few, inside, count, long))) in
+    let moved_is : turned s1 u ≡ turned lifted_back (length r - by) = move s1 (same ∙ sym count) ∙ ap (λ (xs : List Glyph). turned xs (n - by)) one ∙ ap (λ k. turned (copied r upto (upto - by) (k - upto)) (k - by)) long in
+    three ∙ ap (λ (xs : List Glyph). filled xs from (from + by) c) (two ∙ ap (λ (xs : List Glyph). copied xs by 0 from) (moved_is ∙ back_lifted r upto by (omega (arith, few)) (omega (arith, inside, count, long))))
+    ∙ lowered_over r (drop (length r - by) lifted_back) from upto by c last few (omega (arith, inside, count, long))
+
+-- no more cells are lifted or lowered than the part has
+pub part_lift_few : (r q : List Glyph) (from upto by few : ℕ) (c : Glyph) → from ≤ upto → upto ≤ length r → few ≡ min by (upto - from) → q ≡ part_lifted r from upto few c → q ≡ part_lifted r from upto by c
+unfolding part_lifted
+part_lift_few r q from upto by few c order inside is e =
+    let long : length (part_of r from upto) ≡ upto - from = grind (arith, places) in
+    e ∙ ap (λ (xs : List Glyph). written_over r from upto xs) (ap (λ k. lifted (part_of r from upto) k c) (is ∙ ap (λ k. min by k) (sym long)) ∙ lifted_all (part_of r from upto) by c)
+
+pub part_lower_few : (r q : List Glyph) (from upto by few : ℕ) (c : Glyph) → from ≤ upto → upto ≤ length r → few ≡ min by (upto - from) → q ≡ part_lowered r from upto few c → q ≡ part_lowered r from upto by c
+unfolding part_lowered
+part_lower_few r q from upto by few c order inside is e =
+    let long : length (part_of r from upto) ≡ upto - from = grind (arith, places) in
+    e ∙ ap (λ (xs : List Glyph). written_over r from upto xs) (ap (λ k. lowered (part_of r from upto) k c) (is ∙ ap (λ k. min by k) (sym long)) ∙ lowered_all (part_of r from upto) by c)
 
 -- what is done to the part that is all cells
 over_all : (xs : List Glyph) (f : List Glyph → List Glyph) → written_over xs 0 (length xs) (f (part_of xs 0 (length xs))) ≡ f xs

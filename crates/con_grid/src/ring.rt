@@ -70,6 +70,17 @@ fn around(top: usize, count: usize) -> usize
     if top == count { 0 } else { top }
 }
 
+// The place where the first cell stands once so many cells have become the last ones.
+fn moved(top: usize, by: usize, count: usize) -> usize
+    requires top { top ≤ count }
+    requires few { by ≤ count }
+    ensures same { (block : List Glyph) → length block ≡ count → turned block result ≡ turned (turned block top) by }
+    ensures inside { result ≤ count }
+{
+    let seam = count - top;
+    if by <= seam { top + by } else { by - seam }
+}
+
 fn lesser(a: usize, b: usize) -> usize
     ensures { result ≡ min a b }
 {
@@ -128,6 +139,9 @@ fn copy_run(block: &mut Vec<Cell>, top: usize, from: usize, to: usize, count: us
     ensures len { length block.new.items ≡ length block.old.items }
     ensures cells { turned block.new.items top ≡ copied (turned block.old.items top) from to count }
 {
+    if count == 0 {
+        return;
+    }
     let source = spot(block, top, from, from + count);
     let target = spot(block, top, to, to + count);
     block.copy_within(source..source + count, target);
@@ -163,6 +177,56 @@ fn copy_down(block: &mut Vec<Cell>, top: usize, from: usize, to: usize, count: u
     copy_run(block, top, from + second, to + second, count - second);
     copy_run(block, top, from + first, to + first, second - first);
     copy_run(block, top, from, to, first);
+}
+
+// Lifts the cells from one place up to another, which are most of them: another cell becomes the first, and those that stay
+// are copied back to their places. Tells where the first cell stands.
+#[tactic(auto, using(crate::proofs::RingLemmas::most_lifted))]
+fn lift_most(
+    block: &mut Vec<Cell>,
+    top: usize,
+    from: usize,
+    upto: usize,
+    by: usize,
+    cell: Cell,
+) -> usize
+    requires top { top ≤ length block.old.items }
+    requires few { from + by ≤ upto }
+    requires inside { upto ≤ length block.old.items }
+    ensures top { result ≤ length block.new.items }
+    ensures cells { turned block.new.items result ≡ part_lifted (turned block.old.items top) from upto by cell }
+{
+    let count = block.len();
+    copy_down(block, top, 0, by, from);
+    let first = moved(top, by, count);
+    copy_down(block, first, upto - by, upto, count - upto);
+    fill(block, first, upto - by, upto, cell);
+    first
+}
+
+// Lowers the cells from one place up to another, which are most of them: another cell becomes the first, and those that stay
+// are copied back to their places. Tells where the first cell stands.
+#[tactic(auto, using(crate::proofs::RingLemmas::most_lowered))]
+fn lower_most(
+    block: &mut Vec<Cell>,
+    top: usize,
+    from: usize,
+    upto: usize,
+    by: usize,
+    cell: Cell,
+) -> usize
+    requires top { top ≤ length block.old.items }
+    requires few { from + by ≤ upto }
+    requires inside { upto ≤ length block.old.items }
+    ensures top { result ≤ length block.new.items }
+    ensures cells { turned block.new.items result ≡ part_lowered (turned block.old.items top) from upto by cell }
+{
+    let count = block.len();
+    copy_up(block, top, upto, upto - by, count - upto);
+    let first = moved(top, count - by, count);
+    copy_up(block, first, by, 0, from);
+    fill(block, first, from, from + by, cell);
+    first
 }
 
 impl Ring {
@@ -240,11 +304,16 @@ impl Ring {
         requires inside { upto ≤ length self.old }
         ensures { self.new ≡ part_lifted self.old from upto by cell }
     {
-        if upto - from == self.block.len() {
+        let rest = self.block.len() - (upto - from);
+        if rest == 0 {
             self.lift(by, cell);
             return;
         }
         let by = lesser(by, upto - from);
+        if rest < upto - from {
+            self.top = lift_most(&mut self.block, self.top, from, upto, by, cell);
+            return;
+        }
         copy_up(&mut self.block, self.top, from + by, from, upto - from - by);
         fill(&mut self.block, self.top, upto - by, upto, cell);
     }
@@ -255,11 +324,16 @@ impl Ring {
         requires inside { upto ≤ length self.old }
         ensures { self.new ≡ part_lowered self.old from upto by cell }
     {
-        if upto - from == self.block.len() {
+        let rest = self.block.len() - (upto - from);
+        if rest == 0 {
             self.lower(by, cell);
             return;
         }
         let by = lesser(by, upto - from);
+        if rest < upto - from {
+            self.top = lower_most(&mut self.block, self.top, from, upto, by, cell);
+            return;
+        }
         copy_down(&mut self.block, self.top, from, from + by, upto - from - by);
         fill(&mut self.block, self.top, from, from + by, cell);
     }
