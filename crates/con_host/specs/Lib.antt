@@ -11,7 +11,6 @@ pub mod Summary
 pub mod Typing
 pub mod Words
 -- The code's own words and laws: pieces of a text in turn, and the fields of what types.
-pub mod Ascii
 pub mod Command
 pub mod Naming
 pub mod PlayedInTurn

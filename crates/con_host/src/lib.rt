@@ -17,7 +17,6 @@
 #![tactic(auto)]
 
 pub mod command;
-pub mod decoding;
 pub mod ending;
 pub mod framing;
 pub mod generating;

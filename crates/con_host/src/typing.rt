@@ -7,13 +7,13 @@ ghost use Rattle.con_screens.specs.Buffer.{buffer_written};
 ghost use Rattle.con_screen.specs.Told.{nothing_told};
 ghost use Rattle.con_host.specs.Typing.{Typing, opening, ended, ShowsBuffers, PrintsAtMost, Typed};
 
-use crate::decoding::decode;
 use crate::ending::{DONE, LINK, MEMORY, TERMINAL, TOO_LONG, finish};
 use crate::framing::frame;
 use crate::reading::{Listener, Reading, read_link};
 use con_outside::{Fault, Sink, Source, write_whole};
 use con_screen::Answers;
 use con_screens::Screens;
+use con_term::decode;
 use con_units::{BufferId, OutOfMemory, Size, Utf8};
 use std::alloc::Global;
 use std::marker::Model;
