@@ -45,6 +45,3 @@ pub use reply::{Lines, Numbers, Reply};
 pub use script::{Script, Scripts, Step, Steps};
 pub use session::Session;
 pub use telling::{Shows, name, tell};
-
-#[cfg(test)]
-mod tests;

@@ -23,6 +23,3 @@ pub use note::Note;
 pub use once::Once;
 pub use swallow::Swallow;
 pub use tally::Tally;
-
-#[cfg(test)]
-mod tests;

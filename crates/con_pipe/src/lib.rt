@@ -18,8 +18,6 @@ mod ends;
 mod put;
 mod signal;
 mod take;
-#[cfg(test)]
-mod tests;
 
 pub use ends::{Ends, meet, pipe};
 pub use put::PipeIn;

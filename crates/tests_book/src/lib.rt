@@ -11,6 +11,8 @@ pub mod histories;
 mod member;
 #[cfg(test)]
 mod outcome;
+#[cfg(test)]
+mod passing;
 pub mod pipes;
 #[cfg(test)]
 mod sixteen;

@@ -1,7 +1,9 @@
-//! Tests of handles and processes, as a caller sees them.
+//! Tests of handles, processes and handlers, as a caller sees them.
 #![tactic(auto)]
 
 pub mod callers;
+#[cfg(test)]
+mod chains;
 #[cfg(test)]
 mod handles;
 #[cfg(test)]

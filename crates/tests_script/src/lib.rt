@@ -12,3 +12,5 @@ mod drawn;
 mod kinds;
 #[cfg(test)]
 mod large;
+#[cfg(test)]
+mod limits;

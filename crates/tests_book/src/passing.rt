@@ -1,7 +1,7 @@
 ghost use Rattle.std.specs.Prelude.{◌≡◌, ◌<◌, ◌≤◌, true, false, IfOk};
 ghost use Rattle.con_pipe.specs.Ends.{is_finished, put_room, IsSameIn, IsSameOut};
 
-use crate::{Ends, PipeIn, PipeOut, meet, pipe};
+use con_pipe::{Ends, PipeIn, PipeOut, meet, pipe};
 use con_units::Bytes;
 use std::alloc::{AllocError, Global};
 use std::sync::Wait;

@@ -2,12 +2,8 @@
 ghost use Rattle.std.specs.Prelude.{◌≡◌};
 ghost use Rattle.con_handlers.specs.Answers.{raised};
 
-use crate::chain::{Chain, Delivered};
-use crate::handler::{CtrlHandler, one_more};
-use crate::note::Note;
-use crate::once::Once;
-use crate::swallow::Swallow;
-use crate::tally::Tally;
+use con_handlers::handler::one_more;
+use con_handlers::{Chain, CtrlHandler, Delivered, Note, Once, Swallow, Tally};
 use con_units::Code;
 use std::alloc::Global;
 use std::sync::Arc;

@@ -1,5 +1,5 @@
 // The limits of a session.
-use crate::{Script, Scripts, Session, Steps};
+use con_events::{Script, Scripts, Session, Steps};
 use con_units::{Size, Units};
 use std::alloc::Global;
 use std::test::Fail;
