@@ -69,6 +69,46 @@ fn rows_move_up_and_down(rt: HostRuntime) -> Result<(), Fail> {
     Ok(())
 }
 
+// Changes cells on both sides of the place 6, where the block ends once a row of nine cells was scrolled.
+fn change_across(grid: &mut Grid) {
+    if 9 <= grid.count() {
+        grid.fill(5, 8, cell(0x2A));
+    }
+    if 9 <= grid.count() {
+        grid.put_units(4, &[0x78, 0x79, 0x7A], Attr::of(7));
+    }
+    if 9 <= grid.count() {
+        grid.lift(5, 8, 1, cell(0x2E));
+    }
+    if 9 <= grid.count() {
+        grid.lower(4, 8, 1, cell(0x2D));
+    }
+}
+
+// Moves most of nine cells.
+fn move_most(grid: &mut Grid) {
+    if 9 <= grid.count() {
+        grid.lower(3, 9, 1, cell(0x2B));
+    }
+    if 9 <= grid.count() {
+        grid.lift(0, 7, 2, cell(0x2F));
+    }
+}
+
+#[test]
+fn cells_move_past_a_scrolled_row(rt: HostRuntime) -> Result<(), Fail> {
+    let mut grid = letters(&rt)?;
+    grid.scroll_up(1, cell(0x3D));
+    change_across(&mut grid);
+    row_is(&rt, &grid, 1, [0x20, 0x2D, 0x78], 0);
+    row_is(&rt, &grid, 2, [0x7A, 0x2A, 0x3D], 0);
+    move_most(&mut grid);
+    row_is(&rt, &grid, 0, [0x66, 0x2B, 0x20], 0);
+    row_is(&rt, &grid, 1, [0x2D, 0x78, 0x2F], 0);
+    row_is(&rt, &grid, 2, [0x2F, 0x7A, 0x2A], 0);
+    Ok(())
+}
+
 #[test]
 fn another_size_keeps_the_rows_that_stay(rt: HostRuntime) -> Result<(), Fail> {
     let mut grid = letters(&rt)?;
