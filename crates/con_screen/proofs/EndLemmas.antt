@@ -1,5 +1,5 @@
 -- Line feeds and carriage returns that act at once.
-use Rattle.std.proofs.Common.{◌≡◌, ℕ, suc, ◌+◌, ◌-◌, ◌*◌, ◌<◌, ◌≤◌, Bool, true, false, cond, ◌==◌, ◌&&◌, nat_lt, min, inl, inr, None, List, [], ◌∷◌, ◌++◌, length, take, drop, replicate, get_or, fold, refl, sym, ap, ◌∙◌, append_assoc, arith, length-drop}
+use Rattle.std.proofs.Common.{◌≡◌, ℕ, ◌+◌, ◌-◌, ◌*◌, ◌<◌, ◌≤◌, Bool, true, false, cond, ◌==◌, ◌&&◌, nat_lt, min, inl, inr, None, List, [], ◌∷◌, ◌++◌, length, take, drop, replicate, get_or, fold, refl, sym, ap, ◌∙◌, append_assoc, arith, length-drop}
 use Rattle.std.specs.List.{list_all}
 use Rattle.std.proofs.lemmas.List.{take_more, drop-append-le, drop-replicate, replicate-append-replicate, drop_all, length-take-le}
 use Rattle.std.proofs.lemmas.Grind.{common_steps}

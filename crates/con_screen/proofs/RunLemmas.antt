@@ -22,9 +22,9 @@ use Rattle.con_screen.specs.Told.{Told, Answered, told_after, is_switch}
 use Rattle.con_screen.specs.Done.{Done, DoneSome, IsRun}
 use Rattle.con_screen.specs.Parts.{has_sequences}
 use Rattle.con_screen.specs.Screen.{Screen}
-use Rattle.con_screen.specs.Written.{spoken_alone, split_in, Heard, heard, Stage, written, any_switch, switches}
+use Rattle.con_screen.specs.Written.{spoken_alone, split_in, heard, Stage, written, any_switch, switches}
 use Rattle.con_screen.specs.Run.{is_printed, print_next, all_printed, CanRun, run_cells, ran, run_of}
-use Rattle.con_screen.specs.Ends.{is_end, act_next, all_ended}
+use Rattle.con_screen.specs.Ends.{is_end, all_ended}
 use Rattle.con_screen.specs.declared.mode.Mode.{Mode}
 use Rattle.con_screen.proofs.WriteLemmas.{split_after-append, written-none, written-append, switches-none, switches-append, Stands, MoreSome}
 

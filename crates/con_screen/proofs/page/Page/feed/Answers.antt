@@ -1,5 +1,5 @@
 -- The rows are there, or some go up.
-use Rattle.std.proofs.Common.{◌≡◌, sym, ap, ◌∙◌}
+use Rattle.std.proofs.Common.{sym, ap, ◌∙◌}
 use Rattle.con_screen.specs.Page.{Page, rows_up}
 use Rattle.con_screen.specs.PageView.{page_of}
 use Rattle.con_screen.proofs.EndLemmas.{fed_inside, fed_past}
