@@ -1,9 +1,9 @@
 //! A line for an event and its answer.
 
-ghost use Rattle.std.specs.Prelude.{◌≡◌, ◌≤◌, List, [], ◌∷◌, ◌++◌, IfOk, OnOk, length, take, Option};
+ghost use Rattle.std.specs.Prelude.{◌≡◌, ◌≤◌, List, [], ◌∷◌, ◌++◌, IfOk, OnOk, OnErr, length, take, Option};
 ghost use Rattle.json.specs.Print.{escape};
 ghost use Rattle.serde_json.specs.Data.{string};
-ghost use Rattle.con_outside.specs.Outside.{Rose, then_written, WroteFront};
+ghost use Rattle.con_outside.specs.Outside.{Rose, then_written, WroteFront, WrotePart};
 ghost use Rattle.con_trace.specs.Shown.{list_of};
 ghost use Rattle.con_trace.specs.Line.{actor_text, wanted_name, event_name, wanted_data, event_data, line_data, line_text, ended};
 ghost use Rattle.con_trace.specs.Writing.{put, put_each};
@@ -174,7 +174,8 @@ pub fn line_of(alloc: Global, entry: &Entry, reply: &Reply, end: u64) -> Result<
 }
 
 /// Writes the line of an event and its answer, with its line feed. `end` is the length of the terminal's stream after a picture,
-/// and counts for nothing with other events. After a refusal a front of the line was written.
+/// and counts for nothing with other events. After a refusal a front of the line was written, and never all of it.
+#[tactic(auto, using(crate::proofs::Ended::nothing_yet))]
 pub fn write_entry<R: Sink>(
     alloc: Global,
     out: &mut R,
@@ -184,6 +185,7 @@ pub fn write_entry<R: Sink>(
 ) -> Result<(), Fault>
     ensures front { WroteFront (ended (line_text entry.now reply.now end)) (R.written out.old) (R.written out.new) }
     ensures whole { OnOk result (R.written out.new ≡ then_written (R.written out.old) (ended (line_text entry.now reply.now end))) }
+    ensures part { OnErr result (WrotePart (ended (line_text entry.now reply.now end)) (R.written out.old) (R.written out.new)) }
     ensures failed { result ≡ Err Fault.Failed → Rose (R.faults out.old) (R.faults out.new) }
     ensures never_falls { R.faults out.old ≤ R.faults out.new }
 {
