@@ -9,7 +9,7 @@ use Rattle.con_host.specs.Hosting.{Hosted}
 use Rattle.con_host.specs.Playing.{Played}
 use Rattle.con_host.specs.Sessions.{HasRun, Soloed}
 use Rattle.con_host.specs.Typing.{Typed}
-use Rattle.con_host.specs.Words.{Asked, typing, playing, running, solo, generating}
+use Rattle.con_words.specs.Words.{Asked, typing, playing, running, solo, generating}
 use Rattle.con_host.proofs.Ends.{no_memory as no_playing}
 use Rattle.con_host.proofs.Generations.{no_memory as no_generating}
 use Rattle.con_host.proofs.Lines.{part_of, nothing_yet}

@@ -5,8 +5,6 @@ pub mod WindowLemmas
 pub mod Types
 pub mod Heard
 pub mod Hosts
-pub mod Entered
-pub mod Forms
 pub mod SessionLemmas
 pub mod TellLemmas
 pub mod Generations

@@ -7,7 +7,7 @@ use Rattle.con_host.specs.Generating.{Generated}
 use Rattle.con_host.specs.Playing.{Played, Told}
 use Rattle.con_host.specs.Sessions.{HasRun, Soloed}
 use Rattle.con_host.specs.Typing.{Typed}
-use Rattle.con_host.specs.Words.{Asked, typing, playing, running, solo, generating}
+use Rattle.con_words.specs.Words.{Asked, typing, playing, running, solo, generating}
 
 -- Words that are no form: the line that says so was written, or there was no memory for it.
 pub record Refused (status : ℕ) (before left old now before_report report : Option (List ℕ)) (failed : Type 0) : Type 0 where

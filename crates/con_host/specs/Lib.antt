@@ -1,4 +1,4 @@
--- What a reader must believe: the words, the link, the last line, and how typing, playing, a session by turns and the whole call end.
+-- What a reader must believe: the link, the last line, and how typing, playing, a session by turns and the whole call end.
 pub mod Encoded
 pub mod Ending
 pub mod Foretold
@@ -9,10 +9,7 @@ pub mod Playing
 pub mod Sessions
 pub mod Summary
 pub mod Typing
-pub mod Words
 -- The code's own words and laws: pieces of a text in turn, and the fields of what types.
-pub mod Command
-pub mod Naming
 pub mod PlayedInTurn
 pub mod Telling
 pub mod TypedInTurn

@@ -16,7 +16,6 @@
 //! Never promised: that memory is there, that a read of the link returns, that `run` does, and that two of its threads run at once.
 #![tactic(auto)]
 
-pub mod command;
 pub mod ending;
 pub mod framing;
 pub mod generating;
@@ -30,7 +29,6 @@ pub mod summary;
 pub mod telling;
 pub mod text;
 pub mod typing;
-pub mod words;
 
 pub use ending::{DONE, LINK, MEMORY, REPORT, TERMINAL, TOO_LONG, USAGE};
 pub use generating::host_gen;

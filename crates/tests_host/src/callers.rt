@@ -2,7 +2,7 @@
 
 ghost use Rattle.std.specs.Prelude.{◌≡◌, ◌≢◌, map, Some, None, string_bytes};
 ghost use Rattle.con_units.specs.declared.place.Size.{Size};
-ghost use Rattle.con_host.specs.Words.{form_of, typing, playing};
+ghost use Rattle.con_words.specs.Words.{form_of, typing, playing};
 
 use con_host::{REPORT, TERMINAL, console_host};
 use con_outside::{MemoryFiles, MemorySink, MemorySource, NoGate};

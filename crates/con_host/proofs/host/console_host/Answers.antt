@@ -1,8 +1,8 @@
 use Rattle.std.proofs.Common.{◌≡◌, None, Some, map, string_bytes, ap, sym, subst, ◌∙◌, List, ℕ}
 use Rattle.std.specs.Prelude.{option_map}
 use Rattle.con_host.specs.Foretold.{IsSession}
-use Rattle.con_host.specs.Naming.{asked_of}
-use Rattle.con_host.specs.Words.{form_of, running, solo}
+use Rattle.con_words.specs.Asked.{asked_of}
+use Rattle.con_words.specs.Words.{form_of, running, solo}
 use Rattle.con_host.proofs.Hosts.{no_form, no_words, same_name, same_run}
 use Rattle.con_host.proofs.host.console_host.Goals as goal
 

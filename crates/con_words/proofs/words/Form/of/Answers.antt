@@ -1,8 +1,8 @@
 use Rattle.std.proofs.Common.{rules, sym, ◌∙◌, ◌≡◌, true, map, string_bytes}
 use Rattle.clap.specs.Words.{kind_of}
-use Rattle.con_host.specs.Naming.{are_few}
-use Rattle.con_host.proofs.Forms.{taken, refused}
-use Rattle.con_host.proofs.words.Form.of.Goals as goal
+use Rattle.con_words.specs.Naming.{are_few}
+use Rattle.con_words.proofs.Forms.{taken, refused}
+use Rattle.con_words.proofs.words.Form.of.Goals as goal
 
 pub returns-in-Ok-clause-form : goal.returns-in-Ok-clause-form
 returns-in-Ok-clause-form c =

@@ -24,8 +24,8 @@ pub enum Form<'a> {
 }
 
 impl<'a> Form<'a> {
-    ghost use Rattle.con_host.specs.Words.{form_of, IsWindowed};
-    ghost use Rattle.con_host.specs.Naming.{asked_of};
+    ghost use Rattle.con_words.specs.Words.{form_of};
+    ghost use Rattle.con_words.specs.Asked.{asked_of, IsWindowed};
 
     /// The form that the words are, and `None` where they are none: `type` alone, `play` with a size of 1 to 512
     /// by 1 to 256, in decimal digits without a sign or a leading zero, joined by `x`, `run` or `solo` with a name, or `gen` with a number of 0 to
@@ -45,8 +45,9 @@ impl<'a> Form<'a> {
     }
 }
 
-ghost use Rattle.con_host.specs.Words.{is_word, is_first, is_digit, number_of, side_of, size_of, is_x, digit_of, with_digit, spelled_after, seed_of, IsWindow, IsWindowed};
-ghost use Rattle.con_host.specs.Naming.{are_few, asked_of, of_size, of_name, of_number, of_run, form_named, form_met};
+ghost use Rattle.con_words.specs.Words.{is_word, is_first, is_digit, number_of, side_of, size_of, is_x, digit_of, with_digit, spelled_after, seed_of, IsWindow};
+ghost use Rattle.con_words.specs.Asked.{asked_of, IsWindowed};
+ghost use Rattle.con_words.specs.Naming.{are_few, of_size, of_name, of_number, of_run, form_named, form_met};
 ghost use Rattle.std.specs.Prelude.{true, false, option_map};
 ghost use Rattle.std.specs.List.{list_all};
 ghost use Rattle.clap.specs.Words.{subcommand_rows_of};

@@ -3,8 +3,6 @@ use Rattle.std.specs.Prelude.{ℕ, ◌+◌, ◌-◌, ◌*◌, ◌<◌, ◌≤◌
 use Rattle.std.specs.List.{list_all, position}
 use Rattle.std.specs.Str.{bytes_eq}
 use Rattle.con_units.specs.declared.place.Size.{Size}
-use Rattle.con_host.specs.declared.words.Form.{Form}
-use Rattle.con_host.specs.declared.words.Form.TheVariants as form
 
 -- what the words ask for: a text to be typed, bytes to be played at a size, the session of a file by threads or by turns, the generated session of a number
 pub data Asked : Type 0 where
@@ -78,13 +76,6 @@ seed_of (byte ∷ bytes) = if byte == 0x30 then zero_alone bytes else spelled_af
 -- a window's size
 abbrev pub IsWindow : Size → Type 0
 IsWindow size = (0 < size.w) × (0 < size.h) × (size.w ≤ 512) × (size.h ≤ 256)
-
-abbrev pub IsWindowed : Form → Type 0
-IsWindowed form.Type = Unit {0}
-IsWindowed (form.Play size) = IsWindow size
-IsWindowed (form.Run name) = Unit {0}
-IsWindowed (form.Solo name) = Unit {0}
-IsWindowed (form.Gen seed) = Unit {0}
 
 abbrev pub at_size : Option Size → Option Asked
 at_size None = None

@@ -1,8 +1,8 @@
 use Rattle.std.proofs.Common.{rules, ap, ap₂, codes, ◌≡◌, ◌∙◌}
 use Rattle.std.proofs.lemmas.Result.{IfOk-weaker}
 use Rattle.clap.specs.Words.{App, app_of, new_app, with_subcommand}
-use Rattle.con_host.specs.Command.{bare, taking}
-use Rattle.con_host.proofs.command.command.Goals as goal
+use Rattle.con_words.specs.Command.{bare, taking}
+use Rattle.con_words.proofs.command.command.Goals as goal
 
 pub returns : goal.returns
 returns c =

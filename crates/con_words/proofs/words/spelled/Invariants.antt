@@ -1,7 +1,7 @@
 -- The number so far, and the digits that are still to come.
 use Rattle.std.proofs.Common.{◌≡◌, drop}
-use Rattle.con_host.specs.Words.{spelled_after}
-use Rattle.con_host.proofs.words.spelled.Given as goal
+use Rattle.con_words.specs.Words.{spelled_after}
+use Rattle.con_words.proofs.words.spelled.Given as goal
 
 abbrev pub invariant-loop-byte : goal.invariant-loop-byte
 invariant-loop-byte l = spelled_after l.number (drop l.byte-index l.digits) ≡ spelled_after 0 l.digits

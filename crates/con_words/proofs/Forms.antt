@@ -11,9 +11,9 @@ use Rattle.clap.specs.Words.{fault_of, subcommand_of, Text, Row, Kinds, IsAmong}
 use Rattle.clap.specs.declared.error.kind.ErrorKind.{ErrorKind}
 use Rattle.clap.specs.declared.error.kind.ErrorKind.TheVariants as kind
 use Rattle.clap.proofs.OnLiterals.{clap_on_literals}
-use Rattle.con_host.specs.Command.{host, first_word}
-use Rattle.con_host.specs.Naming.{form_named, form_met, are_few}
-use Rattle.con_host.specs.Words.{Asked, is_word, of_words, form_of}
+use Rattle.con_words.specs.Command.{host, first_word}
+use Rattle.con_words.specs.Naming.{form_named, form_met, are_few}
+use Rattle.con_words.specs.Words.{Asked, is_word, of_words, form_of}
 
 -- the words are a form, and the command takes them; or they are none, and it does not
 abbrev pub Reads : List Text → Type 0

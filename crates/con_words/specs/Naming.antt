@@ -2,18 +2,8 @@
 use Rattle.std.specs.Prelude.{Bool, true, false, ◌&&◌, List, [], ◌∷◌, Option, Some, None, codes, option_and_then, option_map, if◌then◌else◌}
 use Rattle.std.specs.Str.{bytes_eq}
 use Rattle.clap.specs.Words.{Row, Text}
-use Rattle.con_host.specs.Command.{Named, first_word}
-use Rattle.con_host.specs.Words.{Asked, typing, playing, running, solo, generating, at_size, of_seed, is_word, size_of, seed_of}
-use Rattle.con_host.specs.declared.words.Form.{Form}
-use Rattle.con_host.specs.declared.words.Form.TheVariants as form
-
--- what a form asks for
-abbrev pub asked_of : Form → Asked
-asked_of form.Type = typing
-asked_of (form.Play size) = playing size
-asked_of (form.Run name) = running name.now
-asked_of (form.Solo name) = solo name.now
-asked_of (form.Gen seed) = generating seed
+use Rattle.con_words.specs.Command.{Named, first_word}
+use Rattle.con_words.specs.Words.{Asked, typing, running, solo, at_size, of_seed, is_word, size_of, seed_of}
 
 abbrev pub of_size : Option Text → Option Asked
 of_size None = None
