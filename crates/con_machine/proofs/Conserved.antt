@@ -13,18 +13,14 @@ use Rattle.con_events.specs.declared.event.Event.{Event}
 use Rattle.con_events.specs.declared.event.Event.TheVariants as events
 use Rattle.con_events.specs.declared.event.Wanted.{Wanted}
 use Rattle.con_events.specs.declared.event.Wanted.TheVariants as wanted
-use Rattle.con_events.specs.declared.reply.Reply.{Reply}
 use Rattle.con_events.specs.declared.reply.Reply.TheVariants as replies
-use Rattle.con_handles.specs.Handles.{new_number}
 use Rattle.con_handles.specs.declared.handle.Kind.TheVariants as kind
 use Rattle.con_handles.specs.declared.handle.Object.{Object}
-use Rattle.con_handles.specs.declared.handle.Object.TheVariants as object
-use Rattle.con_alias.specs.Aliases.{AliasList, Entry as AliasEntry, alias_at, add_answer, remove_answer}
+use Rattle.con_alias.specs.Aliases.{AliasList}
 use Rattle.con_history.specs.Histories.{LineHistories}
 use Rattle.con_procs.specs.Procs.{ids_of, add_answer as add_handler_answer, remove_answer as remove_handler_answer}
 use Rattle.con_mouse.specs.Reports.{report_of}
 use Rattle.con_mouse.specs.declared.report.Report.{Report}
-use Rattle.con_readers.specs.Act.{Act, began, typed, passed, ended, woke}
 use Rattle.con_readers.specs.Pieces.{front, pieces_of, joined}
 use Rattle.con_readers.specs.Reads.{settled, answer_in, is_open_line, without, place_of}
 use Rattle.con_readers.specs.Serving.{is_done, served}
@@ -35,18 +31,13 @@ use Rattle.con_records.specs.declared.record.Key.{Key}
 use Rattle.con_records.specs.declared.record.Record.{Record}
 use Rattle.con_vtin.specs.Keys.{quieted}
 use Rattle.con_vtin.specs.Pieces.{Piece as Bytes, Typed, Ended, piece_grammar}
-use Rattle.con_screen.specs.ModeSet.{mode_set}
-use Rattle.con_screens.specs.Buffers.{screen_at, free_id}
-use Rattle.con_machine.specs.State.{State, noted_of, without_noted, rest_in, id_of}
-use Rattle.con_machine.specs.Outcome.{Outcome, refused, answered, done, by_answer, by_result, while_open, guard, with_object, buffer_of, checked, has_bit, are_rights}
-use Rattle.con_machine.specs.HandleCalls.{opened, opened_at, buffer_made, created_buffer, opened_out, opened_in, closed_handle, duplicated, activated, owned}
-use Rattle.con_machine.specs.ScreenCalls.{with_screen, is_input_mode, mode_changed, told_mode, set_mode, told_info, set_size, set_cursor, told_cursor, set_cursor_info, set_origin, set_attr, told_title, set_title, written_to}
-use Rattle.con_machine.specs.CellCalls.{cells_of, are_cells, rect_answer, run_answer, at_place, read_rect, wrote_rect, read_run_units, read_run_words, wrote_run_units, wrote_run_words, filled_units, filled_words, scrolled_cells}
-use Rattle.con_machine.specs.InputCalls.{peeked, counted}
-use Rattle.con_machine.specs.LineCalls.{told_alias_in, told_history_info, set_history, listed_history, cleared_history, added_alias, removed_alias, told_alias, listed_aliases}
-use Rattle.con_machine.specs.ProcessCalls.{on_place, listed_processes, is_no_signal, sent_signal, set_ignore, added_handler, removed_handler}
+use Rattle.con_machine.specs.State.{State, noted_of, without_noted, rest_in}
+use Rattle.con_machine.specs.Outcome.{Outcome, refused, answered, done, by_answer, while_open, guard, with_object, buffer_of, has_bit}
+use Rattle.con_machine.specs.HandleCalls.{closed_handle, owned}
+use Rattle.con_machine.specs.ScreenCalls.{written_to}
+use Rattle.con_machine.specs.ProcessCalls.{on_place, is_no_signal, sent_signal, set_ignore, added_handler, removed_handler}
 use Rattle.con_machine.specs.Call.{called}
-use Rattle.con_machine.specs.Serving.{settled_state, followed, line_shown, line_finished, shows_line}
+use Rattle.con_machine.specs.Serving.{settled_state}
 use Rattle.con_machine.specs.Signals.{signalled_to}
 use Rattle.con_machine.specs.Closing.{closing, hung_up, all_wait}
 use Rattle.con_machine.specs.Reads.{began as read_began, collected, took_ctrl, left, answer_told, began_read, began_line, began_units, read_answer, records_answer, history_used, is_empty, line_begun, rest_answered}
@@ -55,6 +46,8 @@ use Rattle.con_machine.specs.Terminal.{fed, quiet, resized, is_break, records_of
 use Rattle.con_machine.specs.Step.{effect, step, is_outside, client_of, finished}
 use Rattle.con_machine.specs.History.{run}
 use Rattle.con_machine.specs.declared.noted.Noted.{Noted}
+use Rattle.con_machine.specs.CallLaws.{Parts, stands}
+use Rattle.con_machine.specs.EventLaws.{settled_shows}
 use Rattle.con_machine.specs.Fates.{reports_in, no_begins, pieces, Piece, Served, CutOff, Begins, by_read, taken_by, interrupted_by, interrupted, cut_off, hung_pieces, closing_pieces, signal_pieces, end_pieces, served_pieces, records_written, reports_written, call_arrivals, keys_arrivals, report_arrivals, bytes_arrivals, all_bytes_arrivals, fed_arrivals, size_arrivals, effect_arrivals, step_arrivals, arrived, flushed_pieces, call_pieces, key_pieces, keys_pieces, bytes_pieces, all_bytes_pieces, fed_pieces, effect_pieces, step_pieces, begins_after, pieces_from}
 
 unfoldable pub WholeReads : Type 0
@@ -125,28 +118,8 @@ alike : (b : Bool) (x y : State) (rs : List Record) → x.records ≡ rs → y.r
 alike true x y rs h k = h
 alike false x y rs h k = k
 
-pub followed_keeps : (s : State) (a : Act) → (followed s a).records ≡ s.records
-followed_keeps s (began p) = refl
-followed_keeps s (typed p old new echo) = shown (noted_of s.noted p)
-  where
-    shown : (n : Option Noted) → (line_shown s n old new).records ≡ s.records
-    shown None = refl
-    shown (Some n) = alike (shows_line s.buffers n) _ s s.records refl refl
-followed_keeps s (passed p) = refl
-followed_keeps s (ended p read len) = shown (noted_of s.noted p)
-  where
-    shown : (n : Option Noted) → (line_finished s n len).records ≡ s.records
-    shown None = refl
-    shown (Some n) = alike (shows_line s.buffers n) _ s s.records refl refl
-followed_keeps s (woke p line) = refl
-
-all_followed : (s : State) (acts : List Act) → (fold followed s acts).records ≡ s.records
-all_followed s [] = refl
-all_followed s (a ∷ acts) = all_followed (followed s a) acts ∙ followed_keeps s a
-
 pub settled_records : (s : State) → (settled_state s).records ≡ (settled s.aliases s.reads s.records s.histories).records
-unfolding settled_state
-settled_records s = let t = settled s.aliases s.reads s.records s.histories in all_followed (record s { reads = t.reads; records = t.records; histories = t.histories }) t.acts
+settled_records s = ap (λ (x : State). x.records) (settled_shows s).is
 
 pub served_keeps : WholeReads → (begins : Begins) (s : State) → joined (served_pieces begins s) ++ (settled_state s).records ≡ s.records
 unfolding WholeReads served_pieces
@@ -236,30 +209,6 @@ answer_keeps : (s : State) (r : Result (Unit {0}) Code) (t : State) → t.record
 answer_keeps s (Err why) t h = refl
 answer_keeps s (Ok u) t h = h
 
-result_keeps : {A : Type 0} → (s : State) (r : Result A Code) (t : State) (f : A → Reply) → t.records ≡ s.records → (by_result s r t f).after.records ≡ s.records
-result_keeps s (Err why) t f h = refl
-result_keeps s (Ok a) t f h = h
-
-made_keeps : (s : State) (p rights : ℕ) (n : Result ℕ Code) (id : Option ℕ) → (buffer_made s p rights n id).after.records ≡ s.records
-made_keeps s p rights (Err why) id = refl
-made_keeps s p rights (Ok n) None = refl
-made_keeps s p rights (Ok n) (Some id) = refl
-
-opened_at_keeps : (s : State) (p : ℕ) (o : Object) (rights : ℕ) (n : Result ℕ Code) → (opened_at s p o rights n).after.records ≡ s.records
-opened_at_keeps s p o rights (Err why) = refl
-opened_at_keeps s p o rights (Ok n) = refl
-
-opened_keeps : (s : State) (p : ℕ) (o : Object) (rights : ℕ) → (opened s p o rights).after.records ≡ s.records
-opened_keeps s p o rights = either (are_rights rights) (opened_at s p o rights (new_number s.handles p)) (refused s code.BadArgument) s.records (opened_at_keeps s p o rights (new_number s.handles p)) refl
-
-mode_keeps : (s : State) (n : ℕ) (o : Object) → (mode_changed s n o).after.records ≡ s.records
-mode_keeps s n object.Input = answer_keeps s (checked (is_input_mode n)) (record s { mode = n }) refl
-mode_keeps s n (object.Output id) = answer_keeps s (checked (nat_lt n 0x10)) (with_screen s id.0 (mode_set (screen_at s.buffers id.0) n)) refl
-
-alias_keeps : (s : State) (e : Option AliasEntry) → (told_alias_in s e).after.records ≡ s.records
-alias_keeps s None = refl
-alias_keeps s (Some e) = refl
-
 place_keeps : (s : State) (place : ℕ) (o : Outcome) → o.after.records ≡ s.records → (on_place s place o).after.records ≡ s.records
 place_keeps s place o h = either (nat_le place 255) o (refused s code.BadArgument) s.records h refl
 
@@ -292,50 +241,15 @@ same_beside s o ps none h = same s o h ∙ ap (λ (rs : List Record). rs ++ o.af
 
 call_keeps : (begins : Begins) (place : ℕ) (s : State) (p : ℕ) (c : Call) → s.records ++ call_arrivals s p c ≡ joined (call_pieces begins place s p c) ++ (called s p c).after.records
 unfolding called joined
-call_keeps begins place s p (calls.BufferCreate rights) = same s (created_buffer s p rights) (open_keeps s _ (either (are_rights rights) (buffer_made s p rights (new_number s.handles p) (free_id s.buffers)) (refused s code.BadArgument) s.records (made_keeps s p rights (new_number s.handles p) (free_id s.buffers)) refl))
-call_keeps begins place s p (calls.OpenOut rights) = same s (opened_out s p rights) (open_keeps s _ (opened_keeps s p (object.Output (id_of s.buffers.active)) rights))
-call_keeps begins place s p (calls.OpenIn rights) = same s (opened_in s p rights) (open_keeps s _ (opened_keeps s p object.Input rights))
 call_keeps begins place s p (calls.Close h) = same s (closed_handle s p h) (object_keeps s (owned s p h) _ (λ o. refl))
-call_keeps begins place s p (calls.Duplicate h rights) = same s (duplicated s p h rights) (object_keeps s (guard s p h kind.Any (if are_rights rights then rights else 0)) _ (λ o. opened_keeps s p o rights))
-call_keeps begins place s p (calls.Activate h) = same s (activated s p h) (object_keeps s (guard s p h kind.Output 2) _ (λ o. refl))
-call_keeps begins place s p (calls.Mode h) = same s (told_mode s p h) (object_keeps s (guard s p h kind.Any 1) _ (λ o. refl))
-call_keeps begins place s p (calls.SetMode h mode) = same s (set_mode s p h mode) (object_keeps s (guard s p h kind.Any 2) _ (mode_keeps s mode))
-call_keeps begins place s p (calls.Info h) = same s (told_info s p h) (object_keeps s (guard s p h kind.Output 1) _ (λ o. refl))
-call_keeps begins place s p (calls.SetSize handle w h) = same s (set_size s p handle w h) (object_keeps s (guard s p handle kind.Output 2) _ (λ o. answer_keeps s _ _ refl))
-call_keeps begins place s p (calls.SetCursor h x y) = same s (set_cursor s p h x y) (object_keeps s (guard s p h kind.Output 2) _ (λ o. answer_keeps s _ _ refl))
-call_keeps begins place s p (calls.CursorInfo h) = same s (told_cursor s p h) (object_keeps s (guard s p h kind.Output 1) _ (λ o. refl))
-call_keeps begins place s p (calls.SetCursorInfo h size visible) = same s (set_cursor_info s p h size visible) (object_keeps s (guard s p h kind.Output 2) _ (λ o. answer_keeps s _ _ refl))
-call_keeps begins place s p (calls.SetOrigin h x y) = same s (set_origin s p h x y) (object_keeps s (guard s p h kind.Output 2) _ (λ o. answer_keeps s _ _ refl))
-call_keeps begins place s p (calls.SetAttr h word) = same s (set_attr s p h word) (object_keeps s (guard s p h kind.Output 2) _ (λ o. refl))
-call_keeps begins place s p calls.Title = same s (told_title s) (open_keeps s _ refl)
-call_keeps begins place s p (calls.SetTitle text) = same s (set_title s text) (open_keeps s _ (either (nat_le (length text) 255) (done (record s { title = text })) (refused s code.BadArgument) s.records refl refl))
 call_keeps begins place s p (calls.Write h units) = reports_by s units (guard s p h kind.Output 2)
-call_keeps begins place s p (calls.RectRead h rect) = same s (read_rect s p h rect) (object_keeps s (guard s p h kind.Output 1) _ (λ o. refl))
-call_keeps begins place s p (calls.RectWrite h rect text words) = same s (wrote_rect s p h rect text words) (object_keeps s (guard s p h kind.Output 2) _ (λ o. either (are_cells rect text words) _ (refused s code.BadArgument) s.records (result_keeps s (rect_answer (cells_of s (buffer_of o)) rect) _ _ refl) refl))
-call_keeps begins place s p (calls.RunReadUnits h x y n) = same s (read_run_units s p h x y n) (object_keeps s (guard s p h kind.Output 1) _ (λ o. refl))
-call_keeps begins place s p (calls.RunReadAttrs h x y n) = same s (read_run_words s p h x y n) (object_keeps s (guard s p h kind.Output 1) _ (λ o. refl))
-call_keeps begins place s p (calls.RunWriteUnits h x y text) = same s (wrote_run_units s p h x y text) (object_keeps s (guard s p h kind.Output 2) _ (λ o. result_keeps s (run_answer (cells_of s (buffer_of o)) (at_place x y) (length text)) _ _ refl))
-call_keeps begins place s p (calls.RunWriteAttrs h x y words) = same s (wrote_run_words s p h x y words) (object_keeps s (guard s p h kind.Output 2) _ (λ o. result_keeps s (run_answer (cells_of s (buffer_of o)) (at_place x y) (length words)) _ _ refl))
-call_keeps begins place s p (calls.FillUnits h x y n unit) = same s (filled_units s p h x y n unit) (object_keeps s (guard s p h kind.Output 2) _ (λ o. refl))
-call_keeps begins place s p (calls.FillAttrs h x y n word) = same s (filled_words s p h x y n word) (object_keeps s (guard s p h kind.Output 2) _ (λ o. refl))
-call_keeps begins place s p (calls.Scroll h rect clip x y unit word) = same s (scrolled_cells s p h rect clip x y unit word) (object_keeps s (guard s p h kind.Output 2) _ (λ o. refl))
-call_keeps begins place s p (calls.Peek h n) = same s (peeked s p h n) (object_keeps s (guard s p h kind.Input 1) _ (λ o. refl))
 call_keeps begins place s p (calls.WriteInput h records) = records_by s records (guard s p h kind.Input 2)
-call_keeps begins place s p (calls.Count h) = same s (counted s p h) (object_keeps s (guard s p h kind.Input 1) _ (λ o. refl))
 call_keeps begins place s p (calls.Flush h) = flushed_by place s (guard s p h kind.Input 2)
-call_keeps begins place s p calls.HistoryInfo = same s (told_history_info s) (open_keeps s _ refl)
-call_keeps begins place s p (calls.SetHistory lines number flag) = same s (set_history s lines number flag) (open_keeps s _ (answer_keeps s _ _ refl))
-call_keeps begins place s p calls.HistoryList = same s (listed_history s p) (open_keeps s _ refl)
-call_keeps begins place s p calls.HistoryClear = same s (cleared_history s p) (open_keeps s _ refl)
-call_keeps begins place s p (calls.AliasAdd program source target) = same s (added_alias s program source target) (open_keeps s _ (answer_keeps s (add_answer s.aliases program source target) _ refl))
-call_keeps begins place s p (calls.AliasRemove program source) = same s (removed_alias s program source) (open_keeps s _ (answer_keeps s (remove_answer s.aliases program source) _ refl))
-call_keeps begins place s p (calls.AliasGet program source) = same s (told_alias s program source) (open_keeps s _ (alias_keeps s (alias_at s.aliases program source)))
-call_keeps begins place s p (calls.AliasList program) = same s (listed_aliases s program) (open_keeps s _ refl)
-call_keeps begins place s p calls.Processes = same s (listed_processes s) (open_keeps s _ refl)
 call_keeps begins place s p (calls.Signal event group) = same_beside s (sent_signal s event group) (signal_pieces begins s event group) (signal-none begins s event group) (open_keeps s _ (either (is_no_signal s.procs event group) (refused s code.BadArgument) (done (signalled_to s event group)) s.records refl (signalled_keeps s event group)))
 call_keeps begins place s p (calls.Ignore on) = same s (set_ignore s p on) (open_keeps s _ refl)
 call_keeps begins place s p (calls.HandlerAdd k) = same s (added_handler s p k) (open_keeps s _ (place_keeps s k _ (answer_keeps s (add_handler_answer s.procs p k) _ refl)))
 call_keeps begins place s p (calls.HandlerRemove k) = same s (removed_handler s p k) (open_keeps s _ (place_keeps s k _ (answer_keeps s (remove_handler_answer s.procs p k) _ refl)))
+call_keeps begins place s p c = same s (called s p c) (ap (λ (x : Parts). x.records) (stands s p c refl).is)
 
 -- ---- reads begin, and are collected
 

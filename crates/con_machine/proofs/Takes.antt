@@ -12,17 +12,13 @@ use Rattle.con_events.specs.declared.call.Call.TheVariants as calls
 use Rattle.con_events.specs.declared.event.Event.{Event}
 use Rattle.con_events.specs.declared.event.Event.TheVariants as events
 use Rattle.con_events.specs.declared.reply.Reply.{Reply}
-use Rattle.con_handles.specs.Handles.{new_number}
 use Rattle.con_handles.specs.declared.handle.Kind.TheVariants as kind
 use Rattle.con_handles.specs.declared.handle.Object.{Object}
-use Rattle.con_handles.specs.declared.handle.Object.TheVariants as object
-use Rattle.con_alias.specs.Aliases.{AliasList, Entry as AliasEntry, alias_at, add_answer, remove_answer}
-use Rattle.con_cooked.specs.declared.cooked.Cooked.{Cooked}
+use Rattle.con_alias.specs.Aliases.{AliasList}
 use Rattle.con_history.specs.Histories.{LineHistories}
 use Rattle.con_procs.specs.Procs.{ids_of, signalled, add_answer as add_handler_answer, remove_answer as remove_handler_answer}
 use Rattle.con_mouse.specs.Reports.{report_of}
 use Rattle.con_mouse.specs.declared.report.Report.{Report}
-use Rattle.con_readers.specs.Act.{Act, began, typed, passed, ended, woke}
 use Rattle.con_readers.specs.Pieces.{front}
 use Rattle.con_readers.specs.Reads.{settled, is_open, is_open_line, all_closed, line_aborted, answer_in, without, place_of}
 use Rattle.con_readers.specs.Serving.{is_done, served}
@@ -34,18 +30,14 @@ use Rattle.con_records.specs.declared.record.Key.{Key}
 use Rattle.con_records.specs.declared.record.Record.{Record}
 use Rattle.con_vtin.specs.Keys.{quieted}
 use Rattle.con_vtin.specs.Pieces.{Piece as Bytes, Typed, Ended, piece_grammar}
-use Rattle.con_screen.specs.ModeSet.{mode_set}
-use Rattle.con_screens.specs.Buffers.{screen_at, free_id}
-use Rattle.con_machine.specs.State.{State, noted_of, without_noted, id_of}
-use Rattle.con_machine.specs.Outcome.{Outcome, refused, done, by_answer, by_result, while_open, guard, with_object, buffer_of, checked, has_bit, are_rights}
-use Rattle.con_machine.specs.HandleCalls.{opened, opened_at, buffer_made, created_buffer, opened_out, opened_in, closed_handle, duplicated, activated, owned as object_owned}
-use Rattle.con_machine.specs.ScreenCalls.{with_screen, is_input_mode, mode_changed, told_mode, set_mode, told_info, set_size, set_cursor, told_cursor, set_cursor_info, set_origin, set_attr, told_title, set_title, wrote}
-use Rattle.con_machine.specs.CellCalls.{cells_of, are_cells, rect_answer, run_answer, at_place, read_rect, wrote_rect, read_run_units, read_run_words, wrote_run_units, wrote_run_words, filled_units, filled_words, scrolled_cells}
-use Rattle.con_machine.specs.InputCalls.{peeked, wrote_input, counted}
-use Rattle.con_machine.specs.LineCalls.{told_alias_in, told_history_info, set_history, listed_history, cleared_history, added_alias, removed_alias, told_alias, listed_aliases}
-use Rattle.con_machine.specs.ProcessCalls.{on_place, listed_processes, is_no_signal, sent_signal, set_ignore, added_handler, removed_handler}
+use Rattle.con_machine.specs.State.{State, noted_of, without_noted}
+use Rattle.con_machine.specs.Outcome.{Outcome, refused, done, by_answer, by_result, while_open, guard, with_object, has_bit}
+use Rattle.con_machine.specs.HandleCalls.{closed_handle, owned as object_owned}
+use Rattle.con_machine.specs.ScreenCalls.{wrote}
+use Rattle.con_machine.specs.InputCalls.{wrote_input}
+use Rattle.con_machine.specs.ProcessCalls.{on_place, is_no_signal, sent_signal, set_ignore, added_handler, removed_handler}
 use Rattle.con_machine.specs.Call.{called}
-use Rattle.con_machine.specs.Serving.{settled_state, followed, line_shown, line_finished, shows_line}
+use Rattle.con_machine.specs.Serving.{settled_state}
 use Rattle.con_machine.specs.Signals.{signalled_to}
 use Rattle.con_machine.specs.Closing.{closing, hung_up, all_wait}
 use Rattle.con_machine.specs.Reads.{collected, took_ctrl, left, answer_told}
@@ -53,6 +45,8 @@ use Rattle.con_machine.specs.Painting.{painted}
 use Rattle.con_machine.specs.Terminal.{fed, quiet, resized, is_break, records_of, key_taken, piece_taken, by_report, sequence_taken, asked, drained}
 use Rattle.con_machine.specs.Step.{effect, finished}
 use Rattle.con_machine.specs.declared.noted.Noted.{Noted}
+use Rattle.con_machine.specs.CallLaws.{Parts, stands}
+use Rattle.con_machine.specs.EventLaws.{settled_shows}
 use Rattle.con_machine.specs.Fates.{Begin, Earlier, is_taker, read_of, How, Served, Emptied, Interrupted, CutOff, Taker, Begun, Flushed, Piece, Begins, by_read, taken_by, interrupted, interrupted_by, cut_off, hung_pieces, closing_pieces, signal_pieces, end_pieces, served_pieces, flushed_pieces, call_pieces, key_pieces, keys_pieces, bytes_pieces, all_bytes_pieces, fed_pieces, effect_pieces}
 use Rattle.con_machine.specs.Answers.{by_how, read_after}
 use Rattle.con_machine.proofs.Woken.{NoteTold, told_of, waked, waked_none, waked_on, woke_of, settled_note, without_other, without_own}
@@ -159,6 +153,9 @@ moves begins s t mine none note bare = record {
 abbrev pub held : State → List Open × List Noted
 held s = (s.reads, s.noted)
 
+abbrev held_of : Parts → List Open × List Noted
+held_of x = (x.reads, x.noted)
+
 pub stays : (begins : Begins) (s t : State) → held t ≡ held s → Goes begins s [] t
 unfolding noted_at Bare
 stays begins s t same =
@@ -175,32 +172,8 @@ chooses begins s false ps qs x y h g = g
 
 -- ---- serving, and ends
 
-alike : (b : Bool) (x y : State) (os : List Open) → x.reads ≡ os → y.reads ≡ os → (if b then x else y).reads ≡ os
-alike true x y os h k = h
-alike false x y os h k = k
-
-shown_reads : (s : State) (n : Option Noted) (old new : Cooked) → (line_shown s n old new).reads ≡ s.reads
-shown_reads s None old new = refl
-shown_reads s (Some n) old new = alike (shows_line s.buffers n) _ s s.reads refl refl
-
-finished_reads : (s : State) (n : Option Noted) (len : ℕ) → (line_finished s n len).reads ≡ s.reads
-finished_reads s None len = refl
-finished_reads s (Some n) len = alike (shows_line s.buffers n) _ s s.reads refl refl
-
-followed_reads : (s : State) (a : Act) → (followed s a).reads ≡ s.reads
-followed_reads s (began p) = refl
-followed_reads s (typed p old new echo) = shown_reads s (noted_of s.noted p) old new
-followed_reads s (passed p) = refl
-followed_reads s (ended p read len) = finished_reads s (noted_of s.noted p) len
-followed_reads s (woke p line) = refl
-
-all_followed : (s : State) (acts : List Act) → (fold followed s acts).reads ≡ s.reads
-all_followed s [] = refl
-all_followed s (a ∷ acts) = all_followed (followed s a) acts ∙ followed_reads s a
-
 pub settled_reads : (s : State) → (settled_state s).reads ≡ (settled s.aliases s.reads s.records s.histories).reads
-unfolding settled_state
-settled_reads s = let t = settled s.aliases s.reads s.records s.histories in all_followed (record s { reads = t.reads; records = t.records; histories = t.histories }) t.acts
+settled_reads s = ap (λ (x : State). x.reads) (settled_shows s).is
 
 served_goes : UnitsPiece → (begins : Begins) → Apart begins → (s : State) → Goes begins s (served_pieces begins s) (settled_state s)
 unfolding served_pieces noted_at Bare
@@ -350,26 +323,6 @@ result_reads : {A : Type 0} → (s : State) (r : Result A Code) (t : State) (f :
 result_reads s (Err why) t f h = refl
 result_reads s (Ok a) t f h = h
 
-made_reads : (s : State) (p rights : ℕ) (n : Result ℕ Code) (id : Option ℕ) → held (buffer_made s p rights n id).after ≡ held s
-made_reads s p rights (Err why) id = refl
-made_reads s p rights (Ok n) None = refl
-made_reads s p rights (Ok n) (Some id) = refl
-
-opened_at_reads : (s : State) (p : ℕ) (o : Object) (rights : ℕ) (n : Result ℕ Code) → held (opened_at s p o rights n).after ≡ held s
-opened_at_reads s p o rights (Err why) = refl
-opened_at_reads s p o rights (Ok n) = refl
-
-opened_reads : (s : State) (p : ℕ) (o : Object) (rights : ℕ) → held (opened s p o rights).after ≡ held s
-opened_reads s p o rights = either (are_rights rights) (opened_at s p o rights (new_number s.handles p)) (refused s code.BadArgument) (held s) (opened_at_reads s p o rights (new_number s.handles p)) refl
-
-mode_reads : (s : State) (n : ℕ) (o : Object) → held (mode_changed s n o).after ≡ held s
-mode_reads s n object.Input = answer_reads s (checked (is_input_mode n)) (record s { mode = n }) refl
-mode_reads s n (object.Output id) = answer_reads s (checked (nat_lt n 0x10)) (with_screen s id.0 (mode_set (screen_at s.buffers id.0) n)) refl
-
-alias_reads : (s : State) (e : Option AliasEntry) → held (told_alias_in s e).after ≡ held s
-alias_reads s None = refl
-alias_reads s (Some e) = refl
-
 place_reads : (s : State) (place : ℕ) (o : Outcome) → held o.after ≡ held s → held (on_place s place o).after ≡ held s
 place_reads s place o h = either (nat_le place 255) o (refused s code.BadArgument) (held s) h refl
 
@@ -406,50 +359,15 @@ sent_goes begins sure s event group = sent_by begins sure s event group s.closed
 
 call_goes : (begins : Begins) → Apart begins → (place : ℕ) (s : State) (p : ℕ) (c : Call) → Goes begins s (call_pieces begins place s p c) (called s p c).after
 unfolding called
-call_goes begins sure place s p (calls.BufferCreate rights) = stays begins s (created_buffer s p rights).after (open_reads s _ (either (are_rights rights) (buffer_made s p rights (new_number s.handles p) (free_id s.buffers)) (refused s code.BadArgument) (held s) (made_reads s p rights (new_number s.handles p) (free_id s.buffers)) refl))
-call_goes begins sure place s p (calls.OpenOut rights) = stays begins s (opened_out s p rights).after (open_reads s _ (opened_reads s p (object.Output (id_of s.buffers.active)) rights))
-call_goes begins sure place s p (calls.OpenIn rights) = stays begins s (opened_in s p rights).after (open_reads s _ (opened_reads s p object.Input rights))
 call_goes begins sure place s p (calls.Close h) = stays begins s (closed_handle s p h).after (object_reads s (object_owned s p h) _ (λ o. refl))
-call_goes begins sure place s p (calls.Duplicate h rights) = stays begins s (duplicated s p h rights).after (object_reads s (guard s p h kind.Any (if are_rights rights then rights else 0)) _ (λ o. opened_reads s p o rights))
-call_goes begins sure place s p (calls.Activate h) = stays begins s (activated s p h).after (object_reads s (guard s p h kind.Output 2) _ (λ o. refl))
-call_goes begins sure place s p (calls.Mode h) = stays begins s (told_mode s p h).after (object_reads s (guard s p h kind.Any 1) _ (λ o. refl))
-call_goes begins sure place s p (calls.SetMode h mode) = stays begins s (set_mode s p h mode).after (object_reads s (guard s p h kind.Any 2) _ (mode_reads s mode))
-call_goes begins sure place s p (calls.Info h) = stays begins s (told_info s p h).after (object_reads s (guard s p h kind.Output 1) _ (λ o. refl))
-call_goes begins sure place s p (calls.SetSize handle w h) = stays begins s (set_size s p handle w h).after (object_reads s (guard s p handle kind.Output 2) _ (λ o. answer_reads s _ _ refl))
-call_goes begins sure place s p (calls.SetCursor h x y) = stays begins s (set_cursor s p h x y).after (object_reads s (guard s p h kind.Output 2) _ (λ o. answer_reads s _ _ refl))
-call_goes begins sure place s p (calls.CursorInfo h) = stays begins s (told_cursor s p h).after (object_reads s (guard s p h kind.Output 1) _ (λ o. refl))
-call_goes begins sure place s p (calls.SetCursorInfo h size visible) = stays begins s (set_cursor_info s p h size visible).after (object_reads s (guard s p h kind.Output 2) _ (λ o. answer_reads s _ _ refl))
-call_goes begins sure place s p (calls.SetOrigin h x y) = stays begins s (set_origin s p h x y).after (object_reads s (guard s p h kind.Output 2) _ (λ o. answer_reads s _ _ refl))
-call_goes begins sure place s p (calls.SetAttr h word) = stays begins s (set_attr s p h word).after (object_reads s (guard s p h kind.Output 2) _ (λ o. refl))
-call_goes begins sure place s p calls.Title = stays begins s (told_title s).after (open_reads s _ refl)
-call_goes begins sure place s p (calls.SetTitle text) = stays begins s (set_title s text).after (open_reads s _ (either (nat_le (length text) 255) (done (record s { title = text })) (refused s code.BadArgument) (held s) refl refl))
 call_goes begins sure place s p (calls.Write h units) = stays begins s (wrote s p h units).after (object_reads s (guard s p h kind.Output 2) _ (λ o. either (nat_lt 16384 (length units)) (refused s code.Limit) _ (held s) refl refl))
-call_goes begins sure place s p (calls.RectRead h rect) = stays begins s (read_rect s p h rect).after (object_reads s (guard s p h kind.Output 1) _ (λ o. refl))
-call_goes begins sure place s p (calls.RectWrite h rect text words) = stays begins s (wrote_rect s p h rect text words).after (object_reads s (guard s p h kind.Output 2) _ (λ o. either (are_cells rect text words) _ (refused s code.BadArgument) (held s) (result_reads s (rect_answer (cells_of s (buffer_of o)) rect) _ _ refl) refl))
-call_goes begins sure place s p (calls.RunReadUnits h x y n) = stays begins s (read_run_units s p h x y n).after (object_reads s (guard s p h kind.Output 1) _ (λ o. refl))
-call_goes begins sure place s p (calls.RunReadAttrs h x y n) = stays begins s (read_run_words s p h x y n).after (object_reads s (guard s p h kind.Output 1) _ (λ o. refl))
-call_goes begins sure place s p (calls.RunWriteUnits h x y text) = stays begins s (wrote_run_units s p h x y text).after (object_reads s (guard s p h kind.Output 2) _ (λ o. result_reads s (run_answer (cells_of s (buffer_of o)) (at_place x y) (length text)) _ _ refl))
-call_goes begins sure place s p (calls.RunWriteAttrs h x y words) = stays begins s (wrote_run_words s p h x y words).after (object_reads s (guard s p h kind.Output 2) _ (λ o. result_reads s (run_answer (cells_of s (buffer_of o)) (at_place x y) (length words)) _ _ refl))
-call_goes begins sure place s p (calls.FillUnits h x y n unit) = stays begins s (filled_units s p h x y n unit).after (object_reads s (guard s p h kind.Output 2) _ (λ o. refl))
-call_goes begins sure place s p (calls.FillAttrs h x y n word) = stays begins s (filled_words s p h x y n word).after (object_reads s (guard s p h kind.Output 2) _ (λ o. refl))
-call_goes begins sure place s p (calls.Scroll h rect clip x y unit word) = stays begins s (scrolled_cells s p h rect clip x y unit word).after (object_reads s (guard s p h kind.Output 2) _ (λ o. refl))
-call_goes begins sure place s p (calls.Peek h n) = stays begins s (peeked s p h n).after (object_reads s (guard s p h kind.Input 1) _ (λ o. refl))
 call_goes begins sure place s p (calls.WriteInput h records) = stays begins s (wrote_input s p h records).after (object_reads s (guard s p h kind.Input 2) _ (λ o. either (nat_lt 1024 (length records)) (refused s code.Limit) _ (held s) refl refl))
-call_goes begins sure place s p (calls.Count h) = stays begins s (counted s p h).after (object_reads s (guard s p h kind.Input 1) _ (λ o. refl))
 call_goes begins sure place s p (calls.Flush h) = flush_goes begins place s (guard s p h kind.Input 2)
-call_goes begins sure place s p calls.HistoryInfo = stays begins s (told_history_info s).after (open_reads s _ refl)
-call_goes begins sure place s p (calls.SetHistory lines number flag) = stays begins s (set_history s lines number flag).after (open_reads s _ (answer_reads s _ _ refl))
-call_goes begins sure place s p calls.HistoryList = stays begins s (listed_history s p).after (open_reads s _ refl)
-call_goes begins sure place s p calls.HistoryClear = stays begins s (cleared_history s p).after (open_reads s _ refl)
-call_goes begins sure place s p (calls.AliasAdd program source target) = stays begins s (added_alias s program source target).after (open_reads s _ (answer_reads s (add_answer s.aliases program source target) _ refl))
-call_goes begins sure place s p (calls.AliasRemove program source) = stays begins s (removed_alias s program source).after (open_reads s _ (answer_reads s (remove_answer s.aliases program source) _ refl))
-call_goes begins sure place s p (calls.AliasGet program source) = stays begins s (told_alias s program source).after (open_reads s _ (alias_reads s (alias_at s.aliases program source)))
-call_goes begins sure place s p (calls.AliasList program) = stays begins s (listed_aliases s program).after (open_reads s _ refl)
-call_goes begins sure place s p calls.Processes = stays begins s (listed_processes s).after (open_reads s _ refl)
 call_goes begins sure place s p (calls.Signal event group) = sent_goes begins sure s event group
 call_goes begins sure place s p (calls.Ignore on) = stays begins s (set_ignore s p on).after (open_reads s _ refl)
 call_goes begins sure place s p (calls.HandlerAdd k) = stays begins s (added_handler s p k).after (open_reads s _ (place_reads s k _ (answer_reads s (add_handler_answer s.procs p k) _ refl)))
 call_goes begins sure place s p (calls.HandlerRemove k) = stays begins s (removed_handler s p k).after (open_reads s _ (place_reads s k _ (answer_reads s (remove_handler_answer s.procs p k) _ refl)))
+call_goes begins sure place s p c = stays begins s (called s p c).after (ap held_of (stands s p c refl).is)
 
 -- ---- events, but for a Begin
 
