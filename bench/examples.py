@@ -1,9 +1,21 @@
-"""The examples, and their reports as examples/README.md has them, which were worked out by hand."""
+"""The examples, with the reports and last pictures that stand beside them, which were worked out by hand."""
 import os
 import re
 
 FOLDER = os.path.join(os.path.dirname(os.path.abspath(__file__)), "..", "examples")
-NAMES = ("shell", "ctrl_c", "editor")
+# Those that end with status 0, each with the size of its last picture.
+SIZES = {
+    "shell": "40x8",
+    "editor": "30x6",
+    "mouse": "20x4",
+    "ctrl_c": "20x3",
+    "group": "20x3",
+    "cells": "8x3",
+    "refusals": "20x3",
+    "closing": "20x3",
+    "version1": "20x3",
+}
+NAMES = tuple(SIZES)
 
 
 def path(name, kind):
@@ -12,9 +24,13 @@ def path(name, kind):
 
 def report_of(name):
     """The lines of the report of an example, with the length 0 after each Paint."""
-    with open(os.path.join(FOLDER, "README.md"), encoding="utf-8") as page:
-        part = re.search(rf"^## {name}:(.*?)(?=^## |\Z)", page.read(), re.M | re.S).group(1)
-    return [re.sub(r"N\d+", "0", line) for line in re.findall(r"^    [ \d]{4}(\[.*\])$", part, re.M)]
+    with open(path(name, "report"), encoding="utf-8") as lines:
+        return lines.read().replace('["painted",N]', '["painted",0]').splitlines()
+
+
+def dump_of(name):
+    with open(path(name, "dump"), encoding="utf-8") as text:
+        return text.read()
 
 
 def without_lengths(report):

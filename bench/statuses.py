@@ -1,10 +1,10 @@
 #!/usr/bin/env python3
-"""Runs the program to each of its statuses, from a real shell's files and streams, by turns and by threads, and the examples, whose reports stand in
-examples/README.md.
+"""Runs the program to each of its statuses, from a real shell's files and streams, by turns and by threads, and the examples, whose reports and last
+pictures stand beside them.
 
     statuses.py
 
-Prints a line for each run, and ends with 1 where one ended otherwise than it has to. The statuses and last lines are those of README.md."""
+Prints a line for each run, and ends with 1 where one ended otherwise than it has to. The statuses and last lines are those of docs/FORMATS.md."""
 import os
 import resource
 import subprocess
@@ -94,7 +94,10 @@ def example(name, way):
     expect(f"{way}: example {name}", ran, 0, '["end",0]')
     if way == "solo" and examples.without_lengths(ran.stderr) != examples.report_of(name):
         wrong += 1
-        print(f"OTHERWISE: the report of {name} is not that of examples/README.md")
+        print(f"OTHERWISE: the report of {name} is not examples/{name}.report")
+    if way == "solo" and run(["play", examples.SIZES[name]], ran.stdout).stderr.decode() != examples.dump_of(name):
+        wrong += 1
+        print(f"OTHERWISE: the last picture of {name} is not examples/{name}.dump")
 
 
 def main():
@@ -108,6 +111,7 @@ def main():
             failures(folder, way)
             for name in examples.NAMES:
                 example(name, way)
+            expect(f"{way}: example fault", run([way, examples.path("fault", "json")], b"Q"), 3, '["end",3,"clients[0].calls[1]"]')
     generations()
     sys.exit(wrong > 0)
 
