@@ -11,8 +11,8 @@ import subprocess
 import sys
 import tempfile
 
-CRATE = os.path.join(os.path.dirname(os.path.abspath(__file__)), "..", "crates", "bench_formats")
-PROGRAM = os.path.join(CRATE, "out", "bench_formats")
+CRATE = os.path.join(os.path.dirname(os.path.abspath(__file__)), "..", "crates", "bench_parts")
+PROGRAM = os.path.join(CRATE, "out", "bench_parts")
 CALLS = 64 * 256
 
 
@@ -45,12 +45,12 @@ def made(name, kind, size):
 def main():
     size = int(float(sys.argv[1]) * 1_000_000) if len(sys.argv) > 1 else 16_000_000
     if not os.access(PROGRAM, os.X_OK):
-        sys.exit("build the program first: cd crates/bench_formats && rt run")
+        sys.exit("build the program first: cd crates/bench_parts && rt run")
     with tempfile.TemporaryDirectory() as folder:
         for kind in (text, wide, words, records, many):
             name = os.path.join(folder, kind.__name__)
             made(name, kind, size)
-            child = subprocess.Popen([PROGRAM, name], stdout=subprocess.PIPE, text=True)
+            child = subprocess.Popen([PROGRAM, "formats", name], stdout=subprocess.PIPE, text=True)
             line = child.stdout.read().strip()
             _, status, used = os.wait4(child.pid, 0)
             if status != 0:

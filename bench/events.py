@@ -14,8 +14,8 @@ import sys
 import tempfile
 from concurrent.futures import ThreadPoolExecutor
 
-CRATE = os.path.join(os.path.dirname(os.path.abspath(__file__)), "..", "crates", "bench_machine")
-PROGRAM = os.path.join(CRATE, "out", "bench_machine")
+CRATE = os.path.join(os.path.dirname(os.path.abspath(__file__)), "..", "crates", "bench_parts")
+PROGRAM = os.path.join(CRATE, "out", "bench_parts")
 KINDS = "mode text line colour cursor words rect key peek begin collect feed quiet ask paint exit".split()
 CROWDS = "plain window queue handles".split()
 
@@ -43,7 +43,7 @@ def measured(job):
     with tempfile.TemporaryDirectory() as folder:
         out = os.path.join(folder, "out")
         told = subprocess.run(
-            ["valgrind", "--tool=callgrind", f"--callgrind-out-file={out}", "--toggle-collect=*enter_watched*", PROGRAM, kind, crowd],
+            ["valgrind", "--tool=callgrind", f"--callgrind-out-file={out}", "--toggle-collect=*enter_watched*", PROGRAM, "machine", kind, crowd],
             capture_output=True, check=True, text=True,
         )
         with open(out, encoding="utf-8") as report:
@@ -55,7 +55,7 @@ def measured(job):
 def main():
     kinds = sys.argv[1:] or KINDS
     if not os.access(PROGRAM, os.X_OK):
-        sys.exit("build the program first: cd crates/bench_machine && rt run")
+        sys.exit("build the program first: cd crates/bench_parts && rt run")
     print(f"{'kind':8} {'events':>7} {'each':>9} {'memory':>8} {'a unit':>8}   beside a larger window, queue, handles")
     jobs = [(kind, crowd) for kind in kinds for crowd in CROWDS]
     with ThreadPoolExecutor(os.cpu_count()) as pool:

@@ -10,8 +10,8 @@ import subprocess
 import sys
 import tempfile
 
-CRATE = os.path.join(os.path.dirname(os.path.abspath(__file__)), "..", "crates", "bench_trace")
-PROGRAM = os.path.join(CRATE, "out", "bench_trace")
+CRATE = os.path.join(os.path.dirname(os.path.abspath(__file__)), "..", "crates", "bench_parts")
+PROGRAM = os.path.join(CRATE, "out", "bench_parts")
 
 
 def write(i):
@@ -37,7 +37,7 @@ def paint(i):
 def main():
     size = int(float(sys.argv[1]) * 1_000_000) if len(sys.argv) > 1 else 16_000_000
     if not os.access(PROGRAM, os.X_OK):
-        sys.exit("build the program first: cd crates/bench_trace && rt run")
+        sys.exit("build the program first: cd crates/bench_parts && rt run")
     with tempfile.TemporaryDirectory() as folder:
         for kind in (write, cells, records, short, paint):
             name = os.path.join(folder, kind.__name__)
@@ -47,7 +47,7 @@ def main():
                     done += out.write(kind(i) + "\n")
                     i += 1
                 out.write('["end",0]\n')
-            told = subprocess.run([PROGRAM, name], capture_output=True, text=True, check=True).stdout.strip()
+            told = subprocess.run([PROGRAM, "trace", name], capture_output=True, text=True, check=True).stdout.strip()
             print(f"{kind.__name__:8} {told}", flush=True)
 
 

@@ -5,7 +5,7 @@
 
 Eight clients, each of which writes on rows of its own, run a hundred times by threads: each run ends with 0 and with the picture that the session by turns leaves.
 Then it prints events a second of sessions of 1, 4, 16 and 64 such clients with 8,192 calls in all, by threads, beside it by turns, and by threads that enter the same calls
-into the same console under a mutex of std, with no history, painter and report (`bench_threads`); what part of the last one's events by threads makes, and how much
+into the same console under a mutex of std, with no history, painter and report (`bench_parts threads`); what part of the last one's events by threads makes, and how much
 processor time it takes of that by turns; and the time from a byte on the link to its echo on the stream, of a hundred bytes typed one after another.
 It ends with 1 where a run ended otherwise."""
 import json
@@ -20,7 +20,7 @@ import time
 
 CRATES = os.path.join(os.path.dirname(os.path.abspath(__file__)), "..", "crates")
 PROGRAM = os.path.join(CRATES, "conpty", "out", "conpty")
-MUTEX = os.path.join(CRATES, "bench_threads", "out", "bench_threads")
+PARTS = os.path.join(CRATES, "bench_parts", "out", "bench_parts")
 ROWS, CALLS = 25, 8_192
 
 
@@ -51,7 +51,7 @@ def ended(form, name):
 def entered(name):
     """How many events the threads at a mutex enter in a second of the clock, from the program's start to its end."""
     begun = time.perf_counter()
-    ran = subprocess.run([MUTEX, name], capture_output=True, check=True, text=True)
+    ran = subprocess.run([PARTS, "threads", name], capture_output=True, check=True, text=True)
     return int(ran.stdout.split()[0]) / (time.perf_counter() - begun)
 
 
@@ -110,8 +110,8 @@ def echo(folder):
 def main():
     if not os.access(PROGRAM, os.X_OK):
         sys.exit("build the program first: ./conpty type </dev/null >/dev/null")
-    if not os.access(MUTEX, os.X_OK):
-        sys.exit("build what it is measured beside first: cd crates/bench_threads && rt run")
+    if not os.access(PARTS, os.X_OK):
+        sys.exit("build what it is measured beside first: cd crates/bench_parts && rt run")
     with tempfile.TemporaryDirectory() as folder:
         others = hundred(folder)
         speed(folder)

@@ -1,4 +1,4 @@
-// Session documents.
+//! How long the reading of a session document takes, beside the kit's own reading of the same bytes as JSON.
 use con_script::{SessionFault, read_session};
 use serde_json::Value;
 use std::alloc::Global;
@@ -23,8 +23,8 @@ fn told(alloc: Global, bytes: &[u8]) -> io::Result<String> {
     }
 }
 
-/// Prints how many clients a short document has.
-pub fn print_short(rt: &impl Print, alloc: Global) -> io::Result<()> {
+// Prints how many clients a short document has.
+fn print_short(rt: &impl Print, alloc: Global) -> io::Result<()> {
     let client = "{\"program\":\"sh\",\"group\":1,\"calls\":[[\"write\",2,\"hello\"]]}";
     let document = format!(in alloc;
         "{{\"version\":1,\"size\":[80,25],\"clients\":[{client},{client}]}}"
@@ -33,8 +33,8 @@ pub fn print_short(rt: &impl Print, alloc: Global) -> io::Result<()> {
     println!(rt; "{told}")
 }
 
-/// Prints how long both readings of a file take.
-pub fn measure<R: Print + Clock + Files>(rt: &R, alloc: Global, name: &str) -> io::Result<()> {
+// Prints how long both readings of a file take.
+fn measure<R: Print + Clock + Files>(rt: &R, alloc: Global, name: &str) -> io::Result<()> {
     let mut file = fs::open(rt, name)?;
     let mut bytes = Vec::new(alloc);
     file.read_to_end(&mut bytes)?;
@@ -46,4 +46,16 @@ pub fn measure<R: Print + Clock + Files>(rt: &R, alloc: Global, name: &str) -> i
     let session = start.elapsed(rt)?;
     let count = bytes.len();
     println!(rt; "{count} bytes, JSON {is_json} in {json:?}; {told} in {session:?}")
+}
+
+/// Prints both times of a file, or how many clients a short document has.
+pub fn print<R: Print + Clock + Files>(
+    rt: &R,
+    alloc: Global,
+    name: Option<&str>,
+) -> io::Result<()> {
+    match name {
+        None => print_short(rt, alloc),
+        Some(name) => measure(rt, alloc, name),
+    }
 }

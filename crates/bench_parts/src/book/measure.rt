@@ -1,8 +1,8 @@
 // Turns a second.
 ghost use Rattle.std.specs.Prelude.{◌≡◌, ◌<◌, ◌≤◌, ◌^◌, true};
 
-use crate::mutex::{plain, work};
-use crate::worker::Worker;
+use crate::book::mutex::{plain, work};
+use crate::book::worker::Worker;
 use con_book::counter::Counter;
 use con_book::{Book, Opened};
 use std::alloc::Global;

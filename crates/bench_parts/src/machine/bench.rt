@@ -2,7 +2,7 @@
 ghost use Rattle.std.specs.Prelude.{◌≡◌, IfOk};
 ghost use Rattle.con_machine.specs.Fits.{Fits};
 
-use crate::kind::{Kind, kind_of};
+use crate::machine::kind::{Kind, kind_of};
 use con_events::{Actor, Event, Reply};
 use con_machine::{Console, Room};
 use con_units::OutOfMemory;

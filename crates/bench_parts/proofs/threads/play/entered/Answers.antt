@@ -7,10 +7,10 @@ use mir.Syntax.{named}
 use Rattle.std.proofs.Common.{◌∷◌, []}
 use Rattle.std.proofs.Crossing.{crosses}
 use Rattle.std.specs.contracts.sync.Mutex as Mutex
-use Rattle.bench_threads.specs.contracts.client.Desk as desk
+use Rattle.bench_parts.specs.contracts.threads.client.Desk as desk
 use Rattle.con_threads.proofs.Closures.{closure_sync}
 use Rattle.con_threads.proofs.Crosses.{console_send}
-use Rattle.bench_threads.proofs.play.entered.Goals as goal
+use Rattle.bench_parts.proofs.threads.play.entered.Goals as goal
 
 desk_send : IsSend desk.the_row
 desk_send = search (sendable, crosses, console_send) depth 40

@@ -1,5 +1,5 @@
 // What stands in a console beside what events touch.
-use crate::bench::{Bench, Counts};
+use crate::machine::bench::{Bench, Counts};
 use con_events::{Call, Event};
 use con_records::{Record, Taken};
 use con_units::{OutOfMemory, Size};

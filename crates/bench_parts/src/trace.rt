@@ -1,4 +1,4 @@
-// Reports.
+//! How long a report takes to read and to write, beside the kit's own reading and writing of the same lines as JSON.
 use con_events::Event;
 use con_outside::SureSink;
 use con_trace::{EndLine, Trace, read, write_end, write_entry};
@@ -47,8 +47,8 @@ fn kit_written(alloc: Global, values: &[Value]) -> io::Result<usize> {
     Ok(count)
 }
 
-/// Prints how many entries a short report has.
-pub fn print_short(rt: &impl Print, alloc: Global) -> io::Result<()> {
+// Prints how many entries a short report has.
+fn print_short(rt: &impl Print, alloc: Global) -> io::Result<()> {
     let text = "[\"t\",\"quiet\",[],[\"ok\"]]\n[\"p\",\"paint\",[],[\"painted\",7]]\n[\"end\",0]\n";
     let Ok(trace) = read(alloc, text.as_bytes()) else {
         return println!(rt; "no report");
@@ -62,8 +62,8 @@ pub fn print_short(rt: &impl Print, alloc: Global) -> io::Result<()> {
     }
 }
 
-/// Prints how long a file takes to read and to write, as a report and as the kit's JSON.
-pub fn measure<R: Print + Clock + Files>(rt: &R, alloc: Global, name: &str) -> io::Result<()> {
+// Prints how long a file takes to read and to write, as a report and as the kit's JSON.
+fn measure<R: Print + Clock + Files>(rt: &R, alloc: Global, name: &str) -> io::Result<()> {
     let mut file = fs::open(rt, name)?;
     let mut bytes = Vec::new(alloc);
     file.read_to_end(&mut bytes)?;
@@ -88,4 +88,16 @@ pub fn measure<R: Print + Clock + Files>(rt: &R, alloc: Global, name: &str) -> i
     println!(rt;
         "{count} bytes; read {report_read:?}, JSON alone {json_read:?}; written {report_written:?} (the same {same}), JSON alone {json_written:?} ({json_bytes} bytes)"
     )
+}
+
+/// Prints the four times of a file, or how many entries a short report has.
+pub fn print<R: Print + Clock + Files>(
+    rt: &R,
+    alloc: Global,
+    name: Option<&str>,
+) -> io::Result<()> {
+    match name {
+        None => print_short(rt, alloc),
+        Some(name) => measure(rt, alloc, name),
+    }
 }

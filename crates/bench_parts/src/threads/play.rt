@@ -1,5 +1,5 @@
 // A session's clients, all at once.
-use crate::client::{Client, Desk};
+use crate::threads::client::{Client, Desk};
 use con_events::Session;
 use con_machine::Console;
 use con_script::{generated, read_session};

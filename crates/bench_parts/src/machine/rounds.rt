@@ -1,8 +1,8 @@
 // A session in rounds.
-use crate::bench::{Bench, Counts};
-use crate::copied;
-use crate::crowd::{Crowd, fill};
-use crate::kind::Kind;
+use crate::machine::bench::{Bench, Counts};
+use crate::machine::copied;
+use crate::machine::crowd::{Crowd, fill};
+use crate::machine::kind::Kind;
 use con_events::{Actor, Event, Script, Session, Wanted};
 use con_machine::Console;
 use con_script::generated;

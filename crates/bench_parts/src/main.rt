@@ -1,0 +1,74 @@
+//! Parts of the program by themselves, for what `bench/` measures. Its first word names the part:
+//!
+//! - `trace [FILE]`: how long a report takes to read and to write
+//! - `formats [FILE]`: how long a session document takes to read
+//! - `machine [KIND [CROWD]]`: events of a kind, entered into a console
+//! - `threads [FILE]`: a session's calls, entered by threads at a mutex
+//! - `book [TURNS]`: turns of a book, beside a mutex
+//!
+//! A part with no word behind it does something short that is the same each time, and prints a line. With no word at all each part does.
+#![tactic(auto)]
+
+mod book;
+mod formats;
+mod machine;
+mod threads;
+mod trace;
+
+use std::alloc::Global;
+use std::env::Env;
+use std::rt::{Clock, Files};
+use std::sync::Wait;
+use std::thread::Threads;
+use std::{env, io};
+
+// The words after the program's name.
+fn words<R: Env + AllocGlobal>(rt: &R) -> io::Result<Vec<String>> {
+    let mut words = Vec::new(rt.alloc());
+    for word in env::args(rt)?.skip(1) {
+        words.push(word)?;
+    }
+    Ok(words)
+}
+
+fn word_at(words: &[String], at: usize) -> Option<&str> {
+    match words.get(at) {
+        Some(word) => Some(word.as_str()),
+        None => None,
+    }
+}
+
+fn print_short<R: Threads + Wait + Print + Clock + Files + Sync>(
+    rt: &R,
+    alloc: Global,
+) -> io::Result<()> {
+    trace::print(rt, alloc, None)?;
+    formats::print(rt, alloc, None)?;
+    machine::print(rt, alloc, None, None)?;
+    threads::print(rt, alloc, None)?;
+    book::print(rt, alloc, None)
+}
+
+fn print<R: Threads + Wait + Print + Clock + Files + Sync>(
+    rt: &R,
+    alloc: Global,
+    words: &[String],
+) -> io::Result<()> {
+    let word = word_at(words, 1);
+    match word_at(words, 0) {
+        None => print_short(rt, alloc),
+        Some("trace") => trace::print(rt, alloc, word),
+        Some("formats") => formats::print(rt, alloc, word),
+        Some("machine") => machine::print(rt, alloc, word, word_at(words, 2)),
+        Some("threads") => threads::print(rt, alloc, word),
+        Some("book") => book::print(rt, alloc, word),
+        Some(_) => println!(rt;
+            "usage: bench_parts [trace [FILE]|formats [FILE]|machine [KIND [CROWD]]|threads [FILE]|book [TURNS]]"
+        ),
+    }
+}
+
+fn main(rt: HostRuntime) -> io::Result<()> {
+    let words = words(&rt)?;
+    print(&rt, rt.alloc(), words.as_slice())
+}
