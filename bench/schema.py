@@ -91,6 +91,14 @@ class Schema:
 
 # ---- documents
 
+def value_of(text):
+    """The value of a text of JSON, or nothing where it is none."""
+    try:
+        return json.loads(text)
+    except ValueError:
+        return None
+
+
 def texts():
     """The documents of the examples and the cases."""
     for path in sorted(glob.glob(os.path.join(TOP, "examples", "*.json"))):
@@ -213,10 +221,11 @@ BEYOND = [
 
 def documents():
     for name, text in texts():
+        document = value_of(text)
         yield name, text
-        document = json.loads(text)
-        document["version"] = 3 - document["version"]
-        yield f"{name}, the other version", json.dumps(document)
+        if isinstance(document, dict) and document.get("version") in (1, 2):
+            document["version"] = 3 - document["version"]
+            yield f"{name}, the other version", json.dumps(document)
     for k, one in enumerate(with_keys(session([["title"]]))):
         yield f"keys {k}", json.dumps(one)
     for k, call in enumerate(calls_with_faults()):
@@ -227,13 +236,15 @@ def documents():
 
 
 def takes(program, text):
-    """Whether the program takes a document; a refusal must have a path."""
+    """Whether the program takes a document, or nothing where it is no JSON to it; a refusal must have a path."""
     with tempfile.NamedTemporaryFile("w", suffix=".json", encoding="utf-8") as file:
         file.write(text)
         file.flush()
         ran = subprocess.run([program, "solo", file.name], stdin=subprocess.DEVNULL, capture_output=True, check=False)
     last = ran.stderr.decode().splitlines()[-1]
-    if ran.returncode not in (0, 3) or last in ('["end",3,"json"]', '["end",3,"length"]'):
+    if last == '["end",3,"json"]':
+        return None
+    if ran.returncode not in (0, 3) or last == '["end",3,"length"]':
         sys.exit(f"status {ran.returncode}, {last}: {text[:200]}")
     return ran.returncode == 0
 
@@ -247,14 +258,18 @@ def main():
     named = {}
     for name, text in documents():
         named.setdefault(text, name)
-    wrong, taken = 0, 0
+    wrong, taken, none = 0, 0, 0
     with concurrent.futures.ThreadPoolExecutor(2) as pool:
         for (text, name), is_taken in zip(named.items(), pool.map(lambda text: takes(program, text), named)):
+            if is_taken is None:
+                none += 1
+                continue
             taken += is_taken
             if schema.accepts(json.loads(text)) != is_taken:
                 wrong += 1
                 print(f"OTHERWISE: {name} is {'taken' if is_taken else 'refused'} by the program alone: {text[:200]}")
-    print(f"{len(named)} documents, of which the program takes {taken} and refuses {len(named) - taken}; the schema says otherwise of {wrong}")
+    refused = len(named) - none - taken
+    print(f"{len(named)} documents, of which the program takes {taken} and refuses {refused}; the schema says otherwise of {wrong}; {none} are no JSON")
     for name, text in BEYOND:
         if takes(program, text) or not schema.accepts(json.loads(text)):
             wrong += 1
