@@ -5,20 +5,10 @@
 
 pub mod callers;
 #[cfg(test)]
-mod edges;
-#[cfg(test)]
-mod effects;
-#[cfg(test)]
 mod lines;
 #[cfg(test)]
 mod rows;
 #[cfg(test)]
-mod runs;
-#[cfg(test)]
-mod setters;
-#[cfg(test)]
-mod texts;
-#[cfg(test)]
 mod told;
 #[cfg(test)]
-mod words;
+mod units;

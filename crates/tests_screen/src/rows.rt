@@ -5,7 +5,6 @@ ghost use Rattle.con_screen.specs.Page.{IsPage};
 use con_screen::{Answers, Screen};
 use con_units::{Coord, Size};
 use std::alloc::Global;
-use std::process::Abort;
 use std::test::Fail;
 
 // How many units a text of a table may have.
@@ -18,8 +17,6 @@ pub(crate) enum Start {
     Letters(u32),
     /// Sixteen letters in four columns and four rows. In digits: the sides of the window, its corner, and the cursor.
     Window(&'static [u8; 6]),
-    /// Sixteen letters in four columns and four rows, after which a wrap is due.
-    Due,
 }
 
 /// How it begins, a text, and what is shown then: the cells, the window's corner and the cursor.
@@ -116,10 +113,6 @@ fn prepare(alloc: Global, screen: &mut Screen, start: Start) -> Result<(), Fail>
             let _ = screen.set_window_origin(place(digits[2], digits[3]));
             Ok(())
         }
-        Start::Due => {
-            let _ = screen.set_mode(15);
-            write(alloc, screen, b"abcdefghijklmnop")
-        }
     }
 }
 
@@ -148,33 +141,4 @@ pub(crate) fn show(screen: &Screen, seen: &mut String) -> Result<(), Fail>
     seen.push(digit(info.cursor.x))?;
     seen.push(digit(info.cursor.y))?;
     Ok(seen.push('\n')?)
-}
-
-fn add_row(alloc: Global, row: Row, seen: &mut String) -> Result<(), Fail> {
-    let mut screen = begun(alloc, row.0)?;
-    write(alloc, &mut screen, row.1)?;
-    show(&screen, seen)
-}
-
-fn add_rows(
-    alloc: Global,
-    rows: &[Row],
-    seen: &mut String,
-    wanted: &mut String,
-) -> Result<(), Fail> {
-    for row in rows {
-        add_row(alloc, *row, seen)?;
-        wanted.push_str(row.2)?;
-        wanted.push('\n')?;
-    }
-    Ok(())
-}
-
-/// Compares what the rows show with what they should.
-pub(crate) fn check(rt: &impl Abort, alloc: Global, rows: &[Row]) -> Result<(), Fail> {
-    let mut seen = String::new(alloc);
-    let mut wanted = String::new(alloc);
-    add_rows(alloc, rows, &mut seen, &mut wanted)?;
-    assert_eq!(rt; seen.as_str(), wanted.as_str());
-    Ok(())
 }

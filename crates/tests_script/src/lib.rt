@@ -1,16 +1,8 @@
-//! Tests of documents and generated sessions, as a caller sees them.
+//! Tests of generated sessions and of limits, as a caller sees them; documents are cases.
 #![tactic(auto)]
 
 pub mod callers;
 #[cfg(test)]
-mod calls;
-#[cfg(test)]
-mod documents;
-#[cfg(test)]
 mod drawn;
-#[cfg(test)]
-mod kinds;
-#[cfg(test)]
-mod large;
 #[cfg(test)]
 mod limits;
