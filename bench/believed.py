@@ -6,11 +6,13 @@
     bench/believed.py --names            each definition behind its file, with the lines that it takes
     bench/believed.py CRATE FUNCTION     of a function of another crate
 
-It stands in the repository's top folder. It reads the clauses of the function in crates/*/src, the definitions of crates/*/specs that they name, and what
-those name, through the imports of each file, until nothing is new. A line counts with the definition that it belongs to; blank lines, comments, imports and the kit's own
-definitions do not count. Laws and words of proofs that no clause reaches are not listed.
+It stands in the repository's top folder. It reads the clauses of the function in crates/*/src, the definitions of
+crates/*/specs that they name, and what those name, through the imports of each file, until nothing is new. A line
+counts with the definition that it belongs to; blank lines, comments, imports and the kit's own definitions do not
+count. Laws and words of proofs that no clause reaches are not listed.
 
-It reads text, and knows the language's layout alone: a definition begins at a line's beginning, or within a `module`, and goes on to the next one."""
+It reads text, and knows the language's layout alone: a definition begins at a line's beginning, or within a `module`,
+and goes on to the next one."""
 import argparse
 import pathlib
 import re
@@ -164,6 +166,17 @@ def rows(reading: Reading) -> list[tuple[str, str, int, int]]:
     return [(*it, len(found[it]), whole[it]) for it in sorted(found)]
 
 
+def in_lines(words: list[str]) -> list[str]:
+    """The words, joined by commas, in lines of at most 130 characters."""
+    lines: list[str] = []
+    for word in words:
+        if lines and len(lines[-1]) + len(word) < 128:
+            lines[-1] += ", " + word
+        else:
+            lines.append(word)
+    return lines
+
+
 def main():
     words = argparse.ArgumentParser(description=__doc__, formatter_class=argparse.RawDescriptionHelpFormatter)
     words.add_argument("crate", nargs="?", default="con_host")
@@ -178,10 +191,11 @@ def main():
         for (crate, module, name), lines in sorted(reading.reached.items()):
             print(f"{crate} {module}.{name} {len(lines)}")
     elif given.table:
-        print("| crate | definitions that the contract reaches, with their lines | lines |\n|---|---|---|")
+        print("| crate | files of `specs/`, with the lines of their definitions | lines |\n|---|---|---|")
         for crate in dict.fromkeys(it[0] for it in listed):
             own = [it for it in listed if it[0] == crate]
-            print(f"| {crate} | {', '.join(f'{it[1]} {it[2]}' for it in own)} | {sum(it[2] for it in own)} |")
+            for at, files in enumerate(in_lines([f"{it[1]} {it[2]}" for it in own])):
+                print(f"| {crate if not at else ''} | {files} | {sum(it[2] for it in own) if not at else ''} |")
     else:
         for crate, module, lines, whole in listed:
             print(f"{lines:5} of {whole:4}  {crate} specs/{module.replace('.', '/')}.antt")
