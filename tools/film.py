@@ -13,7 +13,7 @@ from conptylib.sessions import Session, check_clients, check_frames, read_sessio
 from conptylib.terminal import Attribute, Terminal, runs
 
 ABOUT = """Makes one self-contained HTML page of a session: each picture in its colours, beside the calls and
-frames since the picture before it. It is stepped through by buttons and keys: left and right, home and end, space plays.
+frames since the picture before it. It is stepped through by buttons and keys: left, right, home, end; space plays.
 
   film.py SESSION LINK -o PAGE                 runs `conpty solo SESSION < LINK` and shows what came of it
   film.py SESSION LINK STREAM REPORT -o PAGE   shows a run that was kept: its standard output and standard error
@@ -148,6 +148,7 @@ def run_of(got) -> Tuple[bytes, bytes, str]:
     """The stream and the report, kept or of a run by turns, and the name that a fault in the report is told with."""
     if got.report is not None:
         return base.read_bytes(got.stream), base.read_bytes(got.report), got.report
+    base.prepare(got.conpty)
     ran = base.run_program(got.conpty, ["solo", got.session], base.read_bytes(got.link))
     if not ran.err.endswith(b"\n"):
         raise base.ToolError(f"{got.conpty} ended with status {ran.status} and no report")

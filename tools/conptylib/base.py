@@ -45,6 +45,14 @@ def add_conpty(words: argparse.ArgumentParser) -> None:
     )
 
 
+def prepare(program: str) -> None:
+    """Has the launcher build the program where that is not done yet, with its lines of progress on standard error."""
+    if os.path.abspath(program) == LAUNCHER and subprocess.call(
+        [program, "type"], stdin=subprocess.DEVNULL, stdout=subprocess.DEVNULL
+    ):
+        raise ToolError(f"{program}: the program could not be built")
+
+
 def run_program(program: str, words: Sequence[str], given: bytes = b"") -> Ran:
     """Runs the program to its end over some bytes."""
     try:
