@@ -18,8 +18,8 @@ from conptylib.frames import MOST_TYPED, Frame
 from conptylib.keys import key_bytes
 from conptylib.sessions import read_session
 
-ABOUT = """Runs a session live on this terminal, by `conpty run`: keys go to it as they are typed, a pause of some 50 ms is
-a quiet frame, and a new size of the terminal is a resize frame; what the program paints goes to the screen.
+ABOUT = """Runs a session live on this terminal, by `conpty run`: keys go to it as they are typed, a pause of some
+50 ms is a quiet frame, and a new size of the terminal is a resize frame; what the program paints goes to the screen.
 
   attach.py SESSION --report REPORT --record LINK
 

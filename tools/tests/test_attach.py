@@ -1,4 +1,4 @@
-"""Sessions on a real terminal: attach.py in a pane of tmux. Screens are those that examples/README.md works out by hand."""
+"""Sessions on a real terminal: attach.py in a pane of tmux. Screens are those that examples/README.md works out."""
 import json
 import os
 import shlex
@@ -103,7 +103,7 @@ class Attached(unittest.TestCase):
         pane.wait("milk", "bread")
         pane.tmux("resize-window", "-x", "60", "-y", "12")
         pane.type("q")
-        # It reads two records: of both sizes, or, where the first came before it asked for sizes, of the second and of q.
+        # It reads two records: of both sizes, or of the second and of q where the first came before it asked for any.
         pane.wait("$ edit notes.txt")
         pane.type("C-]")
         pane.wait_over(0, '["end",0]')
