@@ -10,7 +10,7 @@ from conptylib import base, shown
 from conptylib.frames import read_link
 from conptylib.reports import Report, read_report
 from conptylib.sessions import Session, check_clients, check_frames, read_session
-from conptylib.terminal import Attribute, Terminal, runs
+from conptylib.terminal import Attribute, Runs, Terminal
 
 ABOUT = """Makes one self-contained HTML page of a session: each picture in its colours, beside the calls and
 frames since the picture before it. It is stepped through by buttons and keys: left, right, home, end; space plays.
@@ -39,7 +39,7 @@ class Picture(NamedTuple):
     start: int
     end: int
     size: Tuple[int, int]
-    rows: List[List[Tuple[int, str, Attribute]]]
+    rows: List[Runs]
     cursor: Optional[Tuple[int, int]]
 
 
@@ -80,7 +80,7 @@ def pictures(session: Session, report: Report, stream: bytes, name: str) -> Iter
             told = f"a picture up to byte {end}, and the stream has {len(stream)} with {done} before it"
             raise base.ToolError(f"{name}: line {event.number}: {told}")
         terminal.play(stream[done:end])
-        rows = [list(runs(row)) for row in terminal.rows]
+        rows = [terminal.runs(y) for y in range(terminal.height)]
         yield Picture(at, done, end, (terminal.width, terminal.height), rows, terminal.cursor())
         done = end
 

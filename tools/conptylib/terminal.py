@@ -21,6 +21,10 @@ class Attribute(NamedTuple):
     back: int = -1
 
 
+# The runs of a row: column, text, attribute.
+Runs = Tuple[Tuple[int, str, Attribute], ...]
+
+
 class Pen(NamedTuple):
     """What is written next: two of the sixteen colours in the bits of a word, two indices or -1, and three flags."""
 
@@ -165,6 +169,15 @@ def read_string(text: str, at: int) -> int:
     return ends.end() + 1 if text[ends.end()] == "\\" else ends.start()
 
 
+def runs(row: List[Tuple[str, Attribute]]) -> Iterator[Tuple[int, str, Attribute]]:
+    """The longest runs of a row in one attribute: the column, the text, the attribute."""
+    start = 0
+    for at in range(1, len(row) + 1):
+        if at == len(row) or row[at][1] != row[start][1]:
+            yield start, "".join(char for char, _ in row[start:at]), row[start][1]
+            start = at
+
+
 class Terminal:
     """A window without margins and tab stops, between any two bytes of its stream."""
 
@@ -176,6 +189,7 @@ class Terminal:
         self.decoder = codecs.getincrementaldecoder("utf-8")("replace")
         self.tail = ""
         self.rows = [self.blank_row() for _ in range(height)]
+        self.known: List[Optional[Runs]] = [None] * height
 
     def blank_row(self) -> List[Tuple[str, Attribute]]:
         return [(" ", self.pen.attribute())] * self.width
@@ -209,6 +223,7 @@ class Terminal:
                     self.down()
                     self.x, self.pending = 0, False
                 self.rows[self.y][self.x] = (shown, attribute)
+                self.known[self.y] = None
                 if self.x + 1 < self.width:
                     self.x += 1
                 else:
@@ -223,6 +238,7 @@ class Terminal:
     def lift(self, count: int) -> None:
         count = min(count, self.height)
         self.rows = self.rows[count:] + [self.blank_row() for _ in range(count)]
+        self.known = self.known[count:] + [None] * count
 
     def control(self, char: str) -> None:
         if char == "\b":
@@ -242,6 +258,7 @@ class Terminal:
         blank = (" ", self.pen.attribute())
         for place in range(start, end):
             self.rows[place // self.width][place % self.width] = blank
+            self.known[place // self.width] = None
         self.pending = False
 
     def act(self, sequence: Sequence) -> None:
@@ -272,6 +289,13 @@ class Terminal:
         low, high = (0, self.height * self.width) if is_display else (self.y * self.width, (self.y + 1) * self.width)
         self.erase(at if part == 0 else low, at + 1 if part == 1 else high)
 
+    def runs(self, y: int) -> Runs:
+        """The longest runs of a row in one attribute. They are kept until the row changes."""
+        known = self.known[y]
+        if known is None:
+            known = self.known[y] = tuple(runs(self.rows[y]))
+        return known
+
     def cursor(self) -> Optional[Tuple[int, int]]:
         """Where the cursor shows."""
         return (self.x, self.y) if self.visible else None
@@ -280,22 +304,13 @@ class Terminal:
 # ---- what it shows
 
 
-def runs(row: List[Tuple[str, Attribute]]) -> Iterator[Tuple[int, str, Attribute]]:
-    """The longest runs of a row in one attribute: the column, the text, the attribute."""
-    start = 0
-    for at in range(1, len(row) + 1):
-        if at == len(row) or row[at][1] != row[start][1]:
-            yield start, "".join(char for char, _ in row[start:at]), row[start][1]
-            start = at
-
-
 def dump(terminal: Terminal) -> str:
     """What a terminal shows, as `conpty play` writes it."""
     cursor = "{},{}".format(*terminal.cursor()) if terminal.visible else "hidden"
     lines = [f"{terminal.width}x{terminal.height} cursor {cursor}"]
     lines += ["|" + "".join(char for char, _ in row) + "|" for row in terminal.rows]
-    for y, row in enumerate(terminal.rows):
-        for x, text, attribute in runs(row):
+    for y in range(terminal.height):
+        for x, text, attribute in terminal.runs(y):
             shades = f" f{attribute.fore}" * (attribute.fore >= 0) + f" b{attribute.back}" * (attribute.back >= 0)
             if attribute != Attribute():
                 lines.append(f"@{y},{x}+{len(text)} {attribute.word:04x}{shades}")

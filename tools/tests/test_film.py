@@ -116,11 +116,12 @@ class Films(unittest.TestCase):
         self.assertEqual(screen(film, 6), ["$ edit notes.txt"] + [""] * 11)
 
     def test_a_run_by_threads_that_was_kept(self):
-        with open(support.example("ctrl_c", "link"), "rb") as link:
-            ran = support.base.run_program(support.PROGRAM, ["run", support.example("ctrl_c", "json")], link.read())
-        words = [support.example("ctrl_c", "json"), support.example("ctrl_c", "link")]
-        film = film_in(self.film(*words, self.path("stream", ran.out), self.path("report", ran.err)))
-        self.assertIn("working", screen(film, len(film["steps"]) - 1))
+        """The shell is one client, so that it ends with the same screen in whatever order its keys come."""
+        session, link = support.example("shell", "json"), support.example("shell", "link")
+        with open(link, "rb") as file:
+            ran = support.base.run_program(support.PROGRAM, ["run", session], file.read())
+        film = film_in(self.film(session, link, self.path("stream", ran.out), self.path("report", ran.err)))
+        self.assertEqual(screen(film, len(film["steps"]) - 1), SHELL_END + [""] * 21)
 
     def test_pictures_are_those_of_the_program(self):
         """Each picture, played by the program itself."""
