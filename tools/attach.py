@@ -39,8 +39,11 @@ GRACE = 3.0
 
 
 def terminal_size(terminal: int) -> Optional[Tuple[int, int]]:
-    """The terminal's size within the program's limits, or None where it does not know it."""
-    width, height = os.get_terminal_size(terminal)
+    """The terminal's size within the program's limits, or None where it does not know it or has gone."""
+    try:
+        width, height = os.get_terminal_size(terminal)
+    except OSError:
+        return None
     return (min(width, 512), min(height, 256)) if width and height else None
 
 

@@ -45,7 +45,8 @@ def compare(first: str, second: str) -> int:
     reports = [read_report(base.read_bytes(name), name) for name in (first, second)]
     at = first_difference(*reports)
     if at < 0:
-        print(f"the same {len(reports[0].events) + 1} lines, but for lengths")
+        lines = len(reports[0].events) + 1
+        print(f"the same {lines} line{'s' * (lines > 1)}, but for lengths")
         return 0
     print(f"line {at + 1} differs")
     for name, report in zip((first, second), reports):

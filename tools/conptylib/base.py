@@ -120,6 +120,11 @@ def size_argument(text: str) -> Tuple[int, int]:
     return size
 
 
+def printed(text: str) -> str:
+    """A text with escapes in place of each character that is not printed, so that no terminal obeys it."""
+    return "".join(char if char.isprintable() else f"\\u{{{ord(char):x}}}" for char in text)
+
+
 def start(main: Callable[[List[str]], int]) -> None:
     """Runs a tool's main function, tells its error in one line, and ends with its status."""
     name = os.path.basename(sys.argv[0])
@@ -127,7 +132,7 @@ def start(main: Callable[[List[str]], int]) -> None:
         status = main(sys.argv[1:])
         sys.stdout.flush()
     except ToolError as fault:
-        print(f"{name}: {fault}", file=sys.stderr)
+        print(f"{name}: {printed(str(fault))}", file=sys.stderr)
         status = fault.status
     except BrokenPipeError:
         os.dup2(os.open(os.devnull, os.O_WRONLY), sys.stdout.fileno())

@@ -249,6 +249,8 @@ class Tool(unittest.TestCase):
         )
         ran = support.tool("link.py", "make", given=b"quiet\nquiet\nkey ctr+c\n")
         self.assertEqual((ran.returncode, ran.stdout, ran.stderr), (2, b"", b"link.py: line 3: no such key: ctr+c\n"))
+        ran = support.tool("link.py", "make", given=b"key \x1b]0;a\x07")
+        self.assertEqual(ran.stderr, b"link.py: line 1: no such key: \\u{1b}]0;a\\u{7}\n")
         with tempfile.TemporaryDirectory() as folder:
             path = os.path.join(folder, "none")
             self.assertEqual(
