@@ -129,16 +129,46 @@ class Attached(unittest.TestCase):
         pane.wait_over(143, '["end",0]')
         self.assertEqual(pane.read("link"), b"X")
 
-    def test_a_program_that_dies(self):
+    def program(self, script: str) -> str:
+        """A program of these lines, in place of the real one."""
         folder = tempfile.TemporaryDirectory()
         self.addCleanup(folder.cleanup)
-        path = os.path.join(folder.name, "dies")
+        path = os.path.join(folder.name, "program")
         with open(path, "w", encoding="utf-8") as file:
-            file.write("#!/bin/sh\nprintf '\\033[Hhalf a picture\\033[31m\\033[?25l'; sleep 1; kill -9 $$\n")
+            file.write("#!/bin/sh\n" + script)
         os.chmod(path, 0o755)
-        pane = self.pane(80, 25, support.example("shell", "json"), program=path)
+        return path
+
+    def test_a_program_that_dies(self):
+        program = self.program("printf '\\033[Hhalf a picture\\033[31m\\033[?25l'; sleep 1; kill -9 $$\n")
+        pane = self.pane(80, 25, support.example("shell", "json"), program=program)
         pane.wait("half a picture")
         pane.wait_over(137, "no report")
+
+    def test_a_program_that_does_not_end(self):
+        program = self.program("printf '\\033[Hforever'; exec sleep 300\n")
+        pane = self.pane(80, 25, support.example("shell", "json"), program=program)
+        pane.wait("forever")
+        pane.type("C-]")
+        time.sleep(0.5)
+        pane.wait("forever")
+        pane.type("C-]")
+        pane.wait_over(137, "no report")
+
+    def test_the_mouse(self):
+        calls = [["set-mode", 1, 16], ["write", 2, "ready "], ["read-input", 1, 1], ["write", 2, "clicked"]]
+        with tempfile.NamedTemporaryFile("w", suffix=".json") as file:
+            json.dump(support.one_client(calls), file)
+            file.flush()
+            pane = self.pane(80, 25, file.name, "--mouse", "--report", "report")
+            pane.wait("ready")
+            self.assertEqual(pane.tmux("display", "-p", "#{mouse_all_flag} #{mouse_sgr_flag}"), "1 1\n")
+            pane.type("-l", "\x1b[<0;3;4M")
+            pane.wait("ready clicked")
+            pane.type("C-]")
+            pane.wait_over(0, '["end",0]')
+            self.assertEqual(pane.tmux("display", "-p", "#{mouse_all_flag} #{mouse_sgr_flag}"), "0 0\n")
+        self.assertEqual(support.replies(pane.read("report"), "collect"), [["ok", [["mouse", 2, 3, 1, 0, 0]]]])
 
     def test_without_a_terminal(self):
         ran = support.tool("attach.py", support.example("shell", "json"))
