@@ -5,8 +5,4 @@ pub mod callers;
 #[cfg(test)]
 mod failing;
 #[cfg(test)]
-mod rows;
-#[cfg(test)]
 mod runs;
-#[cfg(test)]
-mod sessions;

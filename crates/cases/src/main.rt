@@ -1,0 +1,129 @@
+//! Runs cases: what sessions, texts and links show, as data. The words name files of cases; README.md says how they are written. A line is
+//! printed for each case. The status is 0 where all are right, 1 where one differs, and 2 where a file is none of cases.
+#![tactic(auto)]
+
+mod each;
+mod fault;
+mod judging;
+mod part;
+mod running;
+mod setup;
+mod showing;
+mod strings;
+mod wanted;
+
+use each::each_difference;
+use fault::{Fault, Wrong};
+use judging::{Came, difference};
+use part::{Head, Line, Part, case_name, lines, parts};
+use running::host_case;
+use setup::{Setup, failing_end, times};
+use std::alloc::Global;
+use std::process::ExitCode;
+use std::rt::Files;
+use std::sync::Wait;
+use std::thread::Threads;
+use std::{env, fs, io};
+
+/// All cases are right.
+const RIGHT: u8 = 0;
+
+/// One case differs, or could not be told.
+const DIFFERENT: u8 = 1;
+
+/// A file is none of cases, or could not be read.
+const NO_CASES: u8 = 2;
+
+// What differs where a case is run so often as it says, or `None`.
+fn case_difference<T: Threads + Wait + Sync>(
+    rt: &T,
+    alloc: Global,
+    parts: &[Part<'_>],
+) -> Result<Option<String>, Wrong> {
+    for _ in 0..times(parts)? {
+        let setup = Setup::of(alloc, parts)?;
+        let (failing, is_played) = (setup.failing, setup.is_played());
+        let ran = host_case(rt, alloc, setup)?;
+        let came = Came::of(alloc, &ran, is_played)?;
+        if let Some(text) = difference(alloc, &came, parts, failing)? {
+            return Ok(Some(text));
+        }
+        if let Some(each) = failing_end(parts)? {
+            return each_difference(rt, alloc, parts, each, &ran);
+        }
+    }
+    Ok(None)
+}
+
+// The name of the case of some lines, and what differs where it is run.
+fn case_run<'a, T: Threads + Wait + Sync>(
+    rt: &T,
+    alloc: Global,
+    lines: &'a [Line<'a>],
+) -> Result<(&'a str, Option<String>), Wrong> {
+    let Some((first, lines)) = lines.split_first() else {
+        return Ok(("", None));
+    };
+    let Some(name) = case_name(first.text) else {
+        return Err(first.wrong(Fault::Case));
+    };
+    let parts = parts(alloc, lines)?;
+    match parts.as_slice().first() {
+        Some(part) if part.head == Head::Words => {
+            Ok((name, case_difference(rt, alloc, parts.as_slice())?))
+        }
+        _ => Err(first.wrong(Fault::Case)),
+    }
+}
+
+// Runs the cases of a text, and says whether all are right, and were told.
+fn run_text<R: Threads + Wait + Sync + Print>(
+    rt: &R,
+    alloc: Global,
+    file: &str,
+    text: &str,
+) -> Result<bool, Wrong> {
+    let lines = lines(alloc, text)?;
+    let mut right = true;
+    for chunk in lines
+        .as_slice()
+        .chunk_by(|_, next| case_name(next.text).is_none())
+    {
+        let (name, difference) = case_run(rt, alloc, chunk)?;
+        let line = match difference {
+            None => format!(in alloc; "{file}/{name}: ok")?,
+            Some(text) => {
+                right = false;
+                format!(in alloc; "{file}/{name}: {text}")?
+            }
+        };
+        right = rt.println(line.as_str()).is_ok() && right;
+    }
+    Ok(right)
+}
+
+// Runs the cases of a file, and answers the status.
+fn run_file<R: Threads + Wait + Sync + Print + Files + AllocGlobal>(rt: &R, name: &str) -> u8 {
+    let Ok(text) = fs::read_to_string(rt, name) else {
+        let _ = println!(rt; "{name}: no file of cases");
+        return NO_CASES;
+    };
+    let file = name.strip_suffix(".cases").unwrap_or(name);
+    match run_text(rt, rt.alloc(), file, text.as_str()) {
+        Ok(true) => RIGHT,
+        Ok(false) => DIFFERENT,
+        Err(wrong) => {
+            let (line, fault) = (wrong.line, wrong.fault);
+            let _ = println!(rt; "{name}:{line}: {fault}");
+            NO_CASES
+        }
+    }
+}
+
+fn main(rt: HostRuntime) -> io::Result<ExitCode> {
+    let mut status = RIGHT;
+    for name in env::args(&rt)?.skip(1) {
+        status = status.max(run_file(&rt, name.as_str()));
+    }
+    Ok(ExitCode::from(status))
+}

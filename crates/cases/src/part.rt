@@ -1,0 +1,131 @@
+//! The lines of a file of cases, and the parts of a case.
+use crate::fault::{Fault, Wrong};
+use std::alloc::{AllocError, Global};
+
+/// A line of a file, with its number, counted from 1.
+#[derive(Clone, Copy, Debug)]
+pub struct Line<'a> {
+    pub number: usize,
+    pub text: &'a str,
+}
+
+impl<'a> Line<'a> {
+    /// That something is wrong with this line.
+    pub fn wrong(&self, fault: Fault) -> Wrong {
+        Wrong {
+            line: self.number,
+            fault,
+        }
+    }
+
+    /// A part of this line.
+    pub fn part(&self, text: &'a str) -> Line<'a> {
+        Line {
+            number: self.number,
+            text,
+        }
+    }
+}
+
+/// The lines of a file that are neither empty nor a comment.
+pub fn lines<'a>(alloc: Global, text: &'a str) -> Result<Vec<Line<'a>>, AllocError> {
+    let mut out = Vec::new(alloc);
+    for (at, text) in text.lines().enumerate() {
+        if !text.is_empty() && !text.starts_with('#') {
+            out.push(Line {
+                number: at.saturating_add(1),
+                text,
+            })?;
+        }
+    }
+    Ok(out)
+}
+
+/// The name of the case that a line begins.
+pub fn case_name<'a>(text: &'a str) -> Option<&'a str> {
+    text.strip_prefix("== ")
+}
+
+/// What a part of a case says.
+#[derive(Clone, Copy, Debug, PartialEq, Eq)]
+pub enum Head {
+    Words,
+    File,
+    Bytes,
+    Link,
+    Times,
+    Fails,
+    Each,
+    Takes,
+    Status,
+    Report,
+    Stream,
+    Dump,
+    Cells,
+    Or,
+}
+
+/// The first word of a line, and what stands behind it.
+pub fn first_word<'a>(text: &'a str) -> (&'a str, &'a str) {
+    text.split_once(' ').unwrap_or((text, ""))
+}
+
+impl Head {
+    /// What the part says that a word heads.
+    fn of(word: &str) -> Option<Head> {
+        match word {
+            "words:" => Some(Head::Words),
+            "file" => Some(Head::File),
+            "bytes" => Some(Head::Bytes),
+            "link" => Some(Head::Link),
+            "times" => Some(Head::Times),
+            "fails" => Some(Head::Fails),
+            "each" => Some(Head::Each),
+            "takes" => Some(Head::Takes),
+            "status" => Some(Head::Status),
+            "report" => Some(Head::Report),
+            "stream" => Some(Head::Stream),
+            "dump" => Some(Head::Dump),
+            "cells" => Some(Head::Cells),
+            "or" => Some(Head::Or),
+            _ => None,
+        }
+    }
+}
+
+/// A part of a case: the line that heads it, without its first word, and its lines.
+#[derive(Clone, Copy, Debug)]
+pub struct Part<'a> {
+    pub head: Head,
+    pub rest: Line<'a>,
+    pub lines: &'a [Line<'a>],
+}
+
+// Whether a line heads a part.
+fn is_head(text: &str) -> bool {
+    Head::of(first_word(text).0).is_some()
+}
+
+/// The parts of these lines.
+pub fn parts<'a>(alloc: Global, lines: &'a [Line<'a>]) -> Result<Vec<Part<'a>>, Wrong> {
+    let mut out = Vec::new(alloc);
+    for chunk in lines.chunk_by(|_, next| !is_head(next.text)) {
+        if let Some((first, lines)) = chunk.split_first() {
+            out.push(part_of(*first, lines)?)?;
+        }
+    }
+    Ok(out)
+}
+
+// The part that a line heads.
+fn part_of<'a>(line: Line<'a>, lines: &'a [Line<'a>]) -> Result<Part<'a>, Wrong> {
+    let (word, rest) = first_word(line.text);
+    match Head::of(word) {
+        Some(head) => Ok(Part {
+            head,
+            rest: line.part(rest),
+            lines,
+        }),
+        None => Err(line.wrong(Fault::Head)),
+    }
+}

@@ -1,0 +1,262 @@
+//! What a case runs.
+use crate::fault::{Fault, Wrong};
+use crate::part::{Head, Line, Part, first_word};
+use crate::strings::{bytes, repeated};
+use std::alloc::{AllocError, Global};
+use std::str::FromStr;
+
+/// The words, the files of a name each and what the terminal sends; the call of the files, the link, the
+/// terminal and the report that fails, counted from 0, where `u64::MAX` is none, and the most bytes that the last two take at once.
+#[derive(Drop)]
+pub struct Setup {
+    pub words: Vec<String>,
+    pub names: Vec<String>,
+    pub texts: Vec<Vec<u8>>,
+    pub link: Vec<u8>,
+    pub failing: Failing,
+    pub most: usize,
+}
+
+/// An end of the outside.
+#[derive(Clone, Copy, Debug, PartialEq, Eq)]
+pub enum End {
+    Files,
+    Link,
+    Term,
+    Report,
+}
+
+impl End {
+    // The end of a name.
+    fn of(name: &str) -> Option<End> {
+        match name {
+            "files" => Some(End::Files),
+            "link" => Some(End::Link),
+            "term" => Some(End::Term),
+            "report" => Some(End::Report),
+            _ => None,
+        }
+    }
+}
+
+/// The calls that fail.
+#[derive(Clone, Copy, Debug, PartialEq, Eq)]
+pub struct Failing {
+    pub files: u64,
+    pub link: u64,
+    pub term: u64,
+    pub report: u64,
+}
+
+impl Failing {
+    /// No call.
+    pub const NONE: Failing = Failing {
+        files: u64::MAX,
+        link: u64::MAX,
+        term: u64::MAX,
+        report: u64::MAX,
+    };
+
+    /// The same, and this call of an end.
+    pub fn with(self, end: End, call: u64) -> Failing {
+        match end {
+            End::Files => Failing {
+                files: call,
+                ..self
+            },
+            End::Link => Failing { link: call, ..self },
+            End::Term => Failing { term: call, ..self },
+            End::Report => Failing {
+                report: call,
+                ..self
+            },
+        }
+    }
+}
+
+impl Setup {
+    fn new(alloc: Global) -> Setup {
+        Setup {
+            words: Vec::new(alloc),
+            names: Vec::new(alloc),
+            texts: Vec::new(alloc),
+            link: Vec::new(alloc),
+            failing: Failing::NONE,
+            most: usize::MAX,
+        }
+    }
+
+    // Does what a part says of what is run.
+    fn take(&mut self, alloc: Global, part: &Part<'_>) -> Result<(), Wrong> {
+        match part.head {
+            Head::Words => words(alloc, part.rest, &mut self.words)?,
+            Head::File => self.file(alloc, part, text(alloc, part.lines)?)?,
+            Head::Bytes => self.file(alloc, part, all_bytes(alloc, part.lines)?)?,
+            Head::Link => link(alloc, part.lines, &mut self.link)?,
+            Head::Fails => {
+                let (end, call) = end_number(part.rest)?;
+                self.failing = self.failing.with(end, call);
+            }
+            Head::Takes => self.most = number(part.rest)?,
+            _ => {}
+        }
+        Ok(())
+    }
+
+    // A file of this name.
+    fn file(&mut self, alloc: Global, part: &Part<'_>, text: Vec<u8>) -> Result<(), AllocError> {
+        self.names.push(String::from_str(alloc, part.rest.text)?)?;
+        self.texts.push(text)?;
+        Ok(())
+    }
+
+    /// Whether the first word is `play`.
+    pub fn is_played(&self) -> bool {
+        match self.words.as_slice().first() {
+            Some(word) => word.as_str() == "play",
+            None => false,
+        }
+    }
+
+    /// What the parts of a case say of what is run.
+    pub fn of(alloc: Global, parts: &[Part<'_>]) -> Result<Setup, Wrong> {
+        let mut setup = Setup::new(alloc);
+        for part in parts {
+            setup.take(alloc, part)?;
+        }
+        Ok(setup)
+    }
+}
+
+/// The number that a line is.
+pub fn number<N: FromStr>(line: Line<'_>) -> Result<N, Wrong>
+where
+    <N as FromStr>::Err: Drop,
+{
+    match line.text.parse::<N>() {
+        Ok(number) => Ok(number),
+        Err(_) => Err(line.wrong(Fault::Number)),
+    }
+}
+
+// The words of a line.
+fn words(alloc: Global, line: Line<'_>, out: &mut Vec<String>) -> Result<(), Wrong> {
+    for word in line.text.split(' ') {
+        if word.starts_with('"') {
+            let Ok(word) = String::from_utf8(bytes(alloc, line.part(word))?) else {
+                return Err(line.wrong(Fault::String));
+            };
+            out.push(word)?;
+        } else if !word.is_empty() {
+            out.push(String::from_str(alloc, word)?)?;
+        }
+    }
+    Ok(())
+}
+
+// Lines as the text of a file.
+fn text(alloc: Global, lines: &[Line<'_>]) -> Result<Vec<u8>, AllocError> {
+    let mut out = Vec::new(alloc);
+    for line in lines {
+        out.extend_from_slice(line.text.as_bytes())?;
+        out.push(10)?;
+    }
+    Ok(out)
+}
+
+/// The bytes of lines of strings.
+pub fn all_bytes(alloc: Global, lines: &[Line<'_>]) -> Result<Vec<u8>, Wrong> {
+    let mut out = Vec::new(alloc);
+    for line in lines {
+        out.extend_from_slice(bytes(alloc, *line)?.as_slice())?;
+    }
+    Ok(out)
+}
+
+/// How often a case is run.
+pub fn times(parts: &[Part<'_>]) -> Result<u32, Wrong> {
+    for part in parts {
+        if part.head == Head::Times {
+            return number::<u32>(part.rest);
+        }
+    }
+    Ok(1)
+}
+
+/// The end of which each call is to fail in turn, and how many have to at least.
+pub fn failing_end(parts: &[Part<'_>]) -> Result<Option<(End, u64)>, Wrong> {
+    for part in parts {
+        if part.head == Head::Each {
+            return Ok(Some(end_number(part.rest)?));
+        }
+    }
+    Ok(None)
+}
+
+// The end and the number that a line says.
+fn end_number(line: Line<'_>) -> Result<(End, u64), Wrong> {
+    let (name, count) = first_word(line.text);
+    match End::of(name) {
+        Some(end) => Ok((end, number::<u64>(line.part(count))?)),
+        None => Err(line.wrong(Fault::Line)),
+    }
+}
+
+// What the terminal sends by lines.
+fn link(alloc: Global, lines: &[Line<'_>], out: &mut Vec<u8>) -> Result<(), Wrong> {
+    for line in lines {
+        frame(alloc, *line, out)?;
+    }
+    Ok(())
+}
+
+// What the terminal sends by a line.
+fn frame(alloc: Global, line: Line<'_>, out: &mut Vec<u8>) -> Result<(), Wrong> {
+    let (tag, rest) = first_word(line.text);
+    let rest = line.part(rest);
+    match tag {
+        "B" => typed(alloc, rest, out),
+        "R" => size(rest, out),
+        "Q" => frames(0x51, rest, out),
+        "P" => frames(0x50, rest, out),
+        "X" => frames(0x58, rest, out),
+        "raw" => Ok(out.extend_from_slice(bytes(alloc, rest)?.as_slice())?),
+        _ => Err(line.wrong(Fault::Line)),
+    }
+}
+
+// A frame of typed bytes.
+fn typed(alloc: Global, line: Line<'_>, out: &mut Vec<u8>) -> Result<(), Wrong> {
+    let bytes = bytes(alloc, line)?;
+    let Ok(length) = u16::try_from(bytes.len()) else {
+        return Err(line.wrong(Fault::Number));
+    };
+    out.push(0x42)?;
+    out.extend_from_slice(&length.to_be_bytes())?;
+    out.extend_from_slice(bytes.as_slice())?;
+    Ok(())
+}
+
+// A frame of a size.
+fn size(line: Line<'_>, out: &mut Vec<u8>) -> Result<(), Wrong> {
+    let (width, height) = first_word(line.text);
+    let width = number::<u16>(line.part(width))?;
+    let height = number::<u16>(line.part(height))?;
+    out.push(0x52)?;
+    out.extend_from_slice(&width.to_be_bytes())?;
+    out.extend_from_slice(&height.to_be_bytes())?;
+    Ok(())
+}
+
+// A frame without more, so often as the line says.
+fn frames(tag: u8, line: Line<'_>, out: &mut Vec<u8>) -> Result<(), Wrong> {
+    match repeated(line.text) {
+        Some((times, "")) => {
+            for _ in 0..times {
+                out.push(tag)?;
+            }
+            Ok(())
+        }
+        _ => Err(line.wrong(Fault::Number)),
+    }
+}

@@ -1,0 +1,244 @@
+//! Wanted lines beside those that came.
+use crate::fault::{Fault, Wrong};
+use crate::part::Line;
+use crate::strings::{Kind, Quoted, byte_list, strings_in, unit_list};
+use std::alloc::{AllocError, Global};
+
+/// What stands for a number in a wanted line.
+const NUMBER: char = '\0';
+
+/// How a line is compared with a wanted one.
+#[derive(Clone, Copy, Debug, PartialEq, Eq)]
+pub enum Way {
+    Report,
+    Dump,
+}
+
+/// A wanted line, and what it stands for.
+#[derive(Drop)]
+pub struct Wanted<'a> {
+    pub line: Line<'a>,
+    pub text: String,
+}
+
+impl Wanted<'_> {
+    // Whether any number of lines may stand here.
+    fn is_any(&self) -> bool {
+        self.line.text == "..."
+    }
+}
+
+/// A line that came, counted from 0, and the one that was wanted; `None` is none.
+#[derive(Clone, Copy, Debug)]
+pub struct Difference<'a> {
+    pub at: usize,
+    pub wanted: Option<Line<'a>>,
+}
+
+/// What lines of a wanted dump stand for.
+pub fn dump_lines<'a>(alloc: Global, lines: &[Line<'a>]) -> Result<Vec<Wanted<'a>>, AllocError> {
+    let mut out = Vec::new(alloc);
+    for line in lines {
+        let text = String::from_str(alloc, line.text)?;
+        out.push(Wanted { line: *line, text })?;
+    }
+    Ok(out)
+}
+
+/// What lines of a wanted report stand for.
+pub fn report_lines<'a>(alloc: Global, lines: &[Line<'a>]) -> Result<Vec<Wanted<'a>>, Wrong> {
+    let mut out = Vec::new(alloc);
+    for line in lines {
+        let text = expanded(alloc, *line)?;
+        out.push(Wanted { line: *line, text })?;
+    }
+    Ok(out)
+}
+
+// Puts what stands outside of strings last.
+fn push_bare(out: &mut String, bare: &str) -> Result<(), AllocError> {
+    for c in bare.chars() {
+        out.push(if c == '?' { NUMBER } else { c })?;
+    }
+    Ok(())
+}
+
+// What a line of a wanted report stands for.
+fn expanded(alloc: Global, line: Line<'_>) -> Result<String, Wrong> {
+    let strings = strings_in(alloc, line)?;
+    let mut out = String::new(alloc);
+    let mut inside = false;
+    for quoted in strings.quoted.as_slice() {
+        if !inside || !quoted.before.trim().is_empty() {
+            out.push_str(if inside { "\"" } else { "" })?;
+            push_bare(&mut out, quoted.before)?;
+            out.push('"')?;
+            inside = true;
+        }
+        let text = told(alloc, line, quoted)?;
+        for _ in 0..quoted.times {
+            out.push_str(text.as_str())?;
+        }
+    }
+    out.push_str(if inside { "\"" } else { "" })?;
+    push_bare(&mut out, strings.end)?;
+    Ok(out)
+}
+
+// What a string of a report has for one of a wanted line, once.
+fn told(alloc: Global, line: Line<'_>, quoted: &Quoted<'_>) -> Result<String, Wrong> {
+    match quoted.kind {
+        Kind::Plain => Ok(String::from_str(alloc, quoted.text)?),
+        Kind::Units => Ok(units_told(alloc, unit_list(alloc, line, quoted.text)?.as_slice())?),
+        Kind::Bytes => Ok(bytes_told(alloc, byte_list(alloc, line, quoted.text)?.as_slice())?),
+        Kind::Cells(word) => {
+            let units = unit_list(alloc, line, quoted.text)?;
+            Ok(cells_told(alloc, units.as_slice(), word)?)
+        }
+    }
+}
+
+fn units_told(alloc: Global, units: &[u16]) -> Result<String, AllocError> {
+    let mut out = String::new(alloc);
+    for unit in units {
+        write!(out, "{unit:04x}")?;
+    }
+    Ok(out)
+}
+
+fn cells_told(alloc: Global, units: &[u16], word: u16) -> Result<String, AllocError> {
+    let mut out = String::new(alloc);
+    for unit in units {
+        write!(out, "{unit:04x}{word:04x}")?;
+    }
+    Ok(out)
+}
+
+fn bytes_told(alloc: Global, bytes: &[u8]) -> Result<String, AllocError> {
+    let mut out = String::new(alloc);
+    for byte in bytes {
+        write!(out, "{byte:02x}")?;
+    }
+    Ok(out)
+}
+
+// Whether a line of a report is the wanted one.
+fn is_told(wanted: &str, line: &str) -> bool {
+    let mut rest = line;
+    for c in wanted.chars() {
+        let behind = if c == NUMBER {
+            behind_number(rest)
+        } else {
+            rest.strip_prefix(c)
+        };
+        match behind {
+            Some(behind) => rest = behind,
+            None => return false,
+        }
+    }
+    rest.is_empty()
+}
+
+/// What stands behind the number that a text begins with.
+pub fn behind_number<'a>(text: &'a str) -> Option<&'a str> {
+    let behind = text.trim_start_matches(|c: char| c.is_ascii_digit());
+    if behind.len() < text.len() {
+        Some(behind)
+    } else {
+        None
+    }
+}
+
+// Whether a line of a dump is the wanted one.
+fn is_shown(wanted: &str, line: &str) -> bool {
+    if let Some(front) = wanted.strip_suffix('>') {
+        let Some(row) = line.strip_suffix('|') else {
+            return false;
+        };
+        return match row.strip_prefix(front) {
+            Some(rest) => rest.chars().all(|c| c == ' '),
+            None => false,
+        };
+    }
+    wanted == line
+}
+
+/// Whether a line is the wanted one.
+pub fn is_line(way: Way, wanted: &str, line: &str) -> bool {
+    match way {
+        Way::Report => is_told(wanted, line),
+        Way::Dump => is_shown(wanted, line),
+    }
+}
+
+/// Whether a line of a dump, also a wanted one, is a row of spaces.
+pub fn is_blank(line: &str) -> bool {
+    let Some(row) = line.strip_prefix('|') else {
+        return false;
+    };
+    match row.strip_suffix('|').or(row.strip_suffix('>')) {
+        Some(row) => row.chars().all(|c| c == ' '),
+        None => false,
+    }
+}
+
+// The place of the first of some lines that does not begin those that came.
+fn first_other(way: Way, wanted: &[Wanted<'_>], lines: &[&str]) -> Option<usize> {
+    for (at, one) in wanted.iter().enumerate() {
+        match lines.get(at) {
+            Some(line) if is_line(way, one.text.as_str(), *line) => {}
+            _ => return Some(at),
+        }
+    }
+    None
+}
+
+// Where some lines first stand from a place on.
+fn found(way: Way, wanted: &[Wanted<'_>], lines: &[&str], from: usize) -> Option<usize> {
+    for at in from..=lines.len() {
+        if first_other(way, wanted, lines.get(at..).unwrap_or(&[])).is_none() {
+            return Some(at);
+        }
+    }
+    None
+}
+
+// That one of some lines is not there, at a place.
+fn missing<'a>(wanted: &[Wanted<'a>], one: usize, at: usize) -> Option<Difference<'a>> {
+    let wanted = match wanted.get(one) {
+        Some(wanted) => Some(wanted.line),
+        None => None,
+    };
+    Some(Difference { at, wanted })
+}
+
+/// The first difference of lines from those that are wanted, where `...` stands for any number of lines.
+pub fn first_difference<'a>(
+    way: Way,
+    wanted: &[Wanted<'a>],
+    lines: &[&str],
+) -> Option<Difference<'a>> {
+    let gaps = wanted.iter().filter(|line| line.is_any()).count();
+    let mut at: usize = 0;
+    for (number, block) in wanted.split(|line| line.is_any()).enumerate() {
+        let from = if number == 0 {
+            Some(0)
+        } else if number == gaps {
+            Some(at.max(lines.len().saturating_sub(block.len())))
+        } else {
+            found(way, block, lines, at)
+        };
+        let Some(from) = from else {
+            return missing(block, 0, at);
+        };
+        if let Some(one) = first_other(way, block, lines.get(from..).unwrap_or(&[])) {
+            return missing(block, one, from.saturating_add(one));
+        }
+        at = from.saturating_add(block.len());
+    }
+    if at < lines.len() {
+        Some(Difference { at, wanted: None })
+    } else {
+        None
+    }
+}
