@@ -1,8 +1,4 @@
-//! Tests of con_host, and a caller that uses its promises.
+//! A caller of con_host that uses its promises.
 #![tactic(auto)]
 
 pub mod callers;
-#[cfg(test)]
-mod failing;
-#[cfg(test)]
-mod runs;
