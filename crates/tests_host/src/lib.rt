@@ -1,4 +1,20 @@
-//! A caller of con_host that uses its promises.
+//! Tests of con_host that no session shows by its document and its link, and a caller that uses its promises: sessions by threads in the
+//! order that a gate makes, clients that meet, a first write that is held.
+//!
+//! What they want is worked out by hand. In documents and reports that stand here, ' stands for a quotation mark. All else that a
+//! session shows is data of `cases`.
 #![tactic(auto)]
 
 pub mod callers;
+#[cfg(test)]
+mod held;
+#[cfg(test)]
+mod meeting;
+#[cfg(test)]
+mod order;
+#[cfg(test)]
+mod orders;
+#[cfg(test)]
+mod report;
+#[cfg(test)]
+mod runs;

@@ -4,9 +4,7 @@ ghost use Rattle.std.specs.Prelude.{◌≤◌, All, length};
 use crate::report::quoted;
 use con_handlers::CtrlHandler;
 use con_host::console_host;
-use con_outside::{
-    Gate, MemoryFiles, MemorySink, MemorySource, NoGate, Sink, Source, SureSink, SureSource,
-};
+use con_outside::{Gate, MemoryFiles, NoGate, Sink, Source, SureSink, SureSource};
 use con_units::Bytes;
 use std::alloc::Global;
 use std::sync::Wait;
@@ -19,29 +17,6 @@ pub struct Told {
     pub status: u8,
     pub report: Bytes,
 }
-
-/// What a session answered, wrote to the terminal and reported.
-#[derive(Drop)]
-pub struct Ran {
-    pub status: u8,
-    pub written: Bytes,
-    pub report: Bytes,
-}
-
-/// The call that fails, counted from 0, of the link and the terminal, where `u64::MAX` is none; and the most bytes that the terminal
-/// takes at once.
-#[derive(Clone, Copy)]
-pub struct Outside {
-    pub link: u64,
-    pub term: u64,
-    pub most: usize,
-}
-
-pub const SURE: Outside = Outside {
-    link: u64::MAX,
-    term: u64::MAX,
-    most: usize::MAX,
-};
 
 /// The handlers of each client.
 pub type Racks = Vec<Vec<Box<dyn CtrlHandler + Send>>>;
@@ -104,45 +79,6 @@ pub fn source(alloc: Global, bytes: &[u8]) -> Result<SureSource, Fail> {
     Ok(SureSource {
         bytes: Bytes(bytes.to_vec(alloc)?),
         at: 0,
-    })
-}
-
-/// Runs a session by threads, over a link of these bytes, without handlers and a gate.
-pub fn run<T: Threads + Wait + Sync>(
-    rt: &T,
-    alloc: Global,
-    document: &str,
-    bytes: &[u8],
-    outside: Outside,
-) -> Result<Ran, Fail> {
-    let mut link = MemorySource {
-        bytes: Bytes(bytes.to_vec(alloc)?),
-        at: 0,
-        fail: Vec::from_elem(alloc, outside.link, 1)?,
-        calls: 0,
-        faults: 0,
-    };
-    let mut term = MemorySink {
-        written: Bytes(Vec::new(alloc)),
-        most: outside.most,
-        fail: Vec::from_elem(alloc, outside.term, 1)?,
-        calls: 0,
-        faults: 0,
-    };
-    let told = host(
-        rt,
-        alloc,
-        ["run", "session"],
-        document,
-        &mut link,
-        &mut term,
-        Vec::new(alloc),
-        &NoGate,
-    )?;
-    Ok(Ran {
-        status: told.status,
-        written: term.written,
-        report: told.report,
     })
 }
 

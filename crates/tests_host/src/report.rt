@@ -28,8 +28,8 @@ fn lines_from(alloc: Global, report: &[u8], begins: &[u8]) -> Result<Vec<u8>, Fa
     Ok(out)
 }
 
-/// The lines of an actor.
-pub fn lines_of(alloc: Global, report: &Bytes, actor: &str) -> Result<Vec<u8>, Fail> {
+// The lines of an actor.
+fn lines_of(alloc: Global, report: &Bytes, actor: &str) -> Result<Vec<u8>, Fail> {
     let begins = quoted(alloc, format!(in alloc; "['{actor}',")?.as_str())?;
     lines_from(alloc, report.as_slice(), begins.as_slice())
 }
