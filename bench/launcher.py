@@ -4,7 +4,7 @@
     launcher.py [WORD..]
 
 The made-up `rt` proves nothing: it takes a moment for each crate, notes what it was asked, and makes a script for the program. So this tells in
-half a minute in which order crates are proved, what is proved again and what is not, and how calls end. With words it tries those whose names have
+a minute in which order crates are proved, what is proved again and what is not, and how calls end. With words it tries those whose names have
 one of them. It prints a line for each, and ends with 1 where one was otherwise than it has to be."""
 import json
 import os
