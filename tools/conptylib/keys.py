@@ -165,8 +165,13 @@ def mouse_name(spelled: bytes) -> Optional[str]:
 
 # ---- the way back
 
-TEXT = re.compile(rb"[\x20-\x7e]+")
 MOST_HELD = 32
+CONTROL_FRONT = re.compile(rb"\x1b\[[\x30-\x3f]*[\x20-\x2f]*")
+CONTROL_WHOLE = re.compile(rb"\x1b\[[\x30-\x3f]*[\x20-\x2f]*[\x40-\x7e]")
+SHORT_WHOLE = re.compile(rb"\x1bO[\x40-\x7e]|\x1b[\x00-\x1a\x1c-\x4e\x50-\x5a\x5c-\x7f]")
+TEXT = re.compile(rb"[\x20-\x7e]+")
+# What needs no look at what is held: a run of text, a control, a whole sequence.
+WHOLE = re.compile(b"|".join([TEXT.pattern, rb"[\x00-\x1a\x1c-\x1f\x7f]", CONTROL_WHOLE.pattern, SHORT_WHOLE.pattern]))
 
 
 class Splitter:
@@ -180,11 +185,13 @@ class Splitter:
         """The pieces that these bytes end. A text's piece has as many characters as stand together."""
         i = 0
         while i < len(typed):
-            run = TEXT.match(typed, i) if not self.held else None
-            if run:
-                yield Piece(self.at, self.at + run.end() - i, "text")
-                self.at += run.end() - i
-                i = run.end()
+            found = WHOLE.match(typed, i) if not self.held else None
+            length = found.end() - i if found else 0
+            is_text = 0x20 <= typed[i] < 0x7F
+            if found and (is_text or length <= MOST_HELD + 1):
+                yield Piece(self.at, self.at + length, "text" if is_text else kind_of(found.group()) or "none")
+                self.at += length
+                i += length
             else:
                 yield from self.advance(typed[i : i + 1])
                 i += 1
@@ -211,11 +218,6 @@ class Splitter:
             return
         yield self.piece(self.at + 1, kind or "none")
         self.held, self.at = b"", self.at + 1
-
-
-CONTROL_FRONT = re.compile(rb"\x1b\[[\x30-\x3f]*[\x20-\x2f]*")
-CONTROL_WHOLE = re.compile(rb"\x1b\[[\x30-\x3f]*[\x20-\x2f]*[\x40-\x7e]")
-SHORT_WHOLE = re.compile(rb"\x1bO[\x40-\x7e]|\x1b[\x00-\x1a\x1c-\x4e\x50-\x5a\x5c-\x7f]")
 
 
 def is_front(held: bytes) -> bool:
