@@ -41,6 +41,7 @@ with tmux, row by row):
 - Characters of two columns, characters past U+FFFF and combining marks are U+FFFD, in one column for each UTF-16 unit.
 - Bold is a bright colour; colours of 24 bits, faint, italic, blinking and struck through are not there.
 - Where a row is full and its end is erased, its last cell is erased too, as xterm does it and tmux does not.
+- Of a private mode with more numbers the first alone counts: CSI ? 12 ; 25 h does not show the cursor.
 - Nobody answers a program that asks what its terminal is, or where the cursor is.
 - REP (CSI b), which the console does not know, is taken out of the program's terminal description by infocmp and tic.
   Where these are not installed, repeated characters are missing; --term names another description.
