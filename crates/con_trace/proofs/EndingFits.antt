@@ -1,5 +1,5 @@
 -- What is told of a last line is one of the last lines there are.
-use Rattle.std.proofs.Common.{◌≡◌, refl, ap, sym, subst, ◌∙◌, arith, rules, ℕ, ◌<◌, List, [], ◌∷◌, Option, Some, None, Bool, true, false, nat_lt}
+use Rattle.std.proofs.Common.{◌≡◌, refl, subst, ℕ, ◌<◌, List, Option, Some, None, Bool, true, false}
 use Rattle.std.specs.Prelude.{IfSome, ◌==◌, ◌||◌, option_map, option_and_then, if◌then◌else◌, codes}
 use Rattle.std.specs.Str.{bytes_eq, IsUtf8}
 use Rattle.std.proofs.lemmas.Bool.{cond_both, eqb-true}
@@ -9,8 +9,8 @@ use Rattle.serde_json.specs.Data.{Data, Items, no_items, item}
 use Rattle.serde_json.specs.Find.{as_str, as_array}
 use Rattle.con_trace.specs.Ending.{Ending, alone, worded, at_frame, IsEnding, done, no_memory, usage, document, link, terminal, missing, failed, too_long, frame}
 use Rattle.con_trace.specs.Last.{TextFits}
-use Rattle.con_trace.specs.Told.{length_in, alone_in, is_worded, worded_in, kind_in, ending_items, ending_in}
-use Rattle.con_trace.proofs.TablesFit.{and_then_keeps, map_keeps}
+use Rattle.con_trace.specs.Told.{length_in, alone_in, worded_in, kind_in, ending_items, ending_in}
+use Rattle.con_trace.proofs.TablesFit.{and_then_keeps}
 use Rattle.con_trace.proofs.TellsFit.{any, length_fits}
 
 -- it is one, where its text is UTF-8

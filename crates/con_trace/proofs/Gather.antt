@@ -1,19 +1,18 @@
 -- Lines that were read one after another, and what is wrong behind them.
-use Rattle.std.proofs.Common.{◌≡◌, ℕ, zero, suc, ◌+◌, ◌-◌, ◌<◌, ◌≤◌, List, [], ◌∷◌, ◌++◌, length, map, take, drop, refl, ap, ap₂, sym, subst, ◌∙◌, arith, rules, append_assoc, append-nil, length-append, Option, Some, None, Bool, true, false, cond, nat_eq, nat_lt}
-use Rattle.std.specs.Prelude.{IfSome, ◌==◌, not, option_map, option_and_then, position, IfOk, IfErr, Result, Ok, Err}
-use Rattle.std.specs.List.{position_or_len, prefix_len}
+use Rattle.std.proofs.Common.{◌≡◌, ℕ, zero, suc, ◌+◌, ◌-◌, ◌<◌, ◌≤◌, List, [], ◌∷◌, ◌++◌, length, map, take, drop, refl, ap, ap₂, sym, subst, ◌∙◌, arith, append_assoc, append-nil, length-append, Option, Some, None, Bool, true, false, cond, nat_lt}
+use Rattle.std.specs.Prelude.{IfSome, ◌==◌, option_map, position}
+use Rattle.std.specs.List.{position_or_len}
 use Rattle.std.proofs.Common.{inl, inr}
 use Rattle.std.proofs.lemmas.Bool.{cond_both, eqb-true}
 use Rattle.std.proofs.lemmas.Bool.Decides.{nat_tests}
 use Rattle.std.proofs.lemmas.Grind.{common_steps}
-use Rattle.con_events.specs.declared.entry.Entry.{Entry}
 use Rattle.con_events.specs.declared.event.Event.{Event}
 use Rattle.con_events.specs.declared.event.Event.TheVariants as event
 use Rattle.con_events.specs.declared.reply.Reply.{Reply}
 use Rattle.con_trace.specs.declared.said.Said.{Said}
 use Rattle.con_trace.specs.Line.{line_text, ended}
 use Rattle.con_trace.specs.Fits.{AnswerFits}
-use Rattle.con_trace.specs.Ending.{Ending, IsEnding, ending_text, status_of}
+use Rattle.con_trace.specs.Ending.{Ending, IsEnding, ending_text}
 use Rattle.con_trace.specs.Report.{IsLine, AreLines, said_text, report, History, end_of, ends_behind, said, with_picture, pictures, IsHistory, report_of, IsWrongAt}
 use Rattle.con_trace.specs.Cut.{cut_line, IsNeither, texts, with_end, ends_of, with_said, Gathers}
 use Rattle.con_trace.proofs.TablesFit.{map_keeps}

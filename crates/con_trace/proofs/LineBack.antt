@@ -1,11 +1,10 @@
 -- A line is told again.
-use Rattle.std.proofs.Common.{◌≡◌, refl, ap, sym, ◌∙◌, arith, rules, ℕ, zero, suc, ◌*◌, ◌+◌, ◌<◌, ◌≤◌, ◌-◌, ◌/◌, ◌%◌, List, [], ◌∷◌, ◌++◌, length, map, Option, Some, None, Bool, true, false, nat_eq}
-use Rattle.std.specs.Prelude.{ℤ, pos, negsuc, ◌==◌, ◌&&◌, option_map, option_and_then, decimal}
+use Rattle.std.proofs.Common.{◌≡◌, refl, ap, ◌∙◌, arith, ℕ, zero, suc, ◌*◌, ◌+◌, ◌<◌, ◌-◌, ◌/◌, ◌%◌, List, [], ◌∷◌, ◌++◌, length, map, Option, Some, None, true, false}
+use Rattle.std.specs.Prelude.{ℤ, pos, negsuc, ◌==◌, option_map, option_and_then, decimal}
 use Rattle.std.specs.Int.{is_in_range}
 use Rattle.std.proofs.lemmas.Fmt.{decimal_by_steps}
 use Rattle.std.proofs.lemmas.Bool.Decides.{nat_tests}
-use Rattle.con_units.specs.Attr.{plain}
-use Rattle.con_units.specs.Glyph.{Glyph, cell_of}
+use Rattle.con_units.specs.Glyph.{Glyph}
 use Rattle.con_units.specs.declared.code.Code.{Code}
 use Rattle.con_units.specs.declared.code.Code.TheVariants as code
 use Rattle.con_units.specs.declared.view.FrameFault.TheVariants as fault
@@ -13,26 +12,24 @@ use Rattle.con_events.specs.declared.actor.Actor.{Actor}
 use Rattle.con_events.specs.declared.actor.Actor.TheVariants as actor
 use Rattle.con_events.specs.declared.call.Call.{Call}
 use Rattle.con_events.specs.declared.call.Call.TheVariants as call
-use Rattle.con_events.specs.declared.entry.Entry.{Entry}
 use Rattle.con_events.specs.declared.event.Event.{Event}
 use Rattle.con_events.specs.declared.event.Event.TheVariants as event
 use Rattle.con_events.specs.declared.event.Wanted.TheVariants.{Read, ReadInput, ReadWith}
 use Rattle.con_events.specs.declared.reply.Reply.{Reply}
 use Rattle.con_events.specs.declared.reply.Reply.TheVariants as reply
 use Rattle.con_events.specs.Arg.{Arg}
-use Rattle.con_events.specs.Fits.{AreUnits, ArgsFit}
+use Rattle.con_events.specs.Fits.{ArgsFit}
 use Rattle.con_events.specs.Table.{name_of, args_of}
 use Rattle.con_events.specs.Reading.{call_from, whole as whole_from}
 use Rattle.con_trace.specs.declared.form.Form.{Form}
 use Rattle.con_trace.specs.declared.said.Said.{Said}
 use Rattle.con_trace.specs.Form.{form_of}
-use Rattle.con_trace.specs.Hex.{hex_units}
 use Rattle.con_trace.specs.Shown.{items, whole, units_text, shown, cell_words}
-use Rattle.con_trace.specs.Line.{number_and_flag, flag_data, reply_data, event_name, event_data, actor_text, answer_data, line_data}
-use Rattle.con_trace.specs.Fits.{IsOwn, EventFits, IsWhole, AreWhole, IsFlag, AreTexts, AreRead, ReplyFits, refused, is_done, is_number, are_fields, number_and_flag as number_and_flag_fit, are_sides, are_ids, are_units, are_records, are_cells, are_lines, waited_units, waited_records, is_control, AnswerFits, LineFits}
+use Rattle.con_trace.specs.Line.{number_and_flag, reply_data, event_name, event_data, actor_text, answer_data, line_data}
+use Rattle.con_trace.specs.Fits.{IsOwn, EventFits, IsWhole, AreWhole, IsFlag, AreTexts, AreRead, ReplyFits, refused, is_done, is_number, are_fields, number_and_flag as number_and_flag_fit, are_sides, are_ids, are_units, are_records, are_cells, are_lines, waited_units, waited_records, is_control, AnswerFits}
 use Rattle.con_trace.specs.Ending.{Ending, IsEnding, done, no_memory, usage, document, link, terminal, missing, failed, too_long, frame, ending_data}
 use Rattle.con_trace.specs.Report.{IsLine}
-use Rattle.con_trace.specs.Told.{whole_in, units_in, all_in, if_many, number_and_flag_in, cells_from, reply_in, told, as_told, call_in, event_in, of_terminal, of_client, of_painter, one_digit, digits_after, actor_in, answer_in, answered, said_in, ending_in}
+use Rattle.con_trace.specs.Told.{whole_in, units_in, all_in, if_many, number_and_flag_in, cells_from, reply_in, told, as_told, call_in, event_in, of_terminal, of_client, of_painter, one_digit, digits_after, actor_in, answer_in, said_in, ending_in}
 use Rattle.con_trace.proofs.ToldBack.{is_below, is_most, units_back, bytes_back, rect_back, records_back, told_back}
 
 -- ---- answers

@@ -1,5 +1,5 @@
 -- Lines are plain: they are read as they were written, and end at their line feed.
-use Rattle.std.proofs.Common.{◌≡◌, ℕ, zero, suc, ◌+◌, ◌*◌, ◌/◌, ◌%◌, ◌^◌, ◌<◌, ◌≤◌, List, [], ◌∷◌, ◌++◌, map, refl, ap, sym, ◌∙◌, arith, rules, Bool, true, false, cond, Option, Some, None}
+use Rattle.std.proofs.Common.{ℕ, zero, suc, ◌+◌, ◌/◌, ◌%◌, ◌<◌, List, [], ◌∷◌, map, refl, arith, Some, None}
 use Rattle.std.specs.Prelude.{ℤ, pos, negsuc, decimal, nat_lt, codes}
 use Rattle.std.specs.Char.{digit_char}
 use Rattle.std.specs.Str.{IsUtf8}
@@ -29,14 +29,13 @@ use Rattle.con_events.specs.declared.reply.Reply.TheVariants as reply
 use Rattle.con_events.specs.Arg.{Arg, Number, Signed, OneUnit, Flag, Text, Area, Clip, WordsOf, WordList, Records}
 use Rattle.con_events.specs.Fits.{AreUnits, IsSmall, RectFits, RecordFits, RecordsFit, ArgFits, ArgsFit}
 use Rattle.con_events.specs.Table.{name_of, args_of}
-use Rattle.serde_json.specs.Data.{Data}
 use Rattle.con_trace.specs.declared.form.Form.{Form}
 use Rattle.con_trace.specs.declared.said.Said.{Said}
 use Rattle.con_trace.specs.Form.{form_of}
 use Rattle.con_trace.specs.Hex.{hex_units, hex_bytes}
 use Rattle.con_trace.specs.Shown.{items, whole, units_text, rect_data, record_data, shown, cell_words}
-use Rattle.con_trace.specs.Line.{number_and_flag, reply_data, answer_data, event_name, event_data, wanted_name, wanted_data, actor_text, line_data}
-use Rattle.con_trace.specs.Fits.{IsOwn, AreBytes, WantedFits, EventFits, IsWhole, AreWhole, IsFlag, AreTexts, ReplyFits, refused, is_done, is_number, are_fields, number_and_flag as number_and_flag_fit, are_sides, are_ids, are_units, are_records, are_cells, are_lines, waited_units, waited_records, is_control, AnswerFits, LineFits}
+use Rattle.con_trace.specs.Line.{number_and_flag, reply_data, answer_data, event_name, event_data, wanted_data, actor_text, line_data}
+use Rattle.con_trace.specs.Fits.{IsOwn, AreBytes, WantedFits, EventFits, IsWhole, AreWhole, IsFlag, AreTexts, ReplyFits, refused, is_done, is_number, are_fields, number_and_flag as number_and_flag_fit, are_sides, are_ids, are_units, are_records, are_cells, are_lines, waited_units, waited_records, is_control, AnswerFits}
 use Rattle.con_trace.specs.Ending.{Ending, IsEnding, done, no_memory, usage, document, link, terminal, missing, failed, too_long, frame, kind_text, ending_data}
 use Rattle.con_trace.specs.Report.{IsLine}
 use Rattle.con_trace.proofs.ReadBack.{IsPlain, ArePlain}

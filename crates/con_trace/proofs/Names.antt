@@ -1,5 +1,5 @@
 -- Names of calls in a line.
-use Rattle.std.proofs.Common.{◌≡◌, ℕ, List, [], ◌∷◌, ◌++◌, map, refl, ap, sym, ◌∙◌}
+use Rattle.std.proofs.Common.{◌≡◌, refl}
 use Rattle.json.specs.Print.{escape, escape_byte}
 use Rattle.con_events.specs.declared.call.Call.{Call}
 use Rattle.con_events.specs.declared.call.Call.TheVariants as call

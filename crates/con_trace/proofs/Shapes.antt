@@ -1,11 +1,10 @@
 -- Arrays of another length than the one that is wanted.
-use Rattle.std.proofs.Common.{◌≡◌, ◌≢◌, ℕ, ◌<◌, ◌≤◌, List, [], ◌∷◌, length, refl, arith, Option, None, Bool, true, false, nat_lt}
+use Rattle.std.proofs.Common.{◌≡◌, ◌≢◌, ℕ, ◌<◌, ◌≤◌, List, [], ◌∷◌, length, refl, arith, None, true, false, nat_lt}
 use Rattle.std.specs.Prelude.{◌==◌}
 use Rattle.std.proofs.lemmas.Bool.Decides.{nat_tests}
 use Rattle.con_events.specs.Reading.{nothing_left}
 use Rattle.serde_json.specs.View.{items_view}
 use Rattle.serde_json.specs.declared.value.Value.{Value}
-use Rattle.con_trace.specs.declared.form.Form.TheVariants as form
 use Rattle.con_trace.specs.Told.{only, is_bare, number_and_flag_in, cells_in, painted_in, number_pair_in, unit_pair_in, read_with_in, said_items, ending_items, as_told, unhex_units, unhex_bytes, cells_from}
 
 pub less : (a b : ℕ) → nat_lt a b ≡ true → a < b

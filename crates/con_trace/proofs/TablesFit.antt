@@ -1,15 +1,13 @@
 -- What is told fits: it is within what types keep, and of its event's form.
-use Rattle.std.proofs.Common.{◌≡◌, refl, ap, sym, ◌∙◌, arith, rules, ℕ, zero, suc, ◌*◌, ◌+◌, ◌-◌, ◌<◌, ◌≤◌, List, [], ◌∷◌, map, Option, Some, None, Bool, true, false, cond, nat_lt, nat_le}
-use Rattle.std.specs.Prelude.{ℤ, pos, negsuc, IfSome, int_le, ◌&&◌, option_map, option_and_then, if◌then◌else◌}
+use Rattle.std.proofs.Common.{◌≡◌, refl, ap, ◌∙◌, arith, ℕ, zero, suc, ◌<◌, List, [], ◌∷◌, map, Option, Some, None}
+use Rattle.std.specs.Prelude.{IfSome, option_map, option_and_then}
 use Rattle.std.specs.Str.{bytes_eq}
-use Rattle.std.proofs.lemmas.Bool.{cond_both, and_parts}
-use Rattle.std.proofs.lemmas.Bool.Decides.{nat_tests}
-use Rattle.con_records.specs.declared.record.Record.{Record}
+use Rattle.std.proofs.lemmas.Bool.{cond_both}
 use Rattle.con_events.specs.declared.call.Call.{Call}
 use Rattle.con_events.specs.declared.call.Words.TheVariants.{One, Each}
 use Rattle.con_events.specs.Arg as arg
-use Rattle.con_events.specs.Arg.{Kind, Arg, kind_of, Number, Signed, OneUnit, Flag, Text, Area, Clip, WordsOf, WordList, Records, the_number, the_signed, the_list, the_rect, the_clip, the_words, the_records}
-use Rattle.con_events.specs.Table.{name_of, args_of, nth, Row, find, row_of, handles_rows, screens_rows, cells_rows, lines_rows, processes_rows, row_of_handles, row_of_screens, row_of_cells, row_of_lines, row_of_processes}
+use Rattle.con_events.specs.Arg.{Kind, Arg, kind_of, Number, Signed, OneUnit, Text, Area, Clip, WordsOf, WordList, Records, the_number, the_signed, the_list, the_rect, the_clip, the_words, the_records}
+use Rattle.con_events.specs.Table.{args_of, nth, Row, find, row_of, handles_rows, screens_rows, cells_rows, lines_rows, processes_rows, row_of_handles, row_of_screens, row_of_cells, row_of_lines, row_of_processes}
 use Rattle.con_events.specs.RecordTable.{record_rows, row_of_record}
 use Rattle.con_events.specs.Reading.{Item, first, others, args_from, row_from, call_from, nothing_left, whole}
 use Rattle.con_events.specs.Fits.{AreUnits, IsSmall, RectFits, RecordFits, RecordsFit, ArgFits, ArgsFit}

@@ -1,6 +1,6 @@
 -- A report determines what it was written for.
-use Rattle.std.proofs.Common.{◌≡◌, ℕ, zero, suc, ◌+◌, ◌<◌, ◌≤◌, List, [], ◌∷◌, ◌++◌, length, map, refl, ap, sym, subst, ◌∙◌, arith, rules, append_assoc, append-nil, Option, Some, None, Bool, true, false, nat_eq}
-use Rattle.std.specs.Prelude.{unwrap_or, ◌==◌, ◌⊎◌, option_map, option_and_then}
+use Rattle.std.proofs.Common.{◌≡◌, ℕ, zero, suc, ◌≤◌, List, [], ◌∷◌, ◌++◌, length, map, refl, ap, sym, subst, ◌∙◌, arith, append_assoc, append-nil, Option, Some, None, false}
+use Rattle.std.specs.Prelude.{unwrap_or, ◌==◌, option_and_then}
 use Rattle.std.proofs.Common.{inl, inr}
 use Rattle.std.specs.Str.{IsUtf8}
 use Rattle.std.proofs.lemmas.Bool.Decides.{nat_tests}
@@ -8,15 +8,13 @@ use Rattle.con_events.specs.declared.entry.Entry.{Entry}
 use Rattle.con_events.specs.declared.event.Event.{Event}
 use Rattle.con_events.specs.declared.event.Event.TheVariants as event
 use Rattle.con_events.specs.declared.reply.Reply.{Reply}
-use Rattle.serde_json.specs.Data.{Data}
 use Rattle.serde_json.specs.Read.{read}
-use Rattle.serde_json.specs.Written.{compact_text}
 use Rattle.con_trace.specs.declared.said.Said.{Said}
 use Rattle.con_trace.specs.Line.{line_data, line_text, ended}
-use Rattle.con_trace.specs.Ending.{Ending, IsEnding, done, no_memory, usage, document, link, terminal, missing, failed, too_long, frame, ending_data, ending_text, status_of}
-use Rattle.con_trace.specs.Report.{IsLine, AreLines, said_text, report, History, end_of, ends_behind, said, with_picture, pictures, IsHistory, report_of, IsWrongAt, ReportTells, NoneIsWrong}
+use Rattle.con_trace.specs.Ending.{Ending, IsEnding, done, no_memory, usage, document, link, terminal, missing, failed, too_long, frame, ending_data, ending_text}
+use Rattle.con_trace.specs.Report.{IsLine, AreLines, said_text, report, History, end_of, ends_behind, said, with_picture, pictures, IsHistory, IsWrongAt, ReportTells, NoneIsWrong}
 use Rattle.con_trace.specs.Told.{said_in, ending_in}
-use Rattle.con_trace.specs.Cut.{cut_line, with_end, ends_of, texts}
+use Rattle.con_trace.specs.Cut.{cut_line, with_end, ends_of}
 use Rattle.con_trace.proofs.LineBack.{said_back, ending_back}
 use Rattle.con_trace.proofs.LinePlain.{line_plain, ending_plain}
 use Rattle.con_trace.proofs.ReadBack.{Clear, clear, utf8, read_back}

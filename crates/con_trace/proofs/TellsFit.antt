@@ -1,6 +1,6 @@
 -- What a line tells fits: it is within what types keep, and of its event's form.
-use Rattle.std.proofs.Common.{◌≡◌, refl, ap, sym, subst, ◌∙◌, arith, rules, ℕ, zero, suc, ◌*◌, ◌+◌, ◌-◌, ◌<◌, ◌≤◌, ◌^◌, List, [], ◌∷◌, length, map, Option, Some, None, Bool, true, false, cond, nat_lt, nat_le, nat_eq}
-use Rattle.std.specs.Prelude.{ℤ, pos, negsuc, IfSome, int_le, ◌&&◌, ◌==◌, option_map, option_and_then, if◌then◌else◌, bit_and, codes}
+use Rattle.std.proofs.Common.{◌≡◌, refl, subst, arith, ℕ, ◌*◌, ◌+◌, ◌-◌, ◌<◌, List, [], ◌∷◌, length, Option, Some, None, Bool, true, false, nat_lt, nat_le}
+use Rattle.std.specs.Prelude.{ℤ, pos, negsuc, IfSome, int_le, ◌&&◌, ◌==◌, option_map, option_and_then, if◌then◌else◌, codes}
 use Rattle.std.specs.Int.{is_in_range}
 use Rattle.std.specs.Str.{bytes_eq}
 use Rattle.std.proofs.lemmas.Bool.{cond_both, and_parts}
@@ -9,23 +9,16 @@ use Rattle.std.proofs.lemmas.Nat.{and_assoc, and_le_l}
 use Rattle.con_units.specs.Attr.{masked, plain}
 use Rattle.con_units.specs.Glyph.{Glyph, cell_of}
 use Rattle.con_units.specs.Stored.{is_shown, stored_unit}
-use Rattle.con_units.specs.declared.place.Rect.{Rect}
-use Rattle.con_units.specs.declared.code.Code.{Code}
-use Rattle.con_records.specs.declared.record.Record.{Record}
 use Rattle.con_events.specs.declared.actor.Actor.{Actor}
 use Rattle.con_events.specs.declared.actor.Actor.TheVariants as actor
-use Rattle.con_events.specs.declared.call.Words.{Words}
 use Rattle.con_events.specs.declared.call.Words.TheVariants.{One, Each}
 use Rattle.con_events.specs.declared.event.Event.{Event}
 use Rattle.con_events.specs.declared.event.Event.TheVariants as event
-use Rattle.con_events.specs.declared.event.Wanted.TheVariants.{Read, ReadInput, ReadWith}
 use Rattle.con_events.specs.declared.reply.Reply.{Reply}
 use Rattle.con_events.specs.declared.reply.Reply.TheVariants as reply
 use Rattle.con_events.specs.Arg as arg
-use Rattle.con_events.specs.Arg.{Kind, Arg, kind_of, Number, Signed, OneUnit, Flag, Text, Area, Clip, WordsOf, WordList, Records}
-use Rattle.con_events.specs.Fits.{AreUnits, IsSmall, RectFits, RecordFits, RecordsFit, ArgFits, ArgsFit}
-use Rattle.con_events.specs.RecordTable.{row_of_record}
-use Rattle.con_events.specs.Reading.{Item, row_from, whole}
+use Rattle.con_events.specs.Arg.{Number, Signed, OneUnit, Flag, Text, Area, Clip, WordsOf, WordList, Records}
+use Rattle.con_events.specs.Fits.{AreUnits, IsSmall, RectFits, RecordFits, RecordsFit, ArgFits}
 use Rattle.con_values.specs.Values.{below, number_in, unit_in, signed_in, four, rect_items, rect_in, clip_in, field, fields, record_items, record_in, records_items, records_in}
 use Rattle.serde_json.specs.Data.{Data, null, boolean, number, string, array, object, Items, no_items, item}
 use Rattle.serde_json.specs.Find.{as_number, as_u64, as_i64, as_bool, as_str, as_array}
@@ -34,9 +27,9 @@ use Rattle.con_trace.specs.declared.form.Form.TheVariants as form
 use Rattle.con_trace.specs.declared.said.Said.{Said}
 use Rattle.con_trace.specs.Form.{form_of}
 use Rattle.con_trace.specs.Shown.{cell_words}
-use Rattle.con_trace.specs.Fits.{IsOfClients, IsOwn, AreBytes, EventFits, IsWhole, AreWhole, IsFlag, AreTexts, AreRead, ReplyFits, refused, is_done, is_number, are_fields, number_and_flag, are_sides, are_ids, are_units, are_records, are_cells, are_lines, waited_units, waited_records, is_control, AnswerFits, LineFits}
+use Rattle.con_trace.specs.Fits.{IsOfClients, IsOwn, AreBytes, EventFits, IsWhole, AreWhole, IsFlag, AreTexts, AreRead, ReplyFits, refused, is_done, is_number, are_fields, number_and_flag, are_sides, are_ids, are_units, are_records, are_cells, are_lines, waited_units, waited_records, is_control, AnswerFits}
 use Rattle.con_trace.specs.Report.{IsLine}
-use Rattle.con_trace.specs.Told.{hex_value, with_digit, byte_told, unit_told, with_first, unhex_units, unhex_bytes, kept_whole, kept_length, whole_in, units_in, all_in, words_in, told, as_told, code_of, only, is_bare, if_many, flag_of, number_and_flag_in, array_only, cells_from, cells_in, wait_in, value_in, control_in, fail_in, answer_named, answer_items, reply_in, number_pair_in, unit_pair_in, pair, read_with_in, none_in, feed_in, exit_in, call_in, of_terminal, of_client, of_painter, event_in, unless_zero, one_digit, digits_after, client_in, actor_in, length_in, painted_in, answer_in, answered, said_by, said_items, said_in}
+use Rattle.con_trace.specs.Told.{hex_value, with_digit, byte_told, unit_told, with_first, unhex_units, unhex_bytes, kept_whole, kept_length, whole_in, units_in, all_in, words_in, told, as_told, code_of, only, is_bare, if_many, flag_of, number_and_flag_in, array_only, cells_from, cells_in, wait_in, value_in, control_in, fail_in, answer_named, answer_items, reply_in, number_pair_in, unit_pair_in, pair, read_with_in, none_in, feed_in, call_in, of_terminal, of_client, of_painter, event_in, unless_zero, one_digit, digits_after, client_in, actor_in, length_in, painted_in, answer_in, said_by, said_items, said_in}
 use Rattle.con_trace.proofs.TablesFit.{and_then_keeps, map_keeps, ItemFits, ItemsFit, call_fits, record_fits}
 
 pub any : {A : Type 0} (o : Option A) → IfSome o (λ _. Unit {0})

@@ -1,6 +1,6 @@
 -- What is shown is told again.
-use Rattle.std.proofs.Common.{◌≡◌, refl, ap, sym, ◌∙◌, arith, rules, ℕ, zero, suc, ◌*◌, ◌+◌, ◌-◌, ◌<◌, ◌≤◌, ◌^◌, ◌/◌, ◌%◌, List, [], ◌∷◌, map, Option, Some, None, Bool, true, false, nat_lt, nat_le}
-use Rattle.std.specs.Prelude.{ℤ, pos, negsuc, int_le, ◌&&◌, option_map, option_and_then, if◌then◌else◌}
+use Rattle.std.proofs.Common.{◌≡◌, refl, ap, arith, ℕ, ◌+◌, ◌<◌, ◌≤◌, ◌/◌, ◌%◌, List, [], ◌∷◌, map, Some, None, true, false, nat_lt, nat_le}
+use Rattle.std.specs.Prelude.{ℤ, pos, negsuc}
 use Rattle.std.specs.Int.{is_in_range}
 use Rattle.std.specs.Char.{digit_char}
 use Rattle.std.proofs.lemmas.Bool.{cond_both}
@@ -16,11 +16,11 @@ use Rattle.con_events.specs.RecordTable.{row_of_record}
 use Rattle.con_events.specs.Reading.{call_from}
 use Rattle.con_events.specs.Fits.{AreUnits, IsSmall, RectFits, RecordFits, RecordsFit, ArgFits, ArgsFit}
 use Rattle.con_events.specs.TableLaws.{AllRead, call_back}
-use Rattle.con_values.specs.Values.{below, signed_in, rect_in, record_in, records_items}
+use Rattle.con_values.specs.Values.{signed_in, rect_in, record_in, records_items}
 use Rattle.con_trace.specs.Hex.{hex_units, hex_bytes}
-use Rattle.con_trace.specs.Shown.{items, natural, whole, rect_data, record_data, shown}
+use Rattle.con_trace.specs.Shown.{items, whole, rect_data, record_data, shown}
 use Rattle.con_trace.specs.Fits.{AreBytes}
-use Rattle.con_trace.specs.Told.{hex_value, with_digit, byte_told, unit_told, unhex_units, unhex_bytes, told}
+use Rattle.con_trace.specs.Told.{hex_value, byte_told, unit_told, unhex_units, unhex_bytes, told}
 
 pub is_below : (n m : ℕ) → n < m → nat_lt n m ≡ true
 is_below n m h = grind (arith, nat_tests)

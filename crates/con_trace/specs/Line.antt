@@ -1,5 +1,5 @@
 -- A line of a report: who did what, and what it was answered.
-use Rattle.std.specs.Prelude.{ℕ, zero, suc, ℤ, pos, negsuc, Bool, true, false, List, [], ◌∷◌, ◌++◌, map, codes, decimal}
+use Rattle.std.specs.Prelude.{ℕ, zero, suc, ℤ, pos, negsuc, true, false, List, [], ◌∷◌, ◌++◌, map, codes, decimal}
 use Rattle.con_units.specs.Code.{number_of}
 use Rattle.con_events.specs.declared.actor.Actor.{Actor}
 use Rattle.con_events.specs.declared.actor.Actor.TheVariants as actor
@@ -11,10 +11,10 @@ use Rattle.con_events.specs.declared.event.Wanted.TheVariants.{Read, ReadInput, 
 use Rattle.con_events.specs.declared.reply.Reply.{Reply}
 use Rattle.con_events.specs.declared.reply.Reply.TheVariants as reply
 use Rattle.con_events.specs.Table.{name_of, args_of}
-use Rattle.serde_json.specs.Data.{Data, null, boolean, number, string}
+use Rattle.serde_json.specs.Data.{Data, null, boolean, string}
 use Rattle.serde_json.specs.Written.{compact_text}
 use Rattle.con_trace.specs.declared.form.Form.{Form}
-use Rattle.con_trace.specs.declared.form.Form.TheVariants.{Nothing, Number, Fields, NumberAndFlag, Sides, Ids, Units, Records, Cells, Lines, Wait, Control}
+use Rattle.con_trace.specs.declared.form.Form.TheVariants.{Number, Fields, NumberAndFlag, Units, Records, Cells, Lines}
 use Rattle.con_trace.specs.Form.{form_of}
 use Rattle.con_trace.specs.Hex.{hex_bytes}
 use Rattle.con_trace.specs.Shown.{list_of, natural, whole, units_text, rect_data, records_data, shown, cell_words}

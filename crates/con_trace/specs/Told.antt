@@ -1,8 +1,7 @@
 -- What a line's JSON tells: the way back from what is shown.
-use Rattle.std.specs.Prelude.{ℕ, zero, suc, ◌*◌, ◌+◌, ◌-◌, ◌==◌, ℤ, pos, negsuc, int_le, nat_lt, ◌&&◌, ◌||◌, Bool, true, false, if◌then◌else◌, List, [], ◌∷◌, length, drop, codes, Option, Some, None, option_map, option_and_then}
+use Rattle.std.specs.Prelude.{ℕ, ◌*◌, ◌+◌, ◌-◌, ◌==◌, ℤ, pos, negsuc, int_le, nat_lt, ◌&&◌, ◌||◌, Bool, true, false, if◌then◌else◌, List, [], ◌∷◌, length, codes, Option, Some, None, option_map, option_and_then}
 use Rattle.std.specs.Int.{is_in_range}
 use Rattle.std.specs.Str.{bytes_eq}
-use Rattle.std.specs.Str.Parse.{digits_value}
 use Rattle.con_units.specs.Attr.{plain}
 use Rattle.con_units.specs.Glyph.{Glyph, cell_of}
 use Rattle.con_units.specs.declared.code.Code.{Code}
@@ -23,7 +22,7 @@ use Rattle.con_events.specs.Arg as arg
 use Rattle.con_events.specs.Arg.{Kind, Arg, Number, Signed, OneUnit, Flag, Text, Area, Clip, WordsOf, WordList, Records}
 use Rattle.con_events.specs.Reading.{Item, call_from, whole as whole_from}
 use Rattle.con_values.specs.Values.{number_in, unit_in, signed_in, rect_in, clip_in, records_in}
-use Rattle.serde_json.specs.Data.{Data, null, boolean, number, string, array, object, unsigned, Items, no_items, item, Members}
+use Rattle.serde_json.specs.Data.{Data, number, string, Items, no_items, item}
 use Rattle.serde_json.specs.Find.{as_number, as_u64, as_i64, as_bool, as_str, as_array}
 use Rattle.con_trace.specs.declared.form.Form.{Form}
 use Rattle.con_trace.specs.declared.form.Form.TheVariants as form

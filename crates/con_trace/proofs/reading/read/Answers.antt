@@ -1,5 +1,5 @@
-use Rattle.std.proofs.Common.{◌≡◌, ℕ, ◌+◌, sym, subst, ap, ◌∙◌}
-use Rattle.con_trace.specs.Report.{History, IsHistory, history_of, report_of, IsWrongAt}
+use Rattle.std.proofs.Common.{◌≡◌, sym, subst, ap, ◌∙◌}
+use Rattle.con_trace.specs.Report.{IsHistory, history_of, report_of, IsWrongAt}
 use Rattle.con_trace.specs.Cut.{Gathers, with_said, IsLineRead}
 use Rattle.con_trace.proofs.Gather.{gathers_none, gathers_more, cut_shortens, is_room, whole_history, whole_text, uncut_at, neither_at, surplus_at, nil_of, some_of}
 use Rattle.con_trace.proofs.reading.read.Goals as goal

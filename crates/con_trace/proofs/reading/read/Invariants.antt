@@ -1,4 +1,4 @@
-use Rattle.std.proofs.Common.{◌≡◌, length}
+use Rattle.std.proofs.Common.{length}
 use Rattle.con_trace.specs.Cut.{Gathers}
 use Rattle.con_trace.proofs.reading.read.Given as goal
 

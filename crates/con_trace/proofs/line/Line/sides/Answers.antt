@@ -1,4 +1,4 @@
-use Rattle.std.proofs.Common.{◌≡◌, ap, ap₂, ◌∙◌, List, [], ◌∷◌, rules, w16, to_z, of_z, to_z-of_z}
+use Rattle.std.proofs.Common.{◌≡◌, ap, ap₂, ◌∙◌, [], ◌∷◌, rules, w16, to_z, of_z, to_z-of_z}
 use Rattle.std.specs.Prelude.{Result, Ok, Err, IfOk}
 use Rattle.con_trace.specs.Shown.{whole}
 use Rattle.con_trace.specs.Writing.{put, shut}
