@@ -1,4 +1,5 @@
 pub mod Ended
+pub mod Fronts
 pub mod Plain
 pub mod Puts
 pub mod Names

@@ -1,6 +1,6 @@
 //! Answers from a line.
 
-ghost use Rattle.std.specs.Prelude.{◌≡◌, Some, None, IfOk, IfErr, option_map, option_and_then};
+ghost use Rattle.std.specs.Prelude.{◌≡◌, [], ◌∷◌, Some, None, IfOk, IfErr, option_map, option_and_then};
 ghost use Rattle.con_events.specs.Reading.{IsForm};
 ghost use Rattle.con_values.specs.Values.{number_in, records_in};
 ghost use Rattle.serde_json.specs.View.{view, items_view};
@@ -11,7 +11,7 @@ use crate::cursor::units;
 use crate::form::Form;
 use crate::unhex::{cells_of, units_from};
 use con_events::{Lines, Misread, Numbers, Reply};
-use con_units::Code;
+use con_units::{Code, OutOfMemory};
 use con_values::{number, records, rect};
 use serde_json::Value;
 use std::alloc::Global;
@@ -138,9 +138,18 @@ fn number_and_flag_of(alloc: Global, first: &Value, last: &Value) -> Result<Numb
     let Some(set) = last.as_bool() else {
         return Err(Misread::Form);
     };
-    match Vec::from_slice(alloc, &[n, flag_number(set)]) {
-        Ok(numbers) => Ok(Numbers(numbers)),
+    match two_numbers(alloc, n, flag_number(set)) {
+        Ok(numbers) => Ok(numbers),
         Err(_) => Err(Misread::OutOfMemory),
+    }
+}
+
+fn two_numbers(alloc: Global, first: i64, last: i64) -> Result<Numbers, OutOfMemory>
+    ensures { IfOk result (λ zs. zs ≡ first ∷ last ∷ []) }
+{
+    match Vec::from_slice(alloc, &[first, last]) {
+        Ok(numbers) => Ok(Numbers(numbers)),
+        Err(_) => Err(OutOfMemory),
     }
 }
 
