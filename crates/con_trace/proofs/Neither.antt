@@ -1,5 +1,5 @@
 -- Lines that are neither an event's nor a last one.
-use Rattle.std.proofs.Common.{◌≡◌, ℕ, List, refl, ap, sym, subst, ◌∙◌, Option, Some, None, Bool, true, false}
+use Rattle.std.proofs.Common.{◌≡◌, ℕ, List, ap, sym, subst, ◌∙◌, Option, Some, None, Bool, true, false}
 use Rattle.std.specs.Prelude.{unwrap_or, IfSome, option_map, option_and_then}
 use Rattle.std.specs.Str.{IsUtf8}
 use Rattle.serde_json.specs.Data.{Data}
@@ -14,6 +14,7 @@ use Rattle.con_trace.specs.Told.{said_in, ending_in}
 use Rattle.con_trace.specs.Cut.{IsNeither}
 use Rattle.con_trace.proofs.EndingFits.{ending_is}
 use Rattle.con_trace.proofs.LineBack.{said_back, ending_back}
+use Rattle.con_trace.proofs.TellsFit.{told_is_line}
 use Rattle.con_trace.proofs.Tells.{line_read, line_utf8, ending_read, ending_utf8, ending_says_nothing}
 
 pub clash : (b : Bool) → b ≡ false → b ≡ true → ⊥
@@ -51,7 +52,7 @@ pub other_ending : (line : List ℕ) (d : Data) (f : Ending) → read line ≡ S
 other_ending line d f e n m not = (no_line line d e n, λ g p h. not (h ∙ ap ending_text (sym (some_same f g (m ∙ (ap ending_in (ending_tree line d g e p h) ∙ ending_back g p))))))
 
 -- it tells an event, and is not spelled so
-pub other_line : (line : List ℕ) (d : Data) (s : Said) → read line ≡ Some d → said_in d ≡ Some s → (line ≡ line_text s.entry s.reply s.end → ⊥) → IsNeither line
+other_line : (line : List ℕ) (d : Data) (s : Said) → read line ≡ Some d → said_in d ≡ Some s → (line ≡ line_text s.entry s.reply s.end → ⊥) → IsNeither line
 other_line line d s e m not = (
   λ t p h. not (h ∙ ap (λ u. line_text u.entry u.reply u.end) (sym (some_same s t (sym m ∙ (ap said_in (line_tree line d t e p h) ∙ said_back t p))))),
   λ f p h. none_some s (sym (ap said_in (ending_tree line d f e p h) ∙ ending_says_nothing f p) ∙ m),
@@ -60,3 +61,13 @@ other_line line d s e m not = (
 pub some_ending : (o : Option Last) (d : Data) → option_map last_of o ≡ ending_in d → IfSome o (λ l. TextFits (last_of l)) → IfSome o (λ l. IsEnding (last_of l))
 some_ending None d e t = tt
 some_ending (Some l) d e t = ending_is d (last_of l) (sym e) t
+
+-- the event and the answer that a text says
+pub said_is_line : (o : Option Data) (s : Said) → option_and_then said_in o ≡ Some s → IsLine s
+said_is_line None s m = absurd (none_some s m)
+said_is_line (Some d) s m = told_is_line d s m
+
+-- it says an event, and is not spelled so
+pub other_said : (line : List ℕ) (o : Option Data) (s : Said) → read line ≡ o → option_and_then said_in o ≡ Some s → (line ≡ line_text s.entry s.reply s.end → ⊥) → IsNeither line
+other_said line None s e m not = absurd (none_some s m)
+other_said line (Some d) s e m not = other_line line d s e m not

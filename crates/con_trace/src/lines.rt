@@ -1,10 +1,10 @@
 //! A line, read.
 
-ghost use Rattle.std.specs.Prelude.{◌≡◌, Some, None, IfOk, IfErr, IsTrue, ◌↔◌};
+ghost use Rattle.std.specs.Prelude.{◌≡◌, Some, None, IfOk, IfErr, IsTrue, ◌↔◌, option_map, option_and_then};
 ghost use Rattle.con_events.specs.Reading.{IsForm};
 ghost use Rattle.serde_json.specs.Read.{read as read_json};
 ghost use Rattle.serde_json.specs.View.{view, items_view};
-ghost use Rattle.con_trace.specs.Told.{one_digit, digits_after, client_in, actor_in, answer_in, said_by, said_items, said_in};
+ghost use Rattle.con_trace.specs.Told.{one_digit, digits_after, client_in, actor_in, answer_in, answered, said_by, said_items, said_in};
 ghost use Rattle.con_trace.specs.Cut.{IsLineRead};
 ghost use Rattle.con_trace.specs.Line.{line_text};
 
@@ -93,7 +93,14 @@ fn said_of(
     ensures ok { IfOk result (λ s. said_by actor name.now (items_view arguments.now) (view value.now) ≡ Some s) }
     ensures form { IfErr result (λ e. IsForm e → said_by actor name.now (items_view arguments.now) (view value.now) ≡ None) }
 {
-    let event = event(alloc, actor, name, arguments)?;
+    with_answer(alloc, actor, event(alloc, actor, name, arguments)?, value)
+}
+
+/// An event with its answer.
+fn with_answer(alloc: Global, actor: Actor, event: Event, value: &Value) -> Result<Said, Misread>
+    ensures ok { IfOk result (λ s. option_map (λ p. answered actor event p) (answer_in event (view value.now)) ≡ Some s) }
+    ensures form { IfErr result (λ e. IsForm e → option_map (λ p. answered actor event p) (answer_in event (view value.now)) ≡ None) }
+{
     let (reply, end) = answer(alloc, &event, value)?;
     Ok(Said {
         entry: Entry { actor, event },
@@ -152,15 +159,37 @@ fn told(alloc: Global, value: &Value, line: &[u8]) -> Result<LineRead, OutOfMemo
     ensures { IfOk result (λ r. IsLineRead r line.now) }
 {
     match said(alloc, value) {
-        Ok(said) => {
-            if is_line_of(alloc, &said, line)? {
-                Ok(LineRead::Event(said))
-            } else {
-                Ok(LineRead::Neither)
-            }
-        }
-        Err(Misread::OutOfMemory) => Err(OutOfMemory),
-        Err(Misread::Form) => last_told(alloc, value, line),
+        Ok(said) => event_told(alloc, said, line),
+        Err(misread) => no_event_told(alloc, misread, value, line),
+    }
+}
+
+/// What a line is whose JSON says this event and answer.
+fn event_told(alloc: Global, said: Said, line: &[u8]) -> Result<LineRead, OutOfMemory>
+    requires { option_and_then said_in (read_json line.now) ≡ Some said }
+    ensures { IfOk result (λ r. IsLineRead r line.now) }
+{
+    if is_line_of(alloc, &said, line)? {
+        Ok(LineRead::Event(said))
+    } else {
+        Ok(LineRead::Neither)
+    }
+}
+
+/// What a line is whose JSON is this value, which was not read as an event.
+fn no_event_told(
+    alloc: Global,
+    misread: Misread,
+    value: &Value,
+    line: &[u8],
+) -> Result<LineRead, OutOfMemory>
+    requires json { read_json line.now ≡ Some (view value.now) }
+    requires no_event { IsForm misread → said_in (view value.now) ≡ None }
+    ensures { IfOk result (λ r. IsLineRead r line.now) }
+{
+    match misread {
+        Misread::OutOfMemory => Err(OutOfMemory),
+        Misread::Form => last_told(alloc, value, line),
     }
 }
 

@@ -2,7 +2,7 @@
 
 ghost use Rattle.std.specs.Prelude.{◌≡◌, ◌+◌, ◌<◌, ◌≤◌, List, [], ◌∷◌, ◌++◌, Some, None, IfOk, IfErr, IfSome, option_map, length, position, ◌==◌};
 ghost use Rattle.con_trace.specs.Report.{IsReport};
-ghost use Rattle.con_trace.specs.Cut.{cut_line as line_cut, IsFault, with_said};
+ghost use Rattle.con_trace.specs.Cut.{cut_line as line_cut, IsFault, with_said, with_end};
 
 use crate::lines::line_read;
 use crate::said::{LineRead, Said};
@@ -39,22 +39,51 @@ impl Gathered {
         }
     }
 
+    /// The stream's length after a picture; nothing of any other event.
+    fn push_end(&mut self, event: &Event, end: u64) -> Result<(), OutOfMemory>
+        ensures { IfOk result (λ _. self.new ≡ record { entries = self.old.entries; replies = self.old.replies; ends = self.old.ends ++ with_end event.now end [] }) }
+    {
+        let Event::Paint = event else {
+            return Ok(());
+        };
+        match self.ends.push(end) {
+            Ok(()) => Ok(()),
+            Err(_) => Err(OutOfMemory),
+        }
+    }
+
+    fn push_entry(&mut self, entry: Entry) -> Result<(), OutOfMemory>
+        ensures { IfOk result (λ _. self.new ≡ record { entries = self.old.entries ++ entry ∷ []; replies = self.old.replies; ends = self.old.ends }) }
+    {
+        match self.entries.push(entry) {
+            Ok(()) => Ok(()),
+            Err(_) => Err(OutOfMemory),
+        }
+    }
+
+    fn push_reply(&mut self, reply: Reply) -> Result<(), OutOfMemory>
+        ensures { IfOk result (λ _. self.new ≡ record { entries = self.old.entries; replies = self.old.replies ++ reply ∷ []; ends = self.old.ends }) }
+    {
+        match self.replies.push(reply) {
+            Ok(()) => Ok(()),
+            Err(_) => Err(OutOfMemory),
+        }
+    }
+
+    /// An event and its answer.
+    fn push_both(&mut self, entry: Entry, reply: Reply) -> Result<(), OutOfMemory>
+        ensures { IfOk result (λ _. self.new ≡ record { entries = self.old.entries ++ entry ∷ []; replies = self.old.replies ++ reply ∷ []; ends = self.old.ends }) }
+    {
+        self.push_entry(entry)?;
+        self.push_reply(reply)
+    }
+
     /// One line more.
     fn push(&mut self, said: Said) -> Result<(), OutOfMemory>
         ensures { IfOk result (λ _. self.new ≡ with_said self.old said) }
     {
-        if let Event::Paint = said.entry.event {
-            let Ok(()) = self.ends.push(said.end) else {
-                return Err(OutOfMemory);
-            };
-        }
-        let Ok(()) = self.entries.push(said.entry) else {
-            return Err(OutOfMemory);
-        };
-        match self.replies.push(said.reply) {
-            Ok(()) => Ok(()),
-            Err(_) => Err(OutOfMemory),
-        }
+        self.push_end(&said.entry.event, said.end)?;
+        self.push_both(said.entry, said.reply)
     }
 
     /// All that was read, with the status.
