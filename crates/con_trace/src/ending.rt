@@ -71,8 +71,7 @@ impl Line {
     pub fn alone(&mut self, status: u8) -> Result<(), OutOfMemory>
         ensures { IfOk result (λ _. self.new ≡ put self.old (ending_data (alone_ending status))) }
     {
-        self.open()?;
-        self.word("end")?;
+        self.open_with("end")?;
         self.natural(status as u64)?;
         self.shut()
     }
@@ -81,8 +80,7 @@ impl Line {
     pub fn worded(&mut self, alloc: Global, status: u8, text: String) -> Result<(), OutOfMemory>
         ensures { IfOk result (λ _. self.new ≡ put self.old (ending_data (worded_ending status (string_bytes text)))) }
     {
-        self.open()?;
-        self.word("end")?;
+        self.open_with("end")?;
         self.natural(status as u64)?;
         self.any_text(alloc, text)?;
         self.shut()
@@ -92,8 +90,7 @@ impl Line {
     pub fn at_frame(&mut self, place: u64, kind: FrameFault) -> Result<(), OutOfMemory>
         ensures { IfOk result (λ _. self.new ≡ put self.old (ending_data (frame_ending place kind))) }
     {
-        self.open()?;
-        self.word("end")?;
+        self.open_with("end")?;
         self.natural(8)?;
         self.natural(place)?;
         self.word(kind_word(kind))?;

@@ -183,6 +183,15 @@ impl Line {
         Ok(())
     }
 
+    /// An array begins, with a text in which no character is escaped as its first value.
+    pub fn open_with(&mut self, text: &str) -> Result<(), OutOfMemory>
+        requires { escape text.now ≡ text.now }
+        ensures { IfOk result (λ _. self.new ≡ put (opened self.old) (string text.now)) }
+    {
+        self.open()?;
+        self.word(text)
+    }
+
     /// An array ends.
     #[tactic(auto, unfolding(crate::specs::Writing::more, crate::specs::Writing::shut))]
     pub fn shut(&mut self) -> Result<(), OutOfMemory>

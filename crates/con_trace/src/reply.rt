@@ -55,8 +55,7 @@ impl Line {
         requires { escape word.now ≡ word.now }
         ensures { IfOk result (λ _. self.new ≡ put self.old (list_of (string word.now ∷ natural_data n ∷ []))) }
     {
-        self.open()?;
-        self.word(word)?;
+        self.open_with(word)?;
         self.natural(n)?;
         self.shut()
     }
@@ -64,16 +63,14 @@ impl Line {
     fn done(&mut self) -> Result<(), OutOfMemory>
         ensures { IfOk result (λ _. self.new ≡ put self.old (ok_data [])) }
     {
-        self.open()?;
-        self.word("ok")?;
+        self.open_with("ok")?;
         self.shut()
     }
 
     fn fields(&mut self, numbers: &[i64]) -> Result<(), OutOfMemory>
         ensures { IfOk result (λ _. self.new ≡ put self.old (ok_data (map whole_data numbers.now))) }
     {
-        self.open()?;
-        self.word("ok")?;
+        self.open_with("ok")?;
         self.each_number(numbers)?;
         self.shut()
     }
@@ -81,8 +78,7 @@ impl Line {
     fn size_and_flag(&mut self, numbers: &[i64]) -> Result<(), OutOfMemory>
         ensures { IfOk result (λ _. self.new ≡ put self.old (ok_data (number_and_flag_data numbers.now))) }
     {
-        self.open()?;
-        self.word("ok")?;
+        self.open_with("ok")?;
         self.number_and_flag(numbers)?;
         self.shut()
     }
@@ -90,8 +86,7 @@ impl Line {
     fn ids(&mut self, numbers: &[i64]) -> Result<(), OutOfMemory>
         ensures { IfOk result (λ _. self.new ≡ put self.old (ok_data (list_of (map whole_data numbers.now) ∷ []))) }
     {
-        self.open()?;
-        self.word("ok")?;
+        self.open_with("ok")?;
         self.open()?;
         self.each_number(numbers)?;
         self.shut()?;
@@ -101,8 +96,7 @@ impl Line {
     fn ok_units(&mut self, units: &Units) -> Result<(), OutOfMemory>
         ensures { IfOk result (λ _. self.new ≡ put self.old (ok_data (units_text units.now ∷ []))) }
     {
-        self.open()?;
-        self.word("ok")?;
+        self.open_with("ok")?;
         self.units(units.as_slice())?;
         self.shut()
     }
@@ -110,8 +104,7 @@ impl Line {
     fn ok_records(&mut self, records: &Taken) -> Result<(), OutOfMemory>
         ensures { IfOk result (λ _. self.new ≡ put self.old (ok_data (records_data records.now ∷ []))) }
     {
-        self.open()?;
-        self.word("ok")?;
+        self.open_with("ok")?;
         self.all_records(records.0.as_slice())?;
         self.shut()
     }
@@ -119,8 +112,7 @@ impl Line {
     fn ok_cells(&mut self, rect: Rect, cells: &Rows) -> Result<(), OutOfMemory>
         ensures { IfOk result (λ _. self.new ≡ put self.old (ok_data (rect_data rect ∷ units_text (cell_words cells.now) ∷ []))) }
     {
-        self.open()?;
-        self.word("ok")?;
+        self.open_with("ok")?;
         self.sides(rect)?;
         self.cells(cells.as_slice())?;
         self.shut()
@@ -129,8 +121,7 @@ impl Line {
     fn ok_lines(&mut self, lines: &[Units]) -> Result<(), OutOfMemory>
         ensures { IfOk result (λ _. self.new ≡ put self.old (ok_data (list_of (map units_text lines.now) ∷ []))) }
     {
-        self.open()?;
-        self.word("ok")?;
+        self.open_with("ok")?;
         self.open()?;
         self.each_line(lines)?;
         self.shut()?;
@@ -140,8 +131,7 @@ impl Line {
     fn ok_number(&mut self, n: u32) -> Result<(), OutOfMemory>
         ensures { IfOk result (λ _. self.new ≡ put self.old (ok_data (natural_data n ∷ []))) }
     {
-        self.open()?;
-        self.word("ok")?;
+        self.open_with("ok")?;
         self.natural(n as u64)?;
         self.shut()
     }

@@ -27,8 +27,7 @@ impl Line {
     fn key(&mut self, key: Key) -> Result<(), OutOfMemory>
         ensures { IfOk result (λ _. self.new ≡ put self.old (record_data (Record.Key key))) }
     {
-        self.open()?;
-        self.word("key")?;
+        self.open_with("key")?;
         self.truth(key.down)?;
         self.natural(key.repeat as u64)?;
         self.natural(key.vk as u64)?;
@@ -41,8 +40,7 @@ impl Line {
     fn mouse(&mut self, mouse: Mouse) -> Result<(), OutOfMemory>
         ensures { IfOk result (λ _. self.new ≡ put self.old (record_data (Record.Mouse mouse))) }
     {
-        self.open()?;
-        self.word("mouse")?;
+        self.open_with("mouse")?;
         self.whole(mouse.x as i64)?;
         self.whole(mouse.y as i64)?;
         self.natural(mouse.buttons as u64)?;
@@ -54,8 +52,7 @@ impl Line {
     fn size(&mut self, size: Size) -> Result<(), OutOfMemory>
         ensures { IfOk result (λ _. self.new ≡ put self.old (record_data (Record.Size size))) }
     {
-        self.open()?;
-        self.word("size")?;
+        self.open_with("size")?;
         self.natural(size.w as u64)?;
         self.natural(size.h as u64)?;
         self.shut()
@@ -64,8 +61,7 @@ impl Line {
     fn menu(&mut self, id: u32) -> Result<(), OutOfMemory>
         ensures { IfOk result (λ _. self.new ≡ put self.old (record_data (Record.Menu id))) }
     {
-        self.open()?;
-        self.word("menu")?;
+        self.open_with("menu")?;
         self.natural(id as u64)?;
         self.shut()
     }
@@ -73,8 +69,7 @@ impl Line {
     fn focus(&mut self, set: bool) -> Result<(), OutOfMemory>
         ensures { IfOk result (λ _. self.new ≡ put self.old (record_data (Record.Focus set))) }
     {
-        self.open()?;
-        self.word("focus")?;
+        self.open_with("focus")?;
         self.truth(set)?;
         self.shut()
     }
