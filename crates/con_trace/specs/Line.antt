@@ -14,7 +14,7 @@ use Rattle.con_events.specs.Table.{name_of, args_of}
 use Rattle.serde_json.specs.Data.{Data, null, boolean, string}
 use Rattle.serde_json.specs.Written.{compact_text}
 use Rattle.con_trace.specs.declared.form.Form.{Form}
-use Rattle.con_trace.specs.declared.form.Form.TheVariants.{Number, Fields, NumberAndFlag, Units, Records, Cells, Lines}
+use Rattle.con_trace.specs.declared.form.Form.TheVariants.{Fields, NumberAndFlag}
 use Rattle.con_trace.specs.Form.{form_of}
 use Rattle.con_trace.specs.Hex.{hex_bytes}
 use Rattle.con_trace.specs.Shown.{list_of, natural, whole, units_text, rect_data, records_data, shown, cell_words}

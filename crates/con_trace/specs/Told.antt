@@ -10,7 +10,6 @@ use Rattle.con_units.specs.declared.view.FrameFault.{FrameFault}
 use Rattle.con_units.specs.declared.view.FrameFault.TheVariants as fault
 use Rattle.con_events.specs.declared.actor.Actor.{Actor}
 use Rattle.con_events.specs.declared.actor.Actor.TheVariants as actor
-use Rattle.con_events.specs.declared.call.Call.{Call}
 use Rattle.con_events.specs.declared.call.Words.{Words}
 use Rattle.con_events.specs.declared.call.Words.TheVariants.{One, Each}
 use Rattle.con_events.specs.declared.event.Event.{Event}
@@ -22,7 +21,7 @@ use Rattle.con_events.specs.Arg as arg
 use Rattle.con_events.specs.Arg.{Kind, Arg, Number, Signed, OneUnit, Flag, Text, Area, Clip, WordsOf, WordList, Records}
 use Rattle.con_events.specs.Reading.{Item, call_from, whole as whole_from}
 use Rattle.con_values.specs.Values.{number_in, unit_in, signed_in, rect_in, clip_in, records_in}
-use Rattle.serde_json.specs.Data.{Data, number, string, Items, no_items, item}
+use Rattle.serde_json.specs.Data.{Data, string, Items, no_items, item}
 use Rattle.serde_json.specs.Find.{as_number, as_u64, as_i64, as_bool, as_str, as_array}
 use Rattle.con_trace.specs.declared.form.Form.{Form}
 use Rattle.con_trace.specs.declared.form.Form.TheVariants as form
