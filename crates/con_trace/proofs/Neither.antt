@@ -68,6 +68,7 @@ said_is_line None s m = absurd (none_some s m)
 said_is_line (Some d) s m = told_is_line d s m
 
 -- it says an event, and is not spelled so
-pub other_said : (line : List ℕ) (o : Option Data) (s : Said) → read line ≡ o → option_and_then said_in o ≡ Some s → (line ≡ line_text s.entry s.reply s.end → ⊥) → IsNeither line
+pub other_said : (line : List ℕ) (o : Option Data) (s : Said) → read line ≡ o → option_and_then said_in o ≡ Some s
+    → (line ≡ line_text s.entry s.reply s.end → ⊥) → IsNeither line
 other_said line None s e m not = absurd (none_some s m)
 other_said line (Some d) s e m not = other_line line d s e m not

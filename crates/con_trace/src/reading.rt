@@ -41,7 +41,11 @@ impl Gathered {
 
     /// The stream's length after a picture; nothing of any other event.
     fn push_end(&mut self, event: &Event, end: u64) -> Result<(), OutOfMemory>
-        ensures { IfOk result (λ _. self.new ≡ record { entries = self.old.entries; replies = self.old.replies; ends = self.old.ends ++ with_end event.now end [] }) }
+        ensures { IfOk result (λ _. self.new ≡ record {
+          entries = self.old.entries;
+          replies = self.old.replies;
+          ends = self.old.ends ++ with_end event.now end [];
+        }) }
     {
         let Event::Paint = event else {
             return Ok(());
@@ -72,7 +76,11 @@ impl Gathered {
 
     /// An event and its answer.
     fn push_both(&mut self, entry: Entry, reply: Reply) -> Result<(), OutOfMemory>
-        ensures { IfOk result (λ _. self.new ≡ record { entries = self.old.entries ++ entry ∷ []; replies = self.old.replies ++ reply ∷ []; ends = self.old.ends }) }
+        ensures { IfOk result (λ _. self.new ≡ record {
+          entries = self.old.entries ++ entry ∷ [];
+          replies = self.old.replies ++ reply ∷ [];
+          ends = self.old.ends;
+        }) }
     {
         self.push_entry(entry)?;
         self.push_reply(reply)
