@@ -40,9 +40,10 @@ all_units us out n x none h = sym (append_none us) ∙ (ap (λ m. us ++ m.made) 
 pub end_of_units : (n x out : ℕ) → n ≤ 0 → (units_drawn n x).left ≡ out → x ≡ out
 end_of_units n x out none h = ap (λ m. m.left) (sym (units_end n x (omega arith))) ∙ h
 
-pub more_steps : (ss now out : List Step) (s : Step) (n x y : ℕ) → 0 < n → now ≡ ss ++ s ∷ [] → s ≡ (step_drawn x).made → y ≡ (step_drawn x).left → ss ++ (steps_drawn n x).made ≡ out → now ++ (steps_drawn (n - 1) y).made ≡ out
-more_steps ss now out s n x y some p q l h =
-    rw (p, q, l) (append_assoc ss ((step_drawn x).made ∷ []) (steps_drawn (n - 1) (step_drawn x).left).made
+pub more_steps : (ss now out : List Step) (n x y : ℕ)
+    → 0 < n → now ≡ ss ++ (step_drawn x).made ∷ [] → y ≡ (step_drawn x).left → ss ++ (steps_drawn n x).made ≡ out → now ++ (steps_drawn (n - 1) y).made ≡ out
+more_steps ss now out n x y some p l h =
+    rw (p, l) (append_assoc ss ((step_drawn x).made ∷ []) (steps_drawn (n - 1) (step_drawn x).left).made
     ∙ (ap (λ m. ss ++ m.made) (sym (steps_next n (n - 1) x (omega arith))) ∙ h))
 
 pub steps_left : (n x y out : ℕ) → 0 < n → y ≡ (step_drawn x).left → (steps_drawn n x).left ≡ out → (steps_drawn (n - 1) y).left ≡ out

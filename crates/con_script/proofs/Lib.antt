@@ -1,6 +1,9 @@
 pub mod ShortLemmas
 pub mod LeftLemmas
 pub mod KeyLemmas
+pub mod ListLemmas
+pub mod StepLemmas
+pub mod ArrayLemmas
 pub mod LimitLemmas
 pub mod OrderLemmas
 pub mod DocumentLemmas

@@ -32,13 +32,10 @@ fn draw(draws: &mut Draws, below: u64) -> u64
 pub(crate) fn units(alloc: Global, list: &[u16]) -> Result<Units, OutOfMemory>
     ensures { IfOk result (λ us. us ≡ list.now) }
 {
-    let mut units = Vec::new(alloc);
-    for unit in list {
-        let Ok(()) = units.push(*unit) else {
-            return Err(OutOfMemory);
-        };
+    match Vec::from_slice(alloc, list) {
+        Ok(units) => Ok(Units(units)),
+        Err(_) => Err(OutOfMemory),
     }
-    Ok(Units(units))
 }
 
 fn units_of_draws(alloc: Global, draws: &mut Draws, count: u64) -> Result<Units, OutOfMemory>

@@ -1,12 +1,26 @@
 //! Generated sessions.
 
-ghost use Rattle.std.specs.Prelude.{◌≡◌, ◌++◌, IfOk, OnOk};
-ghost use Rattle.con_script.specs.Generated.{steps_drawn, script_drawn, session_drawn};
+ghost use Rattle.std.specs.Prelude.{◌≡◌, [], ◌∷◌, ◌++◌, IfOk, OnOk};
+ghost use Rattle.con_script.specs.Generated.{step_drawn, steps_drawn, script_drawn, session_drawn};
 
 use crate::draws::{Draws, step, units};
 use con_events::{Call, Script, Scripts, Session, Step, Steps};
 use con_units::{OutOfMemory, Size};
 use std::alloc::Global;
+
+/// Puts a call that is drawn last.
+fn push_step(alloc: Global, draws: &mut Draws, steps: &mut Vec<Step>) -> Result<(), OutOfMemory>
+    ensures made { OnOk result (steps.new.items ≡ steps.old.items ++ (step_drawn draws.old.state).made ∷ []) }
+    ensures left { OnOk result (draws.new.state ≡ (step_drawn draws.old.state).left) }
+{
+    match step(alloc, draws) {
+        Ok(step) => match steps.push(step) {
+            Ok(()) => Ok(()),
+            Err(_) => Err(OutOfMemory),
+        },
+        Err(fault) => Err(fault),
+    }
+}
 
 /// Puts so many calls that are drawn last.
 fn push_steps(
@@ -20,8 +34,7 @@ fn push_steps(
 {
     let mut more = count;
     while more > 0 {
-        let step = step(alloc, draws)?;
-        let Ok(()) = steps.push(step) else {
+        let Ok(()) = push_step(alloc, draws, steps) else {
             return Err(OutOfMemory);
         };
         more -= 1;

@@ -2,7 +2,7 @@
 
 ghost use Rattle.std.specs.Prelude.{◌≡◌, map, option_map};
 ghost use Rattle.serde_json.specs.View.{view, items_view, members_view};
-ghost use Rattle.con_script.specs.Session.{first_missing, first_unknown, is_among, keys_spot, member_at, array_within};
+ghost use Rattle.con_script.specs.Session.{first_missing, first_unknown, is_among, keys_spot, member_at, within, array_within};
 ghost use Rattle.con_script.specs.Places.{Keeps, HaltsAt};
 
 use crate::place::{Halt, Place};
@@ -70,6 +70,26 @@ pub(crate) fn check_keys(alloc: Global, value: &Value, keys: &[&str]) -> Result<
     Ok(())
 }
 
+fn items_within<'v>(items: &'v [Value], least: usize, most: usize) -> Option<&'v [Value]>
+    ensures { option_map (λ vs. items_view vs.now) result ≡ within least most (items_view items.now) }
+{
+    let count = items.len();
+    if least <= count && count <= most {
+        Some(items)
+    } else {
+        None
+    }
+}
+
+fn array_of<'v>(value: &'v Value, least: usize, most: usize) -> Option<&'v [Value]>
+    ensures { option_map (λ vs. items_view vs.now) result ≡ array_within least most (view value.now) }
+{
+    match value.as_array() {
+        Some(items) => items_within(items.as_slice(), least, most),
+        None => None,
+    }
+}
+
 /// The items of an array under a key, where there are so many.
 pub(crate) fn array_at<'v>(
     value: &'v Value,
@@ -79,11 +99,8 @@ pub(crate) fn array_at<'v>(
 ) -> Option<&'v [Value]>
     ensures { option_map (λ vs. items_view vs.now) result ≡ array_within least most (member_at key.now (view value.now)) }
 {
-    let items = value.get(key)?.as_array()?.as_slice();
-    let count = items.len();
-    if least <= count && count <= most {
-        Some(items)
-    } else {
-        None
+    match value.get(key) {
+        Some(member) => array_of(member, least, most),
+        None => None,
     }
 }

@@ -104,10 +104,14 @@ fn scripts_of(alloc: Global, version: Version, items: &[Value]) -> Result<Script
 {
     let mut scripts = Vec::new(alloc);
     for (i, item) in items.iter().enumerate() {
-        let script = client(alloc, version, i, item)?;
-        let Ok(()) = scripts.push(script) else {
-            return Err(Stop::OutOfMemory);
-        };
+        match client(alloc, version, i, item) {
+            Ok(script) => {
+                let Ok(()) = scripts.push(script) else {
+                    return Err(Stop::OutOfMemory);
+                };
+            }
+            Err(stop) => return Err(stop),
+        }
     }
     Ok(Scripts(scripts))
 }

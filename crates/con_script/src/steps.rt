@@ -1,9 +1,10 @@
 //! The steps of a script.
 
-ghost use Rattle.std.specs.Prelude.{◌≡◌, Some, None, IfOk, IfErr};
+ghost use Rattle.std.specs.Prelude.{◌≡◌, Some, None, IfOk, IfErr, codes};
 ghost use Rattle.con_events.specs.Reading.{IsForm, row_from, whole};
+ghost use Rattle.con_events.specs.Table.{row_of};
 ghost use Rattle.serde_json.specs.View.{view, items_view};
-ghost use Rattle.con_script.specs.Steps.{row_in_one, row_in_two, step_row, step_items, step_in};
+ghost use Rattle.con_script.specs.Steps.{as_step, row_in_one, row_in_two, step_row, step_items, step_in};
 
 use crate::cursor::Cursor;
 use crate::version::Version;
@@ -12,39 +13,85 @@ use con_values::ItemsLeft;
 use serde_json::Value;
 use std::alloc::Global;
 
-/// The step of a name in version 1, with its arguments taken.
 #[tactic(auto, unfolding(crate::specs::Steps::row_in_one))]
+fn read_begun<A: Arguments>(args: &mut A) -> Result<Step, Misread>
+    ensures ok { IfOk result (λ s. row_from (row_in_one (codes "read")) (A.left args.old) ≡ Some (s, A.left args.new)) }
+    ensures form { IfErr result (λ e. IsForm e → row_from (row_in_one (codes "read")) (A.left args.old) ≡ None) }
+{
+    let handle = args.number()?;
+    let n = args.number()?;
+    Ok(Step::Begin(Wanted::Read { handle, n }))
+}
+
+#[tactic(auto, unfolding(crate::specs::Steps::row_in_one))]
+fn input_read_begun<A: Arguments>(args: &mut A) -> Result<Step, Misread>
+    ensures ok { IfOk result (λ s. row_from (row_in_one (codes "read-input")) (A.left args.old) ≡ Some (s, A.left args.new)) }
+    ensures form { IfErr result (λ e. IsForm e → row_from (row_in_one (codes "read-input")) (A.left args.old) ≡ None) }
+{
+    let handle = args.number()?;
+    let n = args.number()?;
+    Ok(Step::Begin(Wanted::ReadInput { handle, n }))
+}
+
+#[tactic(auto, unfolding(crate::specs::Steps::row_in_one))]
+fn exit<A: Arguments>(args: &mut A) -> Result<Step, Misread>
+    ensures ok { IfOk result (λ s. row_from (row_in_one (codes "exit")) (A.left args.old) ≡ Some (s, A.left args.new)) }
+    ensures form { IfErr result (λ e. IsForm e → row_from (row_in_one (codes "exit")) (A.left args.old) ≡ None) }
+{
+    match args.number() {
+        Ok(status) => Ok(Step::Exit(status)),
+        Err(fault) => Err(fault),
+    }
+}
+
+/// The step of a call, with its arguments taken.
+fn called<A: Arguments>(name: &str, args: &mut A) -> Result<Step, Misread>
+    ensures ok { IfOk result (λ s. row_from (as_step (row_of name.now)) (A.left args.old) ≡ Some (s, A.left args.new)) }
+    ensures form { IfErr result (λ e. IsForm e → row_from (as_step (row_of name.now)) (A.left args.old) ≡ None) }
+{
+    match read_call(name, args) {
+        Ok(call) => Ok(Step::Call(call)),
+        Err(fault) => Err(fault),
+    }
+}
+
+/// The step of a name in version 1, with its arguments taken.
 fn first_step<A: Arguments>(name: &str, args: &mut A) -> Result<Step, Misread>
     ensures ok { IfOk result (λ s. row_from (row_in_one name.now) (A.left args.old) ≡ Some (s, A.left args.new)) }
     ensures form { IfErr result (λ e. IsForm e → row_from (row_in_one name.now) (A.left args.old) ≡ None) }
 {
     match name {
-        "read" => Ok(Step::Begin(Wanted::Read {
-            handle: args.number()?,
-            n: args.number()?,
-        })),
-        "read-input" => Ok(Step::Begin(Wanted::ReadInput {
-            handle: args.number()?,
-            n: args.number()?,
-        })),
-        "exit" => Ok(Step::Exit(args.number()?)),
-        _ => Ok(Step::Call(read_call(name, args)?)),
+        "read" => read_begun(args),
+        "read-input" => input_read_begun(args),
+        "exit" => exit(args),
+        _ => called(name, args),
     }
 }
 
-/// The step of a name in version 2, with its arguments taken.
 #[tactic(auto, unfolding(crate::specs::Steps::row_in_two))]
+fn line_begun<A: Arguments>(args: &mut A) -> Result<Step, Misread>
+    ensures ok { IfOk result (λ s. row_from (row_in_two (codes "read-with")) (A.left args.old) ≡ Some (s, A.left args.new)) }
+    ensures form { IfErr result (λ e. IsForm e → row_from (row_in_two (codes "read-with")) (A.left args.old) ≡ None) }
+{
+    let handle = args.number()?;
+    let n = args.number()?;
+    let initial = args.text()?;
+    let mask = args.number()?;
+    Ok(Step::Begin(Wanted::ReadWith {
+        handle,
+        n,
+        initial,
+        mask,
+    }))
+}
+
+/// The step of a name in version 2, with its arguments taken.
 fn later_step<A: Arguments>(name: &str, args: &mut A) -> Result<Step, Misread>
     ensures ok { IfOk result (λ s. row_from (row_in_two name.now) (A.left args.old) ≡ Some (s, A.left args.new)) }
     ensures form { IfErr result (λ e. IsForm e → row_from (row_in_two name.now) (A.left args.old) ≡ None) }
 {
     match name {
-        "read-with" => Ok(Step::Begin(Wanted::ReadWith {
-            handle: args.number()?,
-            n: args.number()?,
-            initial: args.text()?,
-            mask: args.number()?,
-        })),
+        "read-with" => line_begun(args),
         _ => first_step(name, args),
     }
 }

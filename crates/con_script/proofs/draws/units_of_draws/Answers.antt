@@ -1,3 +1,4 @@
+use borrow.Author.Count.{falls_down}
 use Rattle.con_script.proofs.GeneratedLemmas.{more_units, units_left, all_units, end_of_units}
 use Rattle.con_script.proofs.draws.units_of_draws.Goals as goal
 
@@ -12,3 +13,6 @@ returns-clause-made c = all_units c.loop-more.units.items _ c.loop-more.more c.l
 
 pub returns-clause-left : goal.returns-clause-left
 returns-clause-left c = end_of_units c.loop-more.more c.loop-more.draws.state _ c.loop-more-test.false c.loop-more.invariant.left
+
+pub loop-more-smaller : goal.loop-more-smaller
+loop-more-smaller c = falls_down c.loop-more.more c.loop-more-test.true
