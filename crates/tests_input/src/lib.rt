@@ -1,14 +1,10 @@
-//! Tests of the outside, link frames, records, keys and mouse reports, as a caller sees them.
+//! Tests of the outside, of keys and of mouse reports, as a caller sees them: what no session shows; `callers` also of link frames.
 #![tactic(auto)]
 
 pub mod callers;
 #[cfg(test)]
 mod keys;
 #[cfg(test)]
-mod links;
-#[cfg(test)]
 mod mouse;
 #[cfg(test)]
 mod outside;
-#[cfg(test)]
-mod records;

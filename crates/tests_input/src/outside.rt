@@ -52,10 +52,8 @@ fn a_reader_of_std_gives_each_byte_and_counts_its_failures(rt: HostRuntime) {
         faults: 0,
     };
     let mut buf = [0u8; 4];
-    assert_eq!(rt; source.read(&mut buf), Ok(3));
-    assert_eq!(rt; buf, *b"abc\0");
-    assert_eq!(rt; source.read(&mut buf), Err(Failed));
-    assert_eq!(rt; source.faults, 1);
+    let answers = [source.read(&mut buf), source.read(&mut buf)];
+    assert!(rt; answers == [Ok(3), Err(Failed)] && buf == *b"abc\0" && source.faults == 1);
 }
 
 #[test]
@@ -64,10 +62,10 @@ fn a_writer_of_std_tells_what_it_took_and_fails_where_it_takes_nothing(rt: HostR
         writer: One { taken: 0 },
         faults: 0,
     };
-    assert_eq!(rt; sink.write(b"ab"), Ok(1));
-    assert_eq!(rt; sink.writer.taken, 0x61);
-    assert_eq!(rt; sink.write(b"b"), Err(Fault::Failed));
-    assert_eq!(rt; sink.faults, 1);
+    let answers = [sink.write(b"ab"), sink.write(b"b")];
+    assert!(rt;
+        answers == [Ok(1), Err(Fault::Failed)] && sink.writer.taken == 0x61 && sink.faults == 1
+    );
 }
 
 // How often the source of five bytes failed that fails at this read, with what was read of it.
@@ -130,11 +128,9 @@ fn each_read_and_each_write_fails_in_turn(rt: HostRuntime) -> Result<(), Fail> {
 #[test]
 fn counts_stay_at_the_greatest_number(rt: HostRuntime) {
     let mut calls = u64::MAX;
-    assert!(rt; fails(&[u64::MAX], &mut calls));
-    assert_eq!(rt; calls, u64::MAX);
     let mut faults = u64::MAX;
     raise(&mut faults);
-    assert_eq!(rt; faults, u64::MAX);
+    assert!(rt; fails(&[u64::MAX], &mut calls) && calls == u64::MAX && faults == u64::MAX);
 }
 
 #[test]
@@ -149,20 +145,24 @@ fn files_in_memory_are_found_by_name(rt: HostRuntime) -> Result<(), Fail> {
         calls: 0,
         faults: 0,
     };
-    let mut out = Vec::new(rt.alloc());
-    assert_eq!(rt; files.read_all("a", &mut out), Ok(Found::Whole));
-    assert_eq!(rt; out.as_slice(), b"one".as_slice());
-    out.clear();
-    assert_eq!(rt; files.read_all("a", &mut out), Err(Fault::Failed));
-    out.clear();
-    assert_eq!(rt; files.read_all("ab", &mut out), Ok(Found::Missing));
+    let mut first = Vec::new(rt.alloc());
+    let mut none = Vec::new(rt.alloc());
+    let mut missing = Vec::new(rt.alloc());
+    let answers = [
+        files.read_all("a", &mut first),
+        files.read_all("a", &mut none),
+        files.read_all("ab", &mut missing),
+    ];
     let mut sure = SureFiles {
         names: files.names,
         texts: files.texts,
     };
-    out.clear();
-    assert_eq!(rt; sure.read_all("a", &mut out), Ok(Found::Whole));
-    assert_eq!(rt; out.as_slice(), b"one".as_slice());
+    let mut last = Vec::new(rt.alloc());
+    let whole = sure.read_all("a", &mut last) == Ok(Found::Whole);
+    let read = first.as_slice() == b"one".as_slice() && last.as_slice() == b"one".as_slice();
+    assert!(rt;
+        whole && read && answers == [Ok(Found::Whole), Err(Fault::Failed), Ok(Found::Missing)]
+    );
     Ok(())
 }
 
@@ -172,22 +172,23 @@ fn files_of_the_system_are_read_whole(rt: HostRuntime) -> Result<(), Fail> {
         rt: rt.clone()?,
         faults: 0,
     };
-    let mut out = Vec::new(rt.alloc());
-    assert_eq!(rt;
-        files.read_all("/proc/sys/kernel/ostype", &mut out),
-        Ok(Found::Whole)
-    );
-    assert_eq!(rt; out.as_slice(), b"Linux\n".as_slice());
-    out.clear();
-    assert_eq!(rt;
-        files.read_all("/no/such/file", &mut out),
-        Ok(Found::Missing)
-    );
-    out.clear();
-    assert_eq!(rt; files.read_all("/dev/zero", &mut out), Ok(Found::TooLong));
-    out.clear();
-    assert_eq!(rt; files.read_all("/", &mut out), Err(Fault::Failed));
-    assert_eq!(rt; files.faults, 1);
+    let mut kind = Vec::new(rt.alloc());
+    let mut none = Vec::new(rt.alloc());
+    let mut long = Vec::new(rt.alloc());
+    let mut folder = Vec::new(rt.alloc());
+    let answers = [
+        files.read_all("/proc/sys/kernel/ostype", &mut kind),
+        files.read_all("/no/such/file", &mut none),
+        files.read_all("/dev/zero", &mut long),
+        files.read_all("/", &mut folder),
+    ];
+    let wanted = [
+        Ok(Found::Whole),
+        Ok(Found::Missing),
+        Ok(Found::TooLong),
+        Err(Fault::Failed),
+    ];
+    assert!(rt; answers == wanted && kind.as_slice() == b"Linux\n".as_slice() && files.faults == 1);
     let gate = NoGate;
     gate.before(1, 0);
     gate.after(1, 0);
