@@ -18,12 +18,24 @@
 //! Nothing is promised here of what an event does.
 #![tactic(auto)]
 
+/// What a call gave. Where it gave a fault, the function ends with that fault, as by `?`, which calls two more functions to convert it: their
+/// proof cost more than all else here.
+macro_rules! given {
+    ($call:expr) => {
+        match $call {
+            Ok(value) => value,
+            Err(fault) => return Err(fault),
+        }
+    };
+}
+
 pub mod actor;
 pub mod arguments;
 pub mod call;
 pub mod end;
 pub mod entry;
 pub mod event;
+mod groups;
 pub mod history;
 pub mod reading;
 pub mod recording;

@@ -1,8 +1,9 @@
 //! Reading an input record, and telling it.
 
-ghost use Rattle.std.specs.Prelude.{◌≡◌, Some, None, IfOk, IfErr};
+ghost use Rattle.std.specs.Prelude.{◌≡◌, Some, None, IfOk, IfErr, codes};
 ghost use Rattle.con_events.specs.Reading.{IsForm, row_from, whole};
 ghost use Rattle.con_events.specs.Arg.{put_all};
+ghost use Rattle.con_records.specs.declared.record.Record.TheVariants as record_of;
 ghost use Rattle.con_events.specs.RecordTable.{row_of_record, name_of_record, args_of_record};
 
 use crate::arguments::{Arguments, Misread};
@@ -17,29 +18,53 @@ pub fn read_record<A: Arguments>(name: &str, args: &mut A) -> Result<Record, Mis
     ensures form { IfErr result (λ e. IsForm e → row_from (row_of_record name.now) (A.left args.old) ≡ None) }
 {
     match name {
-        "key" => Ok(Record::Key(Key {
-            down: args.flag()?,
-            repeat: args.unit()?,
-            vk: args.unit()?,
-            scan: args.unit()?,
-            unit: args.unit()?,
-            state: args.number()?,
-        })),
-        "mouse" => Ok(Record::Mouse(Mouse {
-            x: args.signed()?,
-            y: args.signed()?,
-            buttons: args.number()?,
-            state: args.number()?,
-            flags: args.number()?,
-        })),
-        "size" => Ok(Record::Size(Size {
-            w: args.unit()?,
-            h: args.unit()?,
-        })),
-        "menu" => Ok(Record::Menu(args.number()?)),
-        "focus" => Ok(Record::Focus(args.flag()?)),
+        "key" => read_key(args),
+        "mouse" => read_mouse(args),
+        "size" => read_size(args),
+        "menu" => Ok(Record::Menu(given!(args.number()))),
+        "focus" => Ok(Record::Focus(given!(args.flag()))),
         _ => Err(Misread::Form),
     }
+}
+
+#[tactic(auto, unfolding(crate::specs::RecordTable::row_of_record))]
+fn read_key<A: Arguments>(args: &mut A) -> Result<Record, Misread>
+    ensures ok { IfOk result (λ r. row_from (row_of_record (codes "key")) (A.left args.old) ≡ Some (r, A.left args.new)) }
+    ensures form { IfErr result (λ e. IsForm e → row_from (row_of_record (codes "key")) (A.left args.old) ≡ None) }
+{
+    Ok(Record::Key(Key {
+        down: given!(args.flag()),
+        repeat: given!(args.unit()),
+        vk: given!(args.unit()),
+        scan: given!(args.unit()),
+        unit: given!(args.unit()),
+        state: given!(args.number()),
+    }))
+}
+
+#[tactic(auto, unfolding(crate::specs::RecordTable::row_of_record))]
+fn read_mouse<A: Arguments>(args: &mut A) -> Result<Record, Misread>
+    ensures ok { IfOk result (λ r. row_from (row_of_record (codes "mouse")) (A.left args.old) ≡ Some (r, A.left args.new)) }
+    ensures form { IfErr result (λ e. IsForm e → row_from (row_of_record (codes "mouse")) (A.left args.old) ≡ None) }
+{
+    Ok(Record::Mouse(Mouse {
+        x: given!(args.signed()),
+        y: given!(args.signed()),
+        buttons: given!(args.number()),
+        state: given!(args.number()),
+        flags: given!(args.number()),
+    }))
+}
+
+#[tactic(auto, unfolding(crate::specs::RecordTable::row_of_record))]
+fn read_size<A: Arguments>(args: &mut A) -> Result<Record, Misread>
+    ensures ok { IfOk result (λ r. row_from (row_of_record (codes "size")) (A.left args.old) ≡ Some (r, A.left args.new)) }
+    ensures form { IfErr result (λ e. IsForm e → row_from (row_of_record (codes "size")) (A.left args.old) ≡ None) }
+{
+    Ok(Record::Size(Size {
+        w: given!(args.unit()),
+        h: given!(args.unit()),
+    }))
 }
 
 /// The record of a name, with nothing after its fields.
@@ -47,7 +72,7 @@ pub fn whole_record<A: Arguments>(name: &str, args: &mut A) -> Result<Record, Mi
     ensures ok { IfOk result (λ r. whole (row_from (row_of_record name.now) (A.left args.old)) ≡ Some r) }
     ensures form { IfErr result (λ e. IsForm e → whole (row_from (row_of_record name.now) (A.left args.old)) ≡ None) }
 {
-    let record = read_record(name, args)?;
+    let record = given!(read_record(name, args));
     if args.is_done() {
         Ok(record)
     } else {
@@ -73,26 +98,38 @@ pub fn tell_record<S: Shows>(input: &Record, out: &mut S) -> Result<(), OutOfMem
     ensures { IfOk result (λ _. out.new ≡ put_all S.put out.old (args_of_record input.now)) }
 {
     match input {
-        Record::Key(key) => {
-            out.flag(key.down)?;
-            out.unit(key.repeat)?;
-            out.unit(key.vk)?;
-            out.unit(key.scan)?;
-            out.unit(key.unit)?;
-            out.number(key.state)
-        }
-        Record::Mouse(mouse) => {
-            out.signed(mouse.x)?;
-            out.signed(mouse.y)?;
-            out.number(mouse.buttons)?;
-            out.number(mouse.state)?;
-            out.number(mouse.flags)
-        }
-        Record::Size(size) => {
-            out.unit(size.w)?;
-            out.unit(size.h)
-        }
+        Record::Key(key) => tell_key(*key, out),
+        Record::Mouse(mouse) => tell_mouse(*mouse, out),
+        Record::Size(size) => tell_size(*size, out),
         Record::Menu(number) => out.number(*number),
         Record::Focus(set) => out.flag(*set),
     }
+}
+
+fn tell_key<S: Shows>(key: Key, out: &mut S) -> Result<(), OutOfMemory>
+    ensures { IfOk result (λ _. out.new ≡ put_all S.put out.old (args_of_record (record_of.Key key))) }
+{
+    given!(out.flag(key.down));
+    given!(out.unit(key.repeat));
+    given!(out.unit(key.vk));
+    given!(out.unit(key.scan));
+    given!(out.unit(key.unit));
+    out.number(key.state)
+}
+
+fn tell_mouse<S: Shows>(mouse: Mouse, out: &mut S) -> Result<(), OutOfMemory>
+    ensures { IfOk result (λ _. out.new ≡ put_all S.put out.old (args_of_record (record_of.Mouse mouse))) }
+{
+    given!(out.signed(mouse.x));
+    given!(out.signed(mouse.y));
+    given!(out.number(mouse.buttons));
+    given!(out.number(mouse.state));
+    out.number(mouse.flags)
+}
+
+fn tell_size<S: Shows>(size: Size, out: &mut S) -> Result<(), OutOfMemory>
+    ensures { IfOk result (λ _. out.new ≡ put_all S.put out.old (args_of_record (record_of.Size size))) }
+{
+    given!(out.unit(size.w));
+    out.unit(size.h)
 }

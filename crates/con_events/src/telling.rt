@@ -100,148 +100,212 @@ pub fn tell<S: Shows>(call: &Call, out: &mut S) -> Result<(), OutOfMemory>
     ensures { IfOk result (λ _. out.new ≡ put_all S.put out.old (args_of call.now)) }
 {
     match call {
-        Call::BufferCreate(a) => out.number(*a),
-        Call::OpenOut(a) => out.number(*a),
-        Call::OpenIn(a) => out.number(*a),
-        Call::Close(a) => out.number(*a),
-        Call::Duplicate(a, b) => {
-            out.number(*a)?;
-            out.number(*b)
-        }
-        Call::Activate(a) => out.number(*a),
-        Call::Mode(a) => out.number(*a),
-        Call::SetMode(a, b) => {
-            out.number(*a)?;
-            out.number(*b)
-        }
-        Call::Info(a) => out.number(*a),
-        Call::SetSize(a, b, c) => {
-            out.number(*a)?;
-            out.number(*b)?;
-            out.number(*c)
-        }
-        Call::SetCursor(a, b, c) => {
-            out.number(*a)?;
-            out.signed(*b)?;
-            out.signed(*c)
-        }
-        Call::CursorInfo(a) => out.number(*a),
-        Call::SetCursorInfo(a, b, c) => {
-            out.number(*a)?;
-            out.number(*b)?;
-            out.flag(*c)
-        }
-        Call::SetOrigin(a, b, c) => {
-            out.number(*a)?;
-            out.signed(*b)?;
-            out.signed(*c)
-        }
-        Call::SetAttr(a, b) => {
-            out.number(*a)?;
-            out.unit(*b)
-        }
-        Call::Title => Ok(()),
-        Call::SetTitle(a) => out.text(a),
-        Call::Write(a, b) => {
-            out.number(*a)?;
-            out.text(b)
-        }
-        Call::RectRead(a, b) => {
-            out.number(*a)?;
-            out.rect(*b)
-        }
-        Call::RectWrite(a, b, c, d) => {
-            out.number(*a)?;
-            out.rect(*b)?;
-            out.text(c)?;
-            out.words(d)
-        }
-        Call::RunReadUnits(a, b, c, d) => {
-            out.number(*a)?;
-            out.signed(*b)?;
-            out.signed(*c)?;
-            out.number(*d)
-        }
-        Call::RunReadAttrs(a, b, c, d) => {
-            out.number(*a)?;
-            out.signed(*b)?;
-            out.signed(*c)?;
-            out.number(*d)
-        }
-        Call::RunWriteUnits(a, b, c, d) => {
-            out.number(*a)?;
-            out.signed(*b)?;
-            out.signed(*c)?;
-            out.text(d)
-        }
-        Call::RunWriteAttrs(a, b, c, d) => {
-            out.number(*a)?;
-            out.signed(*b)?;
-            out.signed(*c)?;
-            out.list(d)
-        }
-        Call::FillUnits(a, b, c, d, e) => {
-            out.number(*a)?;
-            out.signed(*b)?;
-            out.signed(*c)?;
-            out.number(*d)?;
-            out.unit(*e)
-        }
-        Call::FillAttrs(a, b, c, d, e) => {
-            out.number(*a)?;
-            out.signed(*b)?;
-            out.signed(*c)?;
-            out.number(*d)?;
-            out.unit(*e)
-        }
-        Call::Scroll(a, b, c, d, e, f, g) => {
-            out.number(*a)?;
-            out.rect(*b)?;
-            out.clip(*c)?;
-            out.signed(*d)?;
-            out.signed(*e)?;
-            out.unit(*f)?;
-            out.unit(*g)
-        }
-        Call::Peek(a, b) => {
-            out.number(*a)?;
-            out.number(*b)
-        }
-        Call::WriteInput(a, b) => {
-            out.number(*a)?;
-            out.records(b)
-        }
-        Call::Count(a) => out.number(*a),
-        Call::Flush(a) => out.number(*a),
-        Call::HistoryInfo => Ok(()),
-        Call::SetHistory(a, b, c) => {
-            out.number(*a)?;
-            out.number(*b)?;
-            out.number(*c)
-        }
-        Call::HistoryList => Ok(()),
-        Call::HistoryClear => Ok(()),
-        Call::AliasAdd(a, b, c) => {
-            out.text(a)?;
-            out.text(b)?;
-            out.text(c)
-        }
-        Call::AliasRemove(a, b) => {
-            out.text(a)?;
-            out.text(b)
-        }
-        Call::AliasGet(a, b) => {
-            out.text(a)?;
-            out.text(b)
-        }
-        Call::AliasList(a) => out.text(a),
-        Call::Processes => Ok(()),
-        Call::Signal(a, b) => {
-            out.number(*a)?;
-            out.number(*b)
-        }
+        Call::Title
+        | Call::HistoryInfo
+        | Call::HistoryList
+        | Call::HistoryClear
+        | Call::Processes => Ok(()),
+        Call::BufferCreate(a)
+        | Call::OpenOut(a)
+        | Call::OpenIn(a)
+        | Call::Close(a)
+        | Call::Activate(a)
+        | Call::Mode(a)
+        | Call::Info(a)
+        | Call::CursorInfo(a)
+        | Call::Count(a)
+        | Call::Flush(a)
+        | Call::HandlerAdd(a)
+        | Call::HandlerRemove(a) => out.number(*a),
+        Call::Duplicate(a, b) | Call::SetMode(a, b) | Call::Peek(a, b) | Call::Signal(a, b) =>
+            tell_two_numbers(*a, *b, out),
+        Call::SetSize(a, b, c) | Call::SetHistory(a, b, c) => tell_three_numbers(*a, *b, *c, out),
+        Call::SetCursor(a, b, c) | Call::SetOrigin(a, b, c) => tell_place(*a, *b, *c, out),
+        Call::SetCursorInfo(a, b, c) => tell_cursor_info(*a, *b, *c, out),
+        Call::SetAttr(a, b) => tell_attr(*a, *b, out),
+        Call::SetTitle(a) | Call::AliasList(a) => out.text(a),
+        Call::Write(a, b) => tell_write(*a, b, out),
+        Call::RectRead(a, b) => tell_rect(*a, *b, out),
+        Call::RectWrite(a, b, c, d) => tell_cells(*a, *b, c, d, out),
+        Call::RunReadUnits(a, b, c, d) | Call::RunReadAttrs(a, b, c, d) => tell_run(
+            *a, *b, *c, *d, out,
+        ),
+        Call::RunWriteUnits(a, b, c, d) => tell_units(*a, *b, *c, d, out),
+        Call::RunWriteAttrs(a, b, c, d) => tell_attrs(*a, *b, *c, d, out),
+        Call::FillUnits(a, b, c, d, e) | Call::FillAttrs(a, b, c, d, e) => tell_fill(
+            *a, *b, *c, *d, *e, out,
+        ),
+        Call::Scroll(a, b, c, d, e, f, g) => tell_scroll(*a, *b, *c, (*d, *e), (*f, *g), out),
+        Call::WriteInput(a, b) => tell_records(*a, b, out),
+        Call::AliasAdd(a, b, c) => tell_three_texts(a, b, c, out),
+        Call::AliasRemove(a, b) | Call::AliasGet(a, b) => tell_two_texts(a, b, out),
         Call::Ignore(a) => out.flag(*a),
-        Call::HandlerAdd(a) => out.number(*a),
-        Call::HandlerRemove(a) => out.number(*a),
     }
+}
+
+fn tell_two_numbers<S: Shows>(a: u32, b: u32, out: &mut S) -> Result<(), OutOfMemory>
+    ensures { IfOk result (λ _. out.new ≡ put_all S.put out.old (Number a ∷ Number b ∷ [])) }
+{
+    given!(out.number(a));
+    out.number(b)
+}
+
+fn tell_three_numbers<S: Shows>(a: u32, b: u32, c: u32, out: &mut S) -> Result<(), OutOfMemory>
+    ensures { IfOk result (λ _. out.new ≡ put_all S.put out.old (Number a ∷ Number b ∷ Number c ∷ [])) }
+{
+    given!(tell_two_numbers(a, b, out));
+    out.number(c)
+}
+
+fn tell_place<S: Shows>(handle: u32, x: i16, y: i16, out: &mut S) -> Result<(), OutOfMemory>
+    ensures { IfOk result (λ _. out.new ≡ put_all S.put out.old (Number handle ∷ Signed x ∷ Signed y ∷ [])) }
+{
+    given!(out.number(handle));
+    given!(out.signed(x));
+    out.signed(y)
+}
+
+fn tell_cursor_info<S: Shows>(
+    handle: u32,
+    percent: u32,
+    shows: bool,
+    out: &mut S,
+) -> Result<(), OutOfMemory>
+    ensures { IfOk result (λ _. out.new ≡ put_all S.put out.old (Number handle ∷ Number percent ∷ Flag shows ∷ [])) }
+{
+    given!(tell_two_numbers(handle, percent, out));
+    out.flag(shows)
+}
+
+fn tell_attr<S: Shows>(handle: u32, word: u16, out: &mut S) -> Result<(), OutOfMemory>
+    ensures { IfOk result (λ _. out.new ≡ put_all S.put out.old (Number handle ∷ OneUnit word ∷ [])) }
+{
+    given!(out.number(handle));
+    out.unit(word)
+}
+
+fn tell_write<S: Shows>(handle: u32, units: &Units, out: &mut S) -> Result<(), OutOfMemory>
+    ensures { IfOk result (λ _. out.new ≡ put_all S.put out.old (Number handle ∷ Text units.now ∷ [])) }
+{
+    given!(out.number(handle));
+    out.text(units)
+}
+
+fn tell_rect<S: Shows>(handle: u32, area: Rect, out: &mut S) -> Result<(), OutOfMemory>
+    ensures { IfOk result (λ _. out.new ≡ put_all S.put out.old (Number handle ∷ Area area ∷ [])) }
+{
+    given!(out.number(handle));
+    out.rect(area)
+}
+
+fn tell_cells<S: Shows>(
+    handle: u32,
+    area: Rect,
+    units: &Units,
+    attrs: &Words,
+    out: &mut S,
+) -> Result<(), OutOfMemory>
+    ensures { IfOk result (λ _. out.new ≡ put_all S.put out.old (Number handle ∷ Area area ∷ Text units.now ∷ WordsOf attrs.now ∷ [])) }
+{
+    given!(tell_rect(handle, area, out));
+    given!(out.text(units));
+    out.words(attrs)
+}
+
+fn tell_run<S: Shows>(
+    handle: u32,
+    x: i16,
+    y: i16,
+    count: u32,
+    out: &mut S,
+) -> Result<(), OutOfMemory>
+    ensures { IfOk result (λ _. out.new ≡ put_all S.put out.old (Number handle ∷ Signed x ∷ Signed y ∷ Number count ∷ [])) }
+{
+    given!(tell_place(handle, x, y, out));
+    out.number(count)
+}
+
+fn tell_units<S: Shows>(
+    handle: u32,
+    x: i16,
+    y: i16,
+    units: &Units,
+    out: &mut S,
+) -> Result<(), OutOfMemory>
+    ensures { IfOk result (λ _. out.new ≡ put_all S.put out.old (Number handle ∷ Signed x ∷ Signed y ∷ Text units.now ∷ [])) }
+{
+    given!(tell_place(handle, x, y, out));
+    out.text(units)
+}
+
+fn tell_attrs<S: Shows>(
+    handle: u32,
+    x: i16,
+    y: i16,
+    attrs: &Units,
+    out: &mut S,
+) -> Result<(), OutOfMemory>
+    ensures { IfOk result (λ _. out.new ≡ put_all S.put out.old (Number handle ∷ Signed x ∷ Signed y ∷ WordList attrs.now ∷ [])) }
+{
+    given!(tell_place(handle, x, y, out));
+    out.list(attrs)
+}
+
+fn tell_fill<S: Shows>(
+    handle: u32,
+    x: i16,
+    y: i16,
+    count: u32,
+    with: u16,
+    out: &mut S,
+) -> Result<(), OutOfMemory>
+    ensures { IfOk result (λ _. out.new ≡ put_all S.put out.old (Number handle ∷ Signed x ∷ Signed y ∷ Number count ∷ OneUnit with ∷ [])) }
+{
+    given!(tell_run(handle, x, y, count, out));
+    out.unit(with)
+}
+
+fn tell_scroll<S: Shows>(
+    handle: u32,
+    source: Rect,
+    clip: Option<Rect>,
+    to: (i16, i16),
+    fill: (u16, u16),
+    out: &mut S,
+) -> Result<(), OutOfMemory>
+    ensures { IfOk result (λ _. out.new ≡ put_all S.put out.old
+        (Number handle ∷ Area source ∷ Clip clip ∷ Signed to.0 ∷ Signed to.1 ∷ OneUnit fill.0 ∷ OneUnit fill.1 ∷ [])) }
+{
+    given!(tell_rect(handle, source, out));
+    given!(out.clip(clip));
+    given!(out.signed(to.0));
+    given!(out.signed(to.1));
+    given!(out.unit(fill.0));
+    out.unit(fill.1)
+}
+
+fn tell_records<S: Shows>(handle: u32, input: &Taken, out: &mut S) -> Result<(), OutOfMemory>
+    ensures { IfOk result (λ _. out.new ≡ put_all S.put out.old (Number handle ∷ Records input.now ∷ [])) }
+{
+    given!(out.number(handle));
+    out.records(input)
+}
+
+fn tell_two_texts<S: Shows>(a: &Units, b: &Units, out: &mut S) -> Result<(), OutOfMemory>
+    ensures { IfOk result (λ _. out.new ≡ put_all S.put out.old (Text a.now ∷ Text b.now ∷ [])) }
+{
+    given!(out.text(a));
+    out.text(b)
+}
+
+fn tell_three_texts<S: Shows>(
+    a: &Units,
+    b: &Units,
+    c: &Units,
+    out: &mut S,
+) -> Result<(), OutOfMemory>
+    ensures { IfOk result (λ _. out.new ≡ put_all S.put out.old (Text a.now ∷ Text b.now ∷ Text c.now ∷ [])) }
+{
+    given!(tell_two_texts(a, b, out));
+    out.text(c)
 }
