@@ -1,9 +1,9 @@
 -- The kinds of arguments that calls have, and arguments of these kinds.
-use Rattle.std.specs.Prelude.{ℕ, ℤ, Bool, false, List, [], ◌∷◌, Option, None, Some, pos}
+use Rattle.std.specs.Prelude.{ℕ, ℤ, Bool, false, List, [], ◌∷◌, Option, None, pos}
 use Rattle.con_units.specs.declared.place.Rect.{Rect}
 use Rattle.con_records.specs.declared.record.Record.{Record}
 use Rattle.con_events.specs.declared.call.Words.{Words}
-use Rattle.con_events.specs.declared.call.Words.TheVariants.{One, Each}
+use Rattle.con_events.specs.declared.call.Words.TheVariants.{Each}
 
 pub data Kind : Type 0 where
   number : Kind

@@ -1,5 +1,5 @@
 -- A call read from its name and what stands after it.
-use Rattle.std.specs.Prelude.{◌≡◌, ℕ, Bool, true, false, if◌then◌else◌, List, [], ◌∷◌, Option, Some, None, option_map, option_and_then}
+use Rattle.std.specs.Prelude.{ℕ, Bool, true, false, if◌then◌else◌, List, [], ◌∷◌, Option, Some, None, option_map, option_and_then}
 use Rattle.con_events.specs.declared.call.Call.{Call}
 use Rattle.con_events.specs.Arg.{Kind, Arg}
 use Rattle.con_events.specs.Table.{Row, row_of}

@@ -1,5 +1,5 @@
 -- The input records: their names, and their fields in order.
-use Rattle.std.specs.Prelude.{◌≡◌, ℕ, List, [], ◌∷◌, Option, None, codes}
+use Rattle.std.specs.Prelude.{ℕ, List, [], ◌∷◌, Option, None, codes}
 use Rattle.con_records.specs.declared.record.Record.{Record}
 use Rattle.con_records.specs.declared.record.Record.TheVariants as record_of
 use Rattle.con_events.specs.Arg.{Arg, number, signed, unit, flag, Number, Signed, OneUnit, Flag, the_number, the_signed, the_flag}

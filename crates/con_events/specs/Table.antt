@@ -1,5 +1,5 @@
 -- The calls: their names, and their arguments in order.
-use Rattle.std.specs.Prelude.{◌≡◌, map, ℕ, zero, suc, List, [], ◌∷◌, Option, None, Some, codes, option_map, Bool, if◌then◌else◌}
+use Rattle.std.specs.Prelude.{◌≡◌, map, ℕ, zero, suc, List, [], ◌∷◌, Option, None, Some, codes, if◌then◌else◌}
 use Rattle.std.specs.Str.{bytes_eq}
 use Rattle.con_events.specs.declared.call.Call.{Call}
 use Rattle.con_events.specs.declared.call.Call.TheVariants as call

@@ -1,6 +1,5 @@
 -- A call is read back from its name and what is shown of its arguments.
-use Rattle.std.proofs.Common.{◌≡◌, refl, ap, sym, ◌∙◌, List, [], ◌∷◌, map, Option, None, Some}
-use Rattle.std.specs.Prelude.{option_map}
+use Rattle.std.proofs.Common.{◌≡◌, refl, List, [], ◌∷◌, map, Option, None, Some}
 use Rattle.con_events.specs.declared.call.Call.{Call}
 use Rattle.con_events.specs.declared.call.Call.TheVariants as call
 use Rattle.con_records.specs.declared.record.Record.{Record}
