@@ -1,16 +1,11 @@
 -- The first fault of an object's keys.
 use Rattle.std.proofs.Common.{◌≡◌, ℕ, ◌≤◌, ◌<◌, ◌+◌, Bool, zero, suc, arith, List, [], ◌∷◌, length, get_or, drop, map, add-one, drop-cons}
 use Rattle.std.proofs.Common.{refl, true, false, Option, Some, None, ap, sym, ◌∙◌}
-use Rattle.std.specs.Prelude.{unwrap_or, option_map, if◌then◌else◌, ◌&&◌, ◌||◌, cond, not, is_some, nat_le}
+use Rattle.std.specs.Prelude.{unwrap_or, option_map, ◌||◌, cond, not, is_some}
 use Rattle.std.specs.Str.{bytes_eq}
-use Rattle.std.proofs.lemmas.Bool.Decides.{nat_tests}
-use borrow.Author.Tests.{leb-true}
 use Rattle.serde_json.specs.Data.{Data, null, boolean, number, string, array, object, Members, no_members}
-use Rattle.serde_json.specs.Find.{get, as_object, as_array}
-use Rattle.serde_json.specs.View.{items_view}
-use Rattle.serde_json.specs.declared.value.Value.{Value}
+use Rattle.serde_json.specs.Find.{get, as_object}
 use Rattle.con_script.specs.Session.{whole, key, keys_spot, first_missing, first_unknown, is_among, or_else}
-use Rattle.con_events.specs.Session.{is_within}
 
 pub not_object : (ks : List (List ℕ)) (d : Data) → None ≡ as_object d → keys_spot ks d ≡ Some whole
 not_object ks null is = refl

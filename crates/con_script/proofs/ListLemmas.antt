@@ -5,7 +5,7 @@ use Rattle.std.specs.Prelude.{Result, Ok, Err, option_map, option_and_then}
 use Rattle.con_units.specs.SplitLaws.{append_none}
 use Rattle.con_values.specs.Values.{unit_in}
 use Rattle.con_values.specs.Cursors.{with_front}
-use Rattle.serde_json.specs.Data.{Data, Items, no_items}
+use Rattle.serde_json.specs.Data.{Data, no_items}
 use Rattle.serde_json.specs.View.{view, items_view}
 use Rattle.serde_json.specs.declared.value.Value.{Value}
 use Rattle.con_script.specs.Values.{units_items}

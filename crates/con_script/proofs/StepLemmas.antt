@@ -1,5 +1,5 @@
 -- The row of a name in each version.
-use Rattle.std.proofs.Common.{◌≡◌, ℕ, List, Bool, false, refl, Option, Some, None, ap, ◌∙◌}
+use Rattle.std.proofs.Common.{◌≡◌, ℕ, List, false, refl, Option, Some, None, ap, ◌∙◌}
 use Rattle.std.specs.Prelude.{codes, option_map}
 use Rattle.std.specs.Str.{bytes_eq}
 use Rattle.std.proofs.lemmas.Bool.{false_from_ne_true}
