@@ -11,11 +11,15 @@ use Rattle.con_screen.specs.Alternate.{Sides, sides}
 use Rattle.con_screens.specs.Buffers.{Buffers, AreBuffers, buffer_at, screen_at}
 use Rattle.con_screens.specs.Stamps.{Remembered, remembered, all_remembered, WasShown, IsAsShown}
 use Rattle.con_screens.specs.StampLaws.{remembers_shown}
+use Rattle.con_screens.specs.Lending.{screen_left}
+use Rattle.con_screens.specs.Stamps.{numbered}
 use Rattle.con_screens.specs.View.{view_of}
 use Rattle.con_screens.specs.declared.buffer.Buffer.{Buffer}
 use Rattle.con_machine.specs.ScreenCalls.{page_at}
 use Rattle.con_machine.specs.Sound.{IsPaintedOf, IsPainted, side_of}
-use Rattle.con_machine.specs.Marks.{seen_at, IsSameRow}
+use Rattle.con_machine.specs.State.{State}
+use Rattle.con_machine.specs.Marks.{seen_at, IsSameRow, AreMarks}
+use Rattle.con_machine.specs.Painting.{view_now, next_number, stamped}
 use Rattle.con_machine.specs.declared.seen.Seen.{Seen}
 
 looked : (xs : List (Option Buffer)) (k : ℕ) → get_or (map (option_map remembered) xs) k None ≡ option_map remembered (get_or xs k None)
@@ -47,6 +51,23 @@ now_painted b v are was =
     subst (λ (r : Option Remembered). IsPaintedOf r (seen_at b) (Some v)) (sym (looked b.slots b.active))
     (into_side (option_map remembered (buffer_at b b.active)) (seen_at b) (sides (screen_at b b.active).page) v (some_remembered (buffer_at b b.active) are.active) (remembers_shown b b.active are.active) was)
 
+-- the shown screen's number is raised
+pub stamped_is : (b now : Buffers) (id old number : ℕ) → id ≡ b.active → old ≡ (page_at b id).grid.now → number ≡ next_number old
+    → now ≡ screen_left b id (numbered (screen_at b id) number) → now ≡ stamped b
+stamped_is b now id old number at was is left =
+    left ∙ ap (λ (n : ℕ). screen_left b id (numbered (screen_at b id) n)) (is ∙ ap next_number was)
+    ∙ ap (λ (i : ℕ). screen_left b i (numbered (screen_at b i) (next_number (page_at b i).grid.now))) at
+
+pub stamped_seen : (b now : Buffers) (id : ℕ) (seen : Seen) → AreBuffers now → id ≡ b.active → now.active ≡ b.active → seen ≡ seen_at now
+    → WasShown (sides (screen_at now id).page) (screen_at now id).page.left (screen_at now id).page.top (view_of (screen_at b id).page)
+    → IsPainted (all_remembered now) (Some seen) (Some (view_of (page_at b b.active)))
+stamped_seen b now id seen are at same is was =
+    let v : View = view_of (page_at b b.active) in
+    let Q : ℕ → View → Type 0 = λ i u. WasShown (sides (screen_at now i).page) (screen_at now i).page.left (screen_at now i).page.top u in
+    let here : Q b.active v = subst (λ (i : ℕ). Q i (view_of (screen_at b i).page)) at was in
+    let there : Q now.active v = subst (λ (i : ℕ). Q i v) (sym same) here in
+    subst (λ (x : Seen). IsPainted (all_remembered now) (Some x) (Some v)) (sym is) (now_painted now v are there)
+
 -- ---- marks
 
 no_mark : (n y : ℕ) → get_or (replicate n true) y true ≡ true
@@ -73,6 +94,17 @@ row_same b seen (Some last) m n y resized false false are was tells is every sho
     by_test false e = cc
 row_same b seen (Some last) m n y resized true false are was tells is every shown unmarked =
     shown unmarked last (known_was b seen (Some last) last are was (tells.0 refl) refl)
+
+pub marks_are : (s : State) (seen : Option Seen) (h : ℕ) (m : List Bool) (fresh known all : Bool) → AreBuffers s.buffers → IsPainted (all_remembered s.buffers) seen s.painted
+    → h ≡ (view_now s).size.h → fresh ≡ (s.resized || is_none s.painted) → (known ≡ true) ↔ (seen ≡ Some (seen_at s.buffers)) → all ≡ (fresh || not known)
+    → length m ≡ h → (all ≡ true → m ≡ replicate h true)
+    → ((y : ℕ) → y < h → get_or m y true ≡ false → IsAsShown (screen_at s.buffers s.buffers.active).page y) → AreMarks s m
+marks_are s seen h m fresh known all are was tall new tells is count every shown = record {
+  count = count ∙ tall;
+  fresh = λ f. every (is ∙ ap (λ (b : Bool). b || not known) (new ∙ f)) ∙ ap (λ (n : ℕ). replicate n true) tall;
+  same = λ y low unmarked. row_same s.buffers seen s.painted m h y s.resized known all are was tells (is ∙ ap (λ (b : Bool). b || not known) new) every
+      (shown y (subst (λ (n : ℕ). y < n) (sym tall) low)) unmarked;
+}
 
 -- where the place is another one, the view is not known
 pub all_moved : (seen : Option Seen) (b : Buffers) (fresh known : Bool) → (known ≡ true) ↔ (seen ≡ Some (seen_at b)) → (seen ≡ Some (seen_at b) → ⊥) → (fresh || not known) ≡ true

@@ -100,13 +100,16 @@ one_of false x y f n e g = g
 
 pub retained_is : (o : Object) (b : Buffers) (f : Buffers → ℕ) → ((id n : ℕ) → f (with_buffer b id (with_handles n)) ≡ f b) → f (retained o b) ≡ f b
 retained_is object.Input b f k = refl
-retained_is (object.Output id) b f k = one_of (id.0 == 0) b (with_buffer b id.0 (with_handles (handles_of b id.0 + 1))) f (f b) refl (k id.0 (handles_of b id.0 + 1))
+retained_is (object.Output id) b f k = one_of (id.0 == 0) b (with_buffer b id.0 (with_handles (handles_of b id.0 + 1))) f (f b) refl
+    (k id.0 (handles_of b id.0 + 1))
 
-pub released_is : (o : Object) (b : Buffers) (f : Buffers → ℕ) → ((id : ℕ) → f (gone b id) ≡ f b) → ((id n : ℕ) → f (with_buffer b id (with_handles n)) ≡ f b) → f (released o b) ≡ f b
+pub released_is : (o : Object) (b : Buffers) (f : Buffers → ℕ) → ((id : ℕ) → f (gone b id) ≡ f b) → ((id n : ℕ) → f (with_buffer b id (with_handles n)) ≡ f b)
+    → f (released o b) ≡ f b
 released_is object.Input b f g k = refl
 released_is (object.Output id) b f g k =
     let rest : Buffers = if nat_le (handles_of b id.0) 1 then gone b id.0 else with_buffer b id.0 (with_handles (handles_of b id.0 - 1)) in
-    one_of (id.0 == 0) b rest f (f b) refl (one_of (nat_le (handles_of b id.0) 1) (gone b id.0) (with_buffer b id.0 (with_handles (handles_of b id.0 - 1))) f (f b) (g id.0) (k id.0 (handles_of b id.0 - 1)))
+    one_of (id.0 == 0) b rest f (f b) refl (one_of (nat_le (handles_of b id.0) 1) (gone b id.0) (with_buffer b id.0 (with_handles (handles_of b id.0 - 1))) f
+    (f b) (g id.0) (k id.0 (handles_of b id.0 - 1)))
 
 -- other handles and buffers, of the same sides
 sides_same : (s : State) (hs : List Handle) (b : Buffers) → b.w ≡ s.buffers.w → b.h ≡ s.buffers.h → parts (record s { handles = hs; buffers = b }) ≡ parts s
@@ -170,11 +173,13 @@ module _ (s : State) (p : ℕ) where
   opened_so : (o : Object) (rights : ℕ) (r : Result ℕ Code) → Stands s (opened_at s p o rights r)
   opened_so o rights (Err why) = no why
   opened_so o rights (Ok n) =
-      let k = sides_same s (handle_with s p n o rights) (retained o s.buffers) (retained_is o s.buffers (λ b. b.w) (λ id n. refl)) (retained_is o s.buffers (λ b. b.h) (λ id n. refl)) in
+      let k = sides_same s (handle_with s p n o rights) (retained o s.buffers) (retained_is o s.buffers (λ b. b.w) (λ id n. refl))
+      (retained_is o s.buffers (λ b. b.h) (λ id n. refl)) in
       changed (record s { handles = handle_with s p n o rights; buffers = retained o s.buffers }) (replies.Number n) k refl
 
   opens_one : (o : Object) (rights : ℕ) → Stands s (opened s p o rights)
-  opens_one o rights = either (are_rights rights) (opened_at s p o rights (new_number s.handles p)) (refused s code.BadArgument) (opened_so o rights (new_number s.handles p)) (no code.BadArgument)
+  opens_one o rights = either (are_rights rights) (opened_at s p o rights (new_number s.handles p)) (refused s code.BadArgument)
+      (opened_so o rights (new_number s.handles p)) (no code.BadArgument)
 
   makes : (rights : ℕ) (r : Result ℕ Code) (id : Option ℕ) → Stands s (buffer_made s p rights r id)
   makes rights (Err why) id = no code.Limit
@@ -190,11 +195,13 @@ module _ (s : State) (p : ℕ) where
   tells_alias (Some e) = said (replies.Units e.target) refl
 
   -- on a page of a buffer: done where the test holds
-  sets : (h : ℕ) (b : ℕ → Bool) (f : ℕ → State) → ((id : ℕ) → parts (f id) ≡ parts s) → Stands s (on_buffer s p h 2 (λ id. by_answer s (checked (b id)) (f id)))
+  sets : (h : ℕ) (b : ℕ → Bool) (f : ℕ → State) → ((id : ℕ) → parts (f id) ≡ parts s)
+      → Stands s (on_buffer s p h 2 (λ id. by_answer s (checked (b id)) (f id)))
   sets h b f e = if_buffer h 2 (λ id. by_answer s (checked (b id)) (f id)) (λ id. if_answer (checked (b id)) (f id) (e id))
 
   -- on a page of a buffer: done
-  does : (h : ℕ) (f : ℕ → State) (reply : ℕ → Reply) → ((id : ℕ) → parts (f id) ≡ parts s) → ((id : ℕ) → told (reply id) ≡ reply id) → Stands s (on_buffer s p h 2 (λ id. answered (f id) (reply id)))
+  does : (h : ℕ) (f : ℕ → State) (reply : ℕ → Reply) → ((id : ℕ) → parts (f id) ≡ parts s) → ((id : ℕ) → told (reply id) ≡ reply id)
+      → Stands s (on_buffer s p h 2 (λ id. answered (f id) (reply id)))
   does h f reply e k = if_buffer h 2 (λ id. answered (f id) (reply id)) (λ id. changed (f id) (reply id) (e id) (k id))
 
   -- of a buffer: told
@@ -207,62 +214,87 @@ module _ (s : State) (p : ℕ) where
   unfolding called
   each_call (calls.BufferCreate rights) m =
       let o : Outcome = (if are_rights rights then buffer_made s p rights (new_number s.handles p) (free_id s.buffers) else refused s code.BadArgument) in
-      if_open o (either (are_rights rights) (buffer_made s p rights (new_number s.handles p) (free_id s.buffers)) (refused s code.BadArgument) (makes rights (new_number s.handles p) (free_id s.buffers)) (no code.BadArgument))
+      if_open o (either (are_rights rights) (buffer_made s p rights (new_number s.handles p) (free_id s.buffers)) (refused s code.BadArgument)
+      (makes rights (new_number s.handles p) (free_id s.buffers)) (no code.BadArgument))
   each_call (calls.OpenOut rights) m = if_open _ (opens_one _ rights)
   each_call (calls.OpenIn rights) m = if_open _ (opens_one _ rights)
   each_call (calls.Close h) m = absurd (cc)
-  each_call (calls.Duplicate h rights) m = if_object (guard s p h kind.Any (if are_rights rights then rights else 0)) (λ o. opened s p o rights) (λ o. opens_one o rights)
+  each_call (calls.Duplicate h rights) m = if_object (guard s p h kind.Any (if are_rights rights then rights else 0)) (λ o. opened s p o rights)
+      (λ o. opens_one o rights)
   each_call (calls.Activate h) m = does h (λ id. record s { buffers = record s.buffers { active = id } }) (λ id. replies.Done) (λ id. refl) (λ id. refl)
-  each_call (calls.Mode h) m = if_object (guard s p h kind.Any 1) (λ o. answered s (replies.Number (mode_in s o))) (λ o. said (replies.Number (mode_in s o)) refl)
+  each_call (calls.Mode h) m = if_object (guard s p h kind.Any 1) (λ o. answered s (replies.Number (mode_in s o)))
+      (λ o. said (replies.Number (mode_in s o)) refl)
   each_call (calls.SetMode h mode) m = if_object (guard s p h kind.Any 2) (mode_changed s mode) (λ o. sets_mode mode o)
   each_call (calls.Info h) m = tells h (λ id. replies.Numbers (numbers_of (info_of (page_of s id)))) (λ id. refl)
-  each_call (calls.SetSize handle w h) m = sets handle (λ id. is_size s.buffers id w h) (λ id. record s { buffers = refitted_at s.buffers id w h }) (λ id. refl)
-  each_call (calls.SetCursor h x y) m = sets h (λ id. is_place (page_of s id) x y) (λ id. with_page s id (cursor_set (page_of s id) (natural x) (natural y))) (λ id. refl)
+  each_call (calls.SetSize handle w h) m = sets handle (λ id. is_size s.buffers id w h) (λ id. record s { buffers = refitted_at s.buffers id w h })
+      (λ id. refl)
+  each_call (calls.SetCursor h x y) m = sets h (λ id. is_place (page_of s id) x y) (λ id. with_page s id (cursor_set (page_of s id) (natural x) (natural y)))
+      (λ id. refl)
   each_call (calls.CursorInfo h) m = tells h (λ id. replies.Numbers (cursor_numbers (page_of s id).cursor_size (page_of s id).visible)) (λ id. refl)
-  each_call (calls.SetCursorInfo h size visible) m = sets h (λ id. nat_lt 0 size && nat_le size 100) (λ id. with_page s id (record (page_of s id) { cursor_size = size; visible = visible })) (λ id. refl)
-  each_call (calls.SetOrigin h x y) m = sets h (λ id. is_origin (page_of s id) x y) (λ id. with_page s id (origin_set (page_of s id) (natural x) (natural y))) (λ id. refl)
-  each_call (calls.SetAttr h word) m = does h (λ id. with_page s id (record (page_of s id) { pen = pen_of_word word })) (λ id. replies.Done) (λ id. refl) (λ id. refl)
+  each_call (calls.SetCursorInfo h size visible) m = sets h (λ id. nat_lt 0 size && nat_le size 100)
+      (λ id. with_page s id (record (page_of s id) { cursor_size = size; visible = visible })) (λ id. refl)
+  each_call (calls.SetOrigin h x y) m = sets h (λ id. is_origin (page_of s id) x y) (λ id. with_page s id (origin_set (page_of s id) (natural x) (natural y)))
+      (λ id. refl)
+  each_call (calls.SetAttr h word) m = does h (λ id. with_page s id (record (page_of s id) { pen = pen_of_word word })) (λ id. replies.Done) (λ id. refl)
+      (λ id. refl)
   each_call calls.Title m = if_open (answered s (replies.Units s.title)) (said (replies.Units s.title) refl)
   each_call (calls.SetTitle text) m =
       let t : State = record s { title = text } in
-      if_open (if nat_le (length text) 255 then done t else refused s code.BadArgument) (either (nat_le (length text) 255) (done t) (refused s code.BadArgument) (changed t replies.Done refl refl) (no code.BadArgument))
+      if_open (if nat_le (length text) 255 then done t else refused s code.BadArgument)
+      (either (nat_le (length text) 255) (done t) (refused s code.BadArgument) (changed t replies.Done refl refl) (no code.BadArgument))
   each_call (calls.Write h text) m = absurd (cc)
   each_call (calls.RectRead h rect) m = tells h (λ id. rect_told (cells_of s id) rect) (λ id. rect_plain (cells_of s id) rect)
   each_call (calls.RectWrite h rect text words) m =
       let t : ℕ → State = λ id. with_cells s id (rect_written (cells_of s id) rect (cells_for text words)) in
       let o : ℕ → Outcome = λ id. by_result s (rect_answer (cells_of s id) rect) (t id) (λ used. replies.Numbers (sides_of used)) in
       if_buffer h 2 (λ id. if are_cells rect text words then o id else refused s code.BadArgument)
-      (λ id. either (are_cells rect text words) (o id) (refused s code.BadArgument) (if_result (rect_answer (cells_of s id) rect) (t id) (λ used. replies.Numbers (sides_of used)) refl (λ used. refl)) (no code.BadArgument))
-  each_call (calls.RunReadUnits h x y n) m = tells h (λ id. run_told (cells_of s id) (at_place x y) n (λ g. g.unit)) (λ id. run_plain (cells_of s id) (at_place x y) n (λ g. g.unit))
-  each_call (calls.RunReadAttrs h x y n) m = tells h (λ id. run_told (cells_of s id) (at_place x y) n (λ g. g.attr.word)) (λ id. run_plain (cells_of s id) (at_place x y) n (λ g. g.attr.word))
+      (λ id. either (are_cells rect text words) (o id) (refused s code.BadArgument)
+      (if_result (rect_answer (cells_of s id) rect) (t id) (λ used. replies.Numbers (sides_of used)) refl (λ used. refl)) (no code.BadArgument))
+  each_call (calls.RunReadUnits h x y n) m = tells h (λ id. run_told (cells_of s id) (at_place x y) n (λ g. g.unit))
+      (λ id. run_plain (cells_of s id) (at_place x y) n (λ g. g.unit))
+  each_call (calls.RunReadAttrs h x y n) m = tells h (λ id. run_told (cells_of s id) (at_place x y) n (λ g. g.attr.word))
+      (λ id. run_plain (cells_of s id) (at_place x y) n (λ g. g.attr.word))
   each_call (calls.RunWriteUnits h x y text) m =
       let t : ℕ → State = λ id. with_cells s id (units_written (cells_of s id) (at_place x y) text) in
-      if_buffer h 2 (λ id. by_result s (run_answer (cells_of s id) (at_place x y) (length text)) (t id) replies.Number) (λ id. if_result (run_answer (cells_of s id) (at_place x y) (length text)) (t id) replies.Number refl (λ n. refl))
+      if_buffer h 2 (λ id. by_result s (run_answer (cells_of s id) (at_place x y) (length text)) (t id) replies.Number)
+      (λ id. if_result (run_answer (cells_of s id) (at_place x y) (length text)) (t id) replies.Number refl (λ n. refl))
   each_call (calls.RunWriteAttrs h x y words) m =
       let t : ℕ → State = λ id. with_cells s id (words_written (cells_of s id) (at_place x y) words) in
-      if_buffer h 2 (λ id. by_result s (run_answer (cells_of s id) (at_place x y) (length words)) (t id) replies.Number) (λ id. if_result (run_answer (cells_of s id) (at_place x y) (length words)) (t id) replies.Number refl (λ n. refl))
-  each_call (calls.FillUnits h x y n unit) m = does h (λ id. with_cells s id (unit_filled (cells_of s id) (at_place x y) n unit)) (λ id. replies.Number (run_count (cells_of s id) (at_place x y) n)) (λ id. refl) (λ id. refl)
-  each_call (calls.FillAttrs h x y n word) m = does h (λ id. with_cells s id (word_filled (cells_of s id) (at_place x y) n word)) (λ id. replies.Number (run_count (cells_of s id) (at_place x y) n)) (λ id. refl) (λ id. refl)
-  each_call (calls.Scroll h rect clip x y unit word) m = does h (λ id. with_cells s id (scrolled (cells_of s id) rect clip (at_place x y) (cell_of unit (plain word)))) (λ id. replies.Done) (λ id. refl) (λ id. refl)
+      if_buffer h 2 (λ id. by_result s (run_answer (cells_of s id) (at_place x y) (length words)) (t id) replies.Number)
+      (λ id. if_result (run_answer (cells_of s id) (at_place x y) (length words)) (t id) replies.Number refl (λ n. refl))
+  each_call (calls.FillUnits h x y n unit) m = does h (λ id. with_cells s id (unit_filled (cells_of s id) (at_place x y) n unit))
+      (λ id. replies.Number (run_count (cells_of s id) (at_place x y) n)) (λ id. refl) (λ id. refl)
+  each_call (calls.FillAttrs h x y n word) m = does h (λ id. with_cells s id (word_filled (cells_of s id) (at_place x y) n word))
+      (λ id. replies.Number (run_count (cells_of s id) (at_place x y) n)) (λ id. refl) (λ id. refl)
+  each_call (calls.Scroll h rect clip x y unit word) m = does h
+      (λ id. with_cells s id (scrolled (cells_of s id) rect clip (at_place x y) (cell_of unit (plain word)))) (λ id. replies.Done) (λ id. refl) (λ id. refl)
   each_call (calls.Peek h n) m = if_input h 1 (answered s (peek_told s.records n)) (said (peek_told s.records n) (peek_plain s.records n))
   each_call (calls.WriteInput h records) m = absurd (cc)
   each_call (calls.Count h) m = let reply : Reply = replies.Number (min (length s.records) 4294967295) in if_input h 1 (answered s reply) (said reply refl)
   each_call (calls.Flush h) m = absurd (cc)
-  each_call calls.HistoryInfo m = if_open (answered s (replies.Numbers (info_numbers s.histories.info))) (said (replies.Numbers (info_numbers s.histories.info)) refl)
+  each_call calls.HistoryInfo m = if_open (answered s (replies.Numbers (info_numbers s.histories.info)))
+      (said (replies.Numbers (info_numbers s.histories.info)) refl)
   each_call (calls.SetHistory lines number flag) m =
       let t : State = record s { histories = configured s.histories (record { lines = lines; number = number; flag = flag }) } in
       let r = checked (not (is_refused (record { lines = lines; number = number; flag = flag }))) in
       if_open (by_answer s r t) (if_answer r t refl)
-  each_call calls.HistoryList m = let reply : Reply = replies.Lines (lines_of s.histories (program_of s.procs p)) in if_open (answered s reply) (said reply refl)
-  each_call calls.HistoryClear m = let t : State = record s { histories = cleared s.histories (program_of s.procs p) } in if_open (done t) (changed t replies.Done refl refl)
+  each_call calls.HistoryList m =
+      let reply : Reply = replies.Lines (lines_of s.histories (program_of s.procs p)) in
+      if_open (answered s reply) (said reply refl)
+  each_call calls.HistoryClear m =
+      let t : State = record s { histories = cleared s.histories (program_of s.procs p) } in
+      if_open (done t) (changed t replies.Done refl refl)
   each_call (calls.AliasAdd program source target) m =
       let t : State = record s { aliases = added s.aliases program source target } in
       if_open (by_answer s (alias.add_answer s.aliases program source target) t) (if_answer (alias.add_answer s.aliases program source target) t refl)
   each_call (calls.AliasRemove program source) m =
       let t : State = record s { aliases = removed s.aliases program source } in
       if_open (by_answer s (alias.remove_answer s.aliases program source) t) (if_answer (alias.remove_answer s.aliases program source) t refl)
-  each_call (calls.AliasGet program source) m = if_open (told_alias_in s (alias_at s.aliases program source)) (tells_alias (alias_at s.aliases program source))
-  each_call (calls.AliasList program) m = let reply : Reply = replies.Lines (map pair_of (entries_in s.aliases program)) in if_open (answered s reply) (said reply refl)
+  each_call (calls.AliasGet program source) m = if_open (told_alias_in s (alias_at s.aliases program source))
+      (tells_alias (alias_at s.aliases program source))
+  each_call (calls.AliasList program) m =
+      let reply : Reply = replies.Lines (map pair_of (entries_in s.aliases program)) in
+      if_open (answered s reply) (said reply refl)
   each_call calls.Processes m = let reply : Reply = replies.Numbers (map (λ id. pos id) (ids_of s.procs)) in if_open (answered s reply) (said reply refl)
   each_call (calls.Signal event group) m = absurd (cc)
   each_call (calls.Ignore on) m = absurd (cc)

@@ -43,7 +43,7 @@ use Rattle.con_readers.specs.declared.open.OpenRead.{OpenRead}
 use Rattle.con_readers.specs.declared.open.OpenRead.TheVariants as reads
 use Rattle.con_cooked.specs.Cooked.{line_of}
 use Rattle.con_cooked.specs.declared.cooked.Cooked.{Cooked}
-use Rattle.con_screen.specs.Echo.{echoed, ended as line_ended}
+use Rattle.con_screen.specs.Echo.{Echoed, echoed, ended as line_ended}
 use Rattle.con_screens.specs.Buffers.{Buffers, screen_at}
 use Rattle.con_screens.specs.Resize.{all_resized}
 use Rattle.con_machine.specs.State.{State, rest_in, noted_of, without_noted}
@@ -96,7 +96,8 @@ aborted_done (o ∷ os) zero d = (refl, d.1)
 aborted_done (o ∷ os) (suc k) d = (d.0, aborted_done os k d.1)
 
 -- what is done is served no more
-served_no_more : (al : List AliasList) (o : Open) (os : List Open) (rs : List Record) (hs : Histories) → is_done o.read ≡ true → (settled al (o ∷ os) rs hs).reads ≡ o ∷ (settled al os rs hs).reads
+served_no_more : (al : List AliasList) (o : Open) (os : List Open) (rs : List Record) (hs : Histories) → is_done o.read ≡ true
+    → (settled al (o ∷ os) rs hs).reads ≡ o ∷ (settled al os rs hs).reads
 unfolding settled
 served_no_more al o os rs hs d = rw d refl
 
@@ -258,7 +259,8 @@ break_walk s event group = record {
 
 pub signalled_walk : (s : State) (event group : ℕ) → Walk s (signalled_to s event group)
 signalled_walk s event group =
-    or_walk s ((event == 0) && (group == 0)) (record s { procs = signalled s.procs event group; reads = line_aborted s.reads }) (record s { procs = signalled s.procs event group }) (break_walk s event group) (signal_walk s event group)
+    or_walk s ((event == 0) && (group == 0)) (record s { procs = signalled s.procs event group; reads = line_aborted s.reads })
+    (record s { procs = signalled s.procs event group }) (break_walk s event group) (signal_walk s event group)
 
 -- ---- reads are served, and the console closes
 
@@ -285,11 +287,13 @@ or_shows s false t u k l = l
 shown_shows : (s : State) (n : Option Noted) (old new : Cooked) → Shows s (line_shown s n old new)
 shown_shows s None old new = shows s
 shown_shows s (Some n) old new =
-    or_shows s (shows_line s.buffers n) (with_echo s n (echoed (screen_at s.buffers n.buffer.0) n.origin (line_text old) (line_text new) (line_of new).line.caret)) s (record { is = refl; wide = refl; high = refl }) (shows s)
+    let e : Echoed = echoed (screen_at s.buffers n.buffer.0) n.origin (line_text old) (line_text new) (line_of new).line.caret in
+    or_shows s (shows_line s.buffers n) (with_echo s n e) s (record { is = refl; wide = refl; high = refl }) (shows s)
 
 finished_shows : (s : State) (n : Option Noted) (len : ℕ) → Shows s (line_finished s n len)
 finished_shows s None len = shows s
-finished_shows s (Some n) len = or_shows s (shows_line s.buffers n) (with_page s n.buffer.0 (line_ended (page_of s n.buffer.0) n.origin len)) s (record { is = refl; wide = refl; high = refl }) (shows s)
+finished_shows s (Some n) len = or_shows s (shows_line s.buffers n) (with_page s n.buffer.0 (line_ended (page_of s n.buffer.0) n.origin len)) s
+    (record { is = refl; wide = refl; high = refl }) (shows s)
 
 followed_shows : (s : State) (a : Act) → Shows s (followed s a)
 followed_shows s (started p) = record { is = refl; wide = refl; high = refl }
@@ -311,7 +315,8 @@ unfolding settled_state
 settled_shows s = all_show (served_first s) (settled s.aliases s.reads s.records s.histories).acts
 
 core_shown : (s t : State) → Shows s t → core t ≡ core s
-core_shown s t k = ap core k.is ∙ ap (λ (f : Frame). let c : Core = record (core s) { frame = f } in c) (framed_same (frame_of s) t.buffers.w t.buffers.h k.wide k.high)
+core_shown s t k = ap core k.is ∙ ap (λ (f : Frame). let c : Core = record (core s) { frame = f } in c)
+    (framed_same (frame_of s) t.buffers.w t.buffers.h k.wide k.high)
 
 served_walk : (s : State) → Walk s (served_first s)
 served_walk s = record {
@@ -327,7 +332,8 @@ served_walk s = record {
 }
 
 pub settled_walk : (s : State) → Walk s (settled_state s)
-settled_walk s = then_walk s (served_first s) (settled_state s) (served_walk s) (alike (served_first s) (settled_state s) (core_shown (served_first s) (settled_state s) (settled_shows s)))
+settled_walk s = then_walk s (served_first s) (settled_state s) (served_walk s)
+    (alike (served_first s) (settled_state s) (core_shown (served_first s) (settled_state s) (settled_shows s)))
 
 pub hung_walk : (s : State) → Walk s (hung_up s)
 hung_walk s = or_walk s s.closed s (record s { closed = true; procs = signalled s.procs 2 0; reads = all_closed s.reads }) (still s) (record {
@@ -354,7 +360,8 @@ finished_walk o = then_walk o.after (settled_state o.after) (closing (settled_st
 key_walk : (s : State) (k : Key) → Walk s (key_taken s k)
 key_walk s k =
     let t : State = record s { records = s.records ++ records_of s k } in
-    or_walk s (is_break s k) (signalled_to (settled_state s) 0 0) t (then_walk s (settled_state s) (signalled_to (settled_state s) 0 0) (settled_walk s) (signalled_walk (settled_state s) 0 0)) (alike s t refl)
+    or_walk s (is_break s k) (signalled_to (settled_state s) 0 0) t
+    (then_walk s (settled_state s) (signalled_to (settled_state s) 0 0) (settled_walk s) (signalled_walk (settled_state s) 0 0)) (alike s t refl)
 
 report_core : (s : State) (r : Option Report) → core (by_report s r) ≡ core s
 report_core s None = refl
@@ -362,7 +369,8 @@ report_core s (Some r) = refl
 
 piece_walk : (s : State) (x : Piece) → Walk s (piece_taken s x)
 piece_walk s (Typed k) = key_walk s k
-piece_walk s (Ended bytes) = alike s (if has_bit s.mode 0x10 then by_report s (report_of bytes) else s) (or_core (has_bit s.mode 0x10) (by_report s (report_of bytes)) s (core s) (report_core s (report_of bytes)) refl)
+piece_walk s (Ended bytes) = alike s (if has_bit s.mode 0x10 then by_report s (report_of bytes) else s)
+    (or_core (has_bit s.mode 0x10) (by_report s (report_of bytes)) s (core s) (report_core s (report_of bytes)) refl)
 
 pub fed_walk : (s : State) (bytes : List ℕ) → Walk s (fed s bytes)
 unfolding fed
@@ -393,13 +401,16 @@ answer_or : (Q : State → Type 0) (s : State) (r : Result (Unit {0}) Code) (t :
 answer_or Q s (Err why) t k l = k
 answer_or Q s (Ok u) t k l = l
 
-object_or : (Q : State → Type 0) (s : State) (r : Result Object Code) (f : Object → Outcome) → Q s → ((o : Object) → Q (f o).after) → Q (with_object s r f).after
+object_or : (Q : State → Type 0) (s : State) (r : Result Object Code) (f : Object → Outcome) → Q s → ((o : Object) → Q (f o).after)
+    → Q (with_object s r f).after
 object_or Q s (Err why) f k l = k
 object_or Q s (Ok o) f k l = l o
 
 -- on a place of a rack
-rack_or : (Q : State → Type 0) (s : State) (at : ℕ) (r : Result (Unit {0}) Code) (t : State) → Q s → Q t → Q (while_open s (on_place s at (by_answer s r t))).after
-rack_or Q s at r t k l = opened_or Q s (on_place s at (by_answer s r t)) k (either Q (nat_le at 255) (by_answer s r t) (refused s code.BadArgument) (answer_or Q s r t k l) k)
+rack_or : (Q : State → Type 0) (s : State) (at : ℕ) (r : Result (Unit {0}) Code) (t : State) → Q s → Q t
+    → Q (while_open s (on_place s at (by_answer s r t))).after
+rack_or Q s at r t k l = opened_or Q s (on_place s at (by_answer s r t)) k
+    (either Q (nat_le at 255) (by_answer s r t) (refused s code.BadArgument) (answer_or Q s r t k l) k)
 
 -- ---- calls
 
@@ -419,19 +430,23 @@ walked s x t k = record { frame = k.frame; folk = k.folk; added = λ n. k.added;
 
 close_call : (s : State) (p h : ℕ) → CallWalk s (calls.Close h) (called s p (calls.Close h)).after
 unfolding called
-close_call s p h = object_or (λ t. CallWalk s (calls.Close h) t) s (owned s p h) (λ o. done (handle_closed s p h o)) (walked s (calls.Close h) s (still s)) (λ o. record {
-  frame = framed_same (frame_of s) (released o s.buffers).w (released o s.buffers).h (released_is o s.buffers (λ b. b.w) (λ id. refl) (λ id n. refl)) (released_is o s.buffers (λ b. b.h) (λ id. refl) (λ id n. refl));
-  folk = record { procs = same_procs s.procs; times = λ q. refl; closed = λ c. c; quiet = λ q. q };
-  added = λ n q i. refl;
-  rests = λ n. absurd (cc);
-})
+close_call s p h =
+    let Q : State → Type 0 = λ t. CallWalk s (calls.Close h) t in
+    object_or Q s (owned s p h) (λ o. done (handle_closed s p h o)) (walked s (calls.Close h) s (still s)) (λ o. record {
+      frame = framed_same (frame_of s) (released o s.buffers).w (released o s.buffers).h (released_is o s.buffers (λ b. b.w) (λ id. refl) (λ id n. refl))
+          (released_is o s.buffers (λ b. b.h) (λ id. refl) (λ id n. refl));
+      folk = record { procs = same_procs s.procs; times = λ q. refl; closed = λ c. c; quiet = λ q. q };
+      added = λ n q i. refl;
+      rests = λ n. absurd (cc);
+    })
 
 write_call : (s : State) (p h : ℕ) (text : List ℕ) → core (called s p (calls.Write h text)).after ≡ core s
 unfolding called
 write_call s p h text =
     let Q : State → Type 0 = λ t. core t ≡ core s in
-    let f : Object → Outcome = λ o. if nat_lt 16384 (length text) then refused s code.Limit else answered (written_to s (buffer_of o) text) (replies.Number (length text)) in
-    object_or Q s (guard s p h kind.Output 2) f refl (λ o. either Q (nat_lt 16384 (length text)) (refused s code.Limit) (answered (written_to s (buffer_of o) text) (replies.Number (length text))) refl refl)
+    let done_on : Object → Outcome = λ o. answered (written_to s (buffer_of o) text) (replies.Number (length text)) in
+    object_or Q s (guard s p h kind.Output 2) (λ o. if nat_lt 16384 (length text) then refused s code.Limit else done_on o) refl
+    (λ o. either Q (nat_lt 16384 (length text)) (refused s code.Limit) (done_on o) refl refl)
 
 input_call : (s : State) (p h : ℕ) (rs : List Record) → core (called s p (calls.WriteInput h rs)).after ≡ core s
 unfolding called
@@ -439,7 +454,8 @@ input_call s p h rs =
     let Q : State → Type 0 = λ t. core t ≡ core s in
     let t : State = record s { records = s.records ++ rs } in
     let o : Outcome = if nat_lt 1024 (length rs) then refused s code.Limit else answered t (replies.Number (length rs)) in
-    object_or Q s (guard s p h kind.Input 2) (λ _. o) refl (λ _. either Q (nat_lt 1024 (length rs)) (refused s code.Limit) (answered t (replies.Number (length rs))) refl refl)
+    object_or Q s (guard s p h kind.Input 2) (λ _. o) refl
+    (λ _. either Q (nat_lt 1024 (length rs)) (refused s code.Limit) (answered t (replies.Number (length rs))) refl refl)
 
 flush_call : (s : State) (p h : ℕ) → core (called s p (calls.Flush h)).after ≡ core s
 unfolding called
@@ -450,7 +466,8 @@ unfolding called
 signal_call s p event group =
     let Q : State → Type 0 = λ t. Walk s t in
     let o : Outcome = if is_no_signal s.procs event group then refused s code.BadArgument else done (signalled_to s event group) in
-    opened_or Q s o (still s) (either Q (is_no_signal s.procs event group) (refused s code.BadArgument) (done (signalled_to s event group)) (still s) (signalled_walk s event group))
+    opened_or Q s o (still s) (either Q (is_no_signal s.procs event group) (refused s code.BadArgument) (done (signalled_to s event group)) (still s)
+    (signalled_walk s event group))
 
 ignore_call : (s : State) (p : ℕ) (on : Bool) → Walk s (called s p (calls.Ignore on)).after
 unfolding called
@@ -463,12 +480,13 @@ ignore_call s p on = opened_or (λ t. Walk s t) s (done (record s { procs = igno
 
 add_call : (s : State) (p at : ℕ) → CallWalk s (calls.HandlerAdd at) (called s p (calls.HandlerAdd at)).after
 unfolding called
-add_call s p at = rack_or (λ t. CallWalk s (calls.HandlerAdd at) t) s at (add_answer s.procs p at) (record s { procs = handler_added s.procs p at }) (walked s (calls.HandlerAdd at) s (still s)) (record {
-  frame = refl;
-  folk = procs_folk s (handler_added s.procs p at) (placed_go s.procs p at place.Chained (is_fresh (place_in s.procs p at)));
-  added = λ n. absurd (cc);
-  rests = λ n. refl;
-})
+add_call s p at = rack_or (λ t. CallWalk s (calls.HandlerAdd at) t) s at (add_answer s.procs p at) (record s { procs = handler_added s.procs p at })
+    (walked s (calls.HandlerAdd at) s (still s)) (record {
+      frame = refl;
+      folk = procs_folk s (handler_added s.procs p at) (placed_go s.procs p at place.Chained (is_fresh (place_in s.procs p at)));
+      added = λ n. absurd (cc);
+      rests = λ n. refl;
+    })
 
 remove_call : (s : State) (p at : ℕ) → Walk s (called s p (calls.HandlerRemove at)).after
 unfolding called
@@ -484,8 +502,10 @@ by_parts s p x e = walked s x (called s p x).after (alike s (called s p x).after
 
 pub call_walk : (s : State) (p : ℕ) (x : Call) → CallWalk s x (called s p x).after
 call_walk s p (calls.Close h) = close_call s p h
-call_walk s p (calls.Write h text) = walked s (calls.Write h text) (called s p (calls.Write h text)).after (alike s (called s p (calls.Write h text)).after (write_call s p h text))
-call_walk s p (calls.WriteInput h rs) = walked s (calls.WriteInput h rs) (called s p (calls.WriteInput h rs)).after (alike s (called s p (calls.WriteInput h rs)).after (input_call s p h rs))
+call_walk s p (calls.Write h text) = walked s (calls.Write h text) (called s p (calls.Write h text)).after
+    (alike s (called s p (calls.Write h text)).after (write_call s p h text))
+call_walk s p (calls.WriteInput h rs) = walked s (calls.WriteInput h rs) (called s p (calls.WriteInput h rs)).after
+    (alike s (called s p (calls.WriteInput h rs)).after (input_call s p h rs))
 call_walk s p (calls.Flush h) = walked s (calls.Flush h) (called s p (calls.Flush h)).after (alike s (called s p (calls.Flush h)).after (flush_call s p h))
 call_walk s p (calls.Signal event group) = walked s (calls.Signal event group) (called s p (calls.Signal event group)).after (signal_call s p event group)
 call_walk s p (calls.Ignore on) = walked s (calls.Ignore on) (called s p (calls.Ignore on)).after (ignore_call s p on)
@@ -513,7 +533,8 @@ abbrev pub BeginsBy : Bool → State → ℕ → State → Type 0
 BeginsBy true s q t = t ≡ s
 BeginsBy false s q t = IsBegun s q t
 
-begin_by : (s : State) (q : ℕ) (r : Result (Unit {0}) Code) (t : State) → ((u : Unit {0}) → r ≡ Ok u → IsBegun s q t) → BeginsBy (is_fail (by_answer s r t).reply) s q (by_answer s r t).after
+begin_by : (s : State) (q : ℕ) (r : Result (Unit {0}) Code) (t : State) → ((u : Unit {0}) → r ≡ Ok u → IsBegun s q t)
+    → BeginsBy (is_fail (by_answer s r t).reply) s q (by_answer s r t).after
 begin_by s q (Err why) t h = refl
 begin_by s q (Ok u) t h = h u refl
 
@@ -522,26 +543,37 @@ pick s q true x y h g = h
 pick s q false x y h g = g
 
 -- what a check of a read that passes says
-may_begin : (c : Bool) (g : Result Object Code) (x b d : Bool) (u : Unit {0}) → guarded (if c then Err code.Closed else g) (if x || b then Err code.BadArgument else if d then Err code.Limit else Ok tt) ≡ Ok u → (c ≡ false) × (x ≡ false)
+may_begin : (c : Bool) (g : Result Object Code) (x b d : Bool) (u : Unit {0})
+    → guarded (if c then Err code.Closed else g) (if x || b then Err code.BadArgument else if d then Err code.Limit else Ok tt) ≡ Ok u
+    → (c ≡ false) × (x ≡ false)
 may_begin true g x b d u h = absurd (cc)
 may_begin false (Err why) x b d u h = absurd (cc)
 may_begin false (Ok o) true b d u h = absurd (cc)
 may_begin false (Ok o) false b d u h = (refl, refl)
 
-read_is : (s : State) (q h n : ℕ) (initial : List ℕ) (mask : ℕ) → (s.closed ≡ false) × (is_open s.reads q ≡ false) → IsBegun s q (if has_bit s.mode 2 then began_line (history_used s q) q h n initial mask else began_units s q n)
+read_is : (s : State) (q h n : ℕ) (initial : List ℕ) (mask : ℕ) → (s.closed ≡ false) × (is_open s.reads q ≡ false)
+    → IsBegun s q (if has_bit s.mode 2 then began_line (history_used s q) q h n initial mask else began_units s q n)
 read_is s q h n initial mask may =
     let t : State = history_used s q in
     let rest : List ℕ = rest_in s.rests q h in
-    let line : OpenRead = reads.Line (record { program = program_of s.procs q; insert = has_bit s.mode 0x20; initial = initial; mask = mask; presses = [] }) in
+    let text : Cooked = record { program = program_of s.procs q; insert = has_bit s.mode 0x20; initial = initial; mask = mask; presses = [] } in
+    let line : OpenRead = reads.Line text in
     pick s q (has_bit s.mode 2) (began_line t q h n initial mask) (began_units s q n)
-    (pick s q (n == 0) (answered_with t q []) (if is_empty rest then line_begun t q h n initial mask else rest_answered t q h n rest) (record { none = may.1; now = may.0; read = reads.Done (answers.Units []); is = refl })
-    (pick s q (is_empty rest) (line_begun t q h n initial mask) (rest_answered t q h n rest) (record { none = may.1; now = may.0; read = line; is = refl }) (record { none = may.1; now = may.0; read = reads.Done (answers.Units (front_of n rest)); is = refl })))
-    (pick s q (n == 0) (answered_with s q []) (with_read s q (reads.Units n)) (record { none = may.1; now = may.0; read = reads.Done (answers.Units []); is = refl }) (record { none = may.1; now = may.0; read = reads.Units n; is = refl }))
+    (pick s q (n == 0) (answered_with t q []) (if is_empty rest then line_begun t q h n initial mask else rest_answered t q h n rest)
+    (record { none = may.1; now = may.0; read = reads.Done (answers.Units []); is = refl })
+    (pick s q (is_empty rest) (line_begun t q h n initial mask) (rest_answered t q h n rest) (record { none = may.1; now = may.0; read = line; is = refl })
+    (record { none = may.1; now = may.0; read = reads.Done (answers.Units (front_of n rest)); is = refl })))
+    (pick s q (n == 0) (answered_with s q []) (with_read s q (reads.Units n))
+    (record { none = may.1; now = may.0; read = reads.Done (answers.Units []); is = refl })
+    (record { none = may.1; now = may.0; read = reads.Units n; is = refl }))
 
 pub begin_is : (s : State) (q : ℕ) (w : Wanted) → BeginsBy (is_fail (began s q w).reply) s q (began s q w).after
 unfolding began
-begin_is s q (wanted.Read h n) = begin_by s q (read_answer s q h n []) _ (λ u e. read_is s q h n [] 0 (may_begin s.closed (look s.handles q h kind.Input 1) (is_open s.reads q) (is_no_initial [] n) (nat_lt 16384 n) u e))
-begin_is s q (wanted.ReadWith h n initial mask) = begin_by s q (read_answer s q h n initial) _ (λ u e. read_is s q h n initial mask (may_begin s.closed (look s.handles q h kind.Input 1) (is_open s.reads q) (is_no_initial initial n) (nat_lt 16384 n) u e))
+begin_is s q (wanted.Read h n) = begin_by s q (read_answer s q h n []) _
+    (λ u e. read_is s q h n [] 0 (may_begin s.closed (look s.handles q h kind.Input 1) (is_open s.reads q) (is_no_initial [] n) (nat_lt 16384 n) u e))
+begin_is s q (wanted.ReadWith h n initial mask) = begin_by s q (read_answer s q h n initial) _
+    (λ u e. read_is s q h n initial mask (may_begin s.closed (look s.handles q h kind.Input 1) (is_open s.reads q) (is_no_initial initial n)
+    (nat_lt 16384 n) u e))
 begin_is s q (wanted.ReadInput h n) = begin_by s q (records_answer s q h n) _ (λ u e. (
     let may = may_begin s.closed (look s.handles q h kind.Input 1) (is_open s.reads q) (n == 0) (nat_lt 1024 n) u e in
     record { none = may.1; now = may.0; read = reads.Records n; is = refl }))
@@ -554,7 +586,8 @@ told_seats s n (answers.Fail why) = refl
 
 pub collected_seats : (s : State) (q : ℕ) → seats (waits.collected s q).after ≡ (frame_of s, s.procs, without s.reads q, s.closed)
 unfolding waits.collected
-collected_seats s q = told_seats (record s { reads = without s.reads q; noted = without_noted s.noted q }) (noted_of s.noted q) (answer_in (slice_get s.reads (place_of s.reads q)))
+collected_seats s q = told_seats (record s { reads = without s.reads q; noted = without_noted s.noted q }) (noted_of s.noted q)
+    (answer_in (slice_get s.reads (place_of s.reads q)))
 
 all_released : (b : Buffers) (hs : List Handle) (f : Buffers → ℕ) → ((x : Buffers) (o : Object) → f (released o x) ≡ f x) → f (waits.released_all b hs) ≡ f b
 all_released b [] f k = refl

@@ -90,11 +90,19 @@ signalled_waits ps event group p = in_place (p == 0) (slice_get ps (p - 1)) (sli
 -- ---- changes
 
 pub signalled_go : (ps : List Proc) (event group : ℕ) → ProcsGo ps (signalled ps event group)
-signalled_go ps event group = record { count = length-map ps (told event group); attached = attached_laws.of_signalled ps event group; waits = signalled_waits ps event group }
+signalled_go ps event group = record {
+  count = length-map ps (told event group);
+  attached = attached_laws.of_signalled ps event group;
+  waits = signalled_waits ps event group;
+}
 
 -- a process changes, and is as attached as it was, with the same events
 pub changed_go : (f : Proc → Proc) → KeepsLive f → KeepsWaiting f → (ps : List Proc) (k : ℕ) → ProcsGo ps (changed f ps k)
-changed_go f live keeps ps k = record { count = as_many f ps k; attached = λ p. attached_laws.of_changed f live ps k p; waits = λ p. changed_waits f keeps ps k p }
+changed_go f live keeps ps k = record {
+  count = as_many f ps k;
+  attached = λ p. attached_laws.of_changed f live ps k p;
+  waits = λ p. changed_waits f keeps ps k p;
+}
 
 pub placed_go : (ps : List Proc) (k at : ℕ) (to : Place) (b : Bool) → ProcsGo ps (if b then placed ps k at to else ps)
 placed_go ps k at to true = changed_go (λ x. record x { rack = slice_set x.rack at to }) (λ x. refl) (λ x h. h) ps k

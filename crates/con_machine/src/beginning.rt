@@ -15,6 +15,7 @@ use crate::fronts::line_front;
 use crate::noted::Noted;
 use crate::read_room::{Beginning, LineRoom};
 use crate::screen_calls::has_bit;
+use crate::unused::refused;
 use con_alias::has_control;
 use con_cooked::Cooked;
 use con_events::Reply;
@@ -147,7 +148,7 @@ impl Console {
         ensures reply { result ≡ (began_read self.old.state p h n initial.now mask).reply }
     {
         match self.check_read(p, h, n, initial) {
-            Err(code) => Reply::Fail(code),
+            Err(code) => refused(code, room),
             Ok(()) => {
                 match room {
                     Beginning::Refused => unreachable!(),
@@ -234,9 +235,9 @@ impl Console {
         ensures room { IfOk result (λ r. IsLineRoom r self.old.state p h n initial.now mask) }
         ensures same { self.new ≡ self.old }
     {
+        let back = self.line_back(p, h, n)?;
         let history = self.histories.use_room(self.procs.program(p))?;
         let read = self.line_read(p, h, n, initial, mask)?;
-        let back = self.line_back(p, h, n)?;
         Ok(LineRoom {
             read,
             history,

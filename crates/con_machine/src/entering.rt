@@ -37,6 +37,7 @@ impl Console {
     {
         let mut room = room;
         let reply = self.client(p, event, &mut room);
+        drop(room);
         self.finish();
         reply
     }
@@ -89,6 +90,7 @@ impl Console {
         match actor {
             Actor::Client(p) => {
                 if !self.attached(p) {
+                    drop(room);
                     return Reply::Fail(Code::BadHandle);
                 }
                 let Room::Client(room) = room else {

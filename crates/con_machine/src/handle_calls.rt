@@ -6,6 +6,7 @@ ghost use Rattle.con_machine.specs.Outcome.{are_rights};
 ghost use Rattle.con_machine.specs.Sound.{HasLive};
 
 use crate::console::Console;
+use crate::unused::refused;
 use crate::{counting, seen};
 use con_events::Reply;
 use con_handles::{Kind, Object};
@@ -46,13 +47,13 @@ impl Console {
         ensures reply { result ≡ (created_buffer self.old.state p rights).reply }
     {
         if self.closed {
-            return Reply::Fail(Code::Closed);
+            return refused(Code::Closed, room);
         }
         if !are_rights(rights) {
-            return Reply::Fail(Code::BadArgument);
+            return refused(Code::BadArgument, room);
         }
         match self.handles.next(p) {
-            Err(_) => Reply::Fail(Code::Limit),
+            Err(_) => refused(Code::Limit, room),
             Ok(number) => match self.screens.create(room) {
                 Err(_) => Reply::Fail(Code::Limit),
                 Ok(id) => {

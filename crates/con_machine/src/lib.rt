@@ -64,6 +64,7 @@ mod terminal_events;
 mod terminal_room;
 mod title;
 mod typing;
+mod unused;
 pub mod view_laws;
 mod writing;
 

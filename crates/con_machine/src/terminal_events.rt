@@ -7,6 +7,7 @@ ghost use Rattle.con_machine.specs.TerminalRooms.{IsTerminalRoom};
 use crate::console::Console;
 use crate::ready::is_size;
 use crate::terminal_room::TerminalRoom;
+use crate::unused::done;
 use con_events::{Event, Reply};
 use con_units::OutOfMemory;
 
@@ -89,15 +90,15 @@ impl Console {
             }
             Event::Ask => {
                 self.ask();
-                Reply::Done
+                done(room)
             }
             Event::Hangup => {
                 self.hang_up();
-                Reply::Done
+                done(room)
             }
             Event::Drained => {
                 self.drain();
-                Reply::Done
+                done(room)
             }
             Event::Call(_) => unreachable!(),
             Event::Begin(_) => unreachable!(),
