@@ -88,7 +88,11 @@ impl Console {
         ensures reply { result ≡ (called self.old.state p call.now).reply }
     {
         match mem::replace(room, ClientRoom::Nothing) {
-            ClientRoom::Call(mut memory) => self.call(p, call, &mut memory),
+            ClientRoom::Call(mut memory) => {
+                let reply = self.call(p, call, &mut memory);
+                drop(memory);
+                reply
+            }
             _ => unreachable!(),
         }
     }
