@@ -12,7 +12,7 @@ use Rattle.con_handles.specs.declared.handle.Object.{Object}
 use Rattle.con_handles.specs.declared.handle.Object.TheVariants as object
 use Rattle.con_rects.specs.Rules.{rect_written}
 use Rattle.con_machine.specs.CellCalls.{are_cells, cells_for, cells_of, rect_answer, sides_of, with_cells, wrote_rect}
-use Rattle.con_machine.specs.Outcome.{Outcome, answered, buffer_of, by_answer, by_result, checked, done, guard, on_buffer, refused, with_object}
+use Rattle.con_machine.specs.Outcome.{Outcome, buffer_of, by_answer, by_result, checked, done, guard, on_buffer, refused, with_object}
 use Rattle.con_machine.specs.ScreenCalls.{is_size, refitted_at, set_size}
 use Rattle.con_machine.specs.State.{State}
 
