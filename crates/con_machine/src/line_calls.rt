@@ -8,6 +8,7 @@ ghost use Rattle.con_machine.specs.LineCalls.{told_history_info, set_history, li
 
 use crate::console::Console;
 use crate::copies::{numbers, text};
+use crate::unused::refused;
 use con_alias::{AliasRoom, Aliases};
 use con_events::{Lines, Numbers, Reply};
 use con_history::{ConfigRoom, Histories, HistoryInfo};
@@ -140,7 +141,7 @@ impl Console {
         ensures reply { result ≡ (added_alias self.old.state program.now source.now target.now).reply }
     {
         if self.closed {
-            return Reply::Fail(Code::Closed);
+            return refused(Code::Closed, room);
         }
         match self.aliases.add(program, source, target, room) {
             Err(code) => Reply::Fail(code),
