@@ -1,4 +1,5 @@
 //! What is wrong with a file of cases.
+use con_units::OutOfMemory;
 use std::alloc::{AllocError, AllocFailed};
 use std::fmt;
 
@@ -7,7 +8,7 @@ use std::fmt;
 pub enum Fault {
     /// There was no memory for what it stands for.
     Memory,
-    /// A case does not begin with its name and its words.
+    /// A case does not begin with its name and what is run.
     Case,
     /// No part is headed so.
     Head,
@@ -25,7 +26,7 @@ impl fmt::Display for Fault {
     fn fmt<W: fmt::Write>(&self, f: &mut fmt::Formatter<W>) -> fmt::Result {
         let text = match self {
             Fault::Memory => "out of memory",
-            Fault::Case => "a case begins with its name and its words",
+            Fault::Case => "a case begins with its name and what is run",
             Fault::Head => "no part is headed so",
             Fault::Line => "no line of this part",
             Fault::String => "no string",
@@ -54,6 +55,15 @@ impl From<AllocError> for Wrong {
 
 impl<T: Drop> From<AllocFailed<T>> for Wrong {
     fn from(_error: AllocFailed<T>) -> Wrong {
+        Wrong {
+            line: 0,
+            fault: Fault::Memory,
+        }
+    }
+}
+
+impl From<OutOfMemory> for Wrong {
+    fn from(_error: OutOfMemory) -> Wrong {
         Wrong {
             line: 0,
             fault: Fault::Memory,

@@ -70,8 +70,8 @@ impl<'a> Came<'a> {
     }
 }
 
-// The lines of a text.
-fn lines_of<'a>(alloc: Global, text: &'a str) -> Result<Vec<&'a str>, AllocError> {
+/// The lines of a text.
+pub fn lines_of<'a>(alloc: Global, text: &'a str) -> Result<Vec<&'a str>, AllocError> {
     let mut out = Vec::new(alloc);
     for line in text.split_terminator('\n') {
         out.push(line)?;
@@ -202,8 +202,8 @@ fn report(alloc: Global, came: &Came<'_>, part: &Part<'_>) -> Result<Option<Stri
     }
 }
 
-// What differs of lines.
-fn compared(
+/// What differs of lines.
+pub fn compared(
     alloc: Global,
     way: Way,
     wanted: &[Wanted<'_>],
@@ -212,6 +212,7 @@ fn compared(
     let what = match way {
         Way::Report => "report",
         Way::Dump => "dump",
+        Way::Picture => "pictures",
     };
     told(alloc, what, lines, first_difference(way, wanted, lines))
 }

@@ -3,9 +3,11 @@
 #![tactic(auto)]
 
 mod each;
+mod events;
 mod fault;
 mod judging;
 mod part;
+mod picture;
 mod running;
 mod setup;
 mod showing;
@@ -13,6 +15,7 @@ mod strings;
 mod wanted;
 
 use each::each_difference;
+use events::events_difference;
 use fault::{Fault, Wrong};
 use judging::{Came, difference};
 use part::{Head, Line, Part, case_name, lines, parts};
@@ -68,10 +71,12 @@ fn case_run<'a, T: Threads + Wait + Sync>(
         return Err(first.wrong(Fault::Case));
     };
     let parts = parts(alloc, lines)?;
-    match parts.as_slice().first() {
-        Some(part) if part.head == Head::Words => {
-            Ok((name, case_difference(rt, alloc, parts.as_slice())?))
-        }
+    let Some((part, others)) = parts.as_slice().split_first() else {
+        return Err(first.wrong(Fault::Case));
+    };
+    match part.head {
+        Head::Words => Ok((name, case_difference(rt, alloc, parts.as_slice())?)),
+        Head::Events => Ok((name, events_difference(alloc, part.rest, others)?)),
         _ => Err(first.wrong(Fault::Case)),
     }
 }

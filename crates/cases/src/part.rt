@@ -50,6 +50,7 @@ pub fn case_name<'a>(text: &'a str) -> Option<&'a str> {
 #[derive(Clone, Copy, Debug, PartialEq, Eq)]
 pub enum Head {
     Words,
+    Events,
     File,
     Bytes,
     Link,
@@ -61,6 +62,7 @@ pub enum Head {
     Report,
     Stream,
     Dump,
+    Pictures,
     Cells,
     Or,
 }
@@ -75,6 +77,7 @@ impl Head {
     fn of(word: &str) -> Option<Head> {
         match word {
             "words:" => Some(Head::Words),
+            "events" => Some(Head::Events),
             "file" => Some(Head::File),
             "bytes" => Some(Head::Bytes),
             "link" => Some(Head::Link),
@@ -86,6 +89,7 @@ impl Head {
             "report" => Some(Head::Report),
             "stream" => Some(Head::Stream),
             "dump" => Some(Head::Dump),
+            "pictures" => Some(Head::Pictures),
             "cells" => Some(Head::Cells),
             "or" => Some(Head::Or),
             _ => None,
@@ -128,4 +132,14 @@ fn part_of<'a>(line: Line<'a>, lines: &'a [Line<'a>]) -> Result<Part<'a>, Wrong>
         }),
         None => Err(line.wrong(Fault::Head)),
     }
+}
+
+/// That each part is headed so that it says something of such a case.
+pub fn only(parts: &[Part<'_>], heads: &[Head]) -> Result<(), Wrong> {
+    for part in parts {
+        if !heads.contains(&part.head) {
+            return Err(part.rest.wrong(Fault::Head));
+        }
+    }
+    Ok(())
 }

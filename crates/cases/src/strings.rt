@@ -8,6 +8,8 @@ use std::alloc::{AllocError, Global};
 pub enum Kind {
     /// Itself.
     Plain,
+    /// Itself, without quotation marks.
+    Bare,
     /// The digits of its UTF-16 units.
     Units,
     /// The digits of its bytes.
@@ -76,6 +78,9 @@ fn kind_before<'a>(before: &'a str) -> (&'a str, Kind) {
     }
     if let Some(rest) = before.strip_suffix('u') {
         return (rest, Kind::Units);
+    }
+    if let Some(rest) = before.strip_suffix('t') {
+        return (rest, Kind::Bare);
     }
     match before.strip_suffix('b') {
         Some(rest) => (rest, Kind::Bytes),

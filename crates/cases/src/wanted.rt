@@ -12,6 +12,7 @@ const NUMBER: char = '\0';
 pub enum Way {
     Report,
     Dump,
+    Picture,
 }
 
 /// A wanted line, and what it stands for.
@@ -69,11 +70,12 @@ fn expanded(alloc: Global, line: Line<'_>) -> Result<String, Wrong> {
     let mut out = String::new(alloc);
     let mut inside = false;
     for quoted in strings.quoted.as_slice() {
-        if !inside || !quoted.before.trim().is_empty() {
+        let is_bare = quoted.kind == Kind::Bare;
+        if is_bare || !inside || !quoted.before.trim().is_empty() {
             out.push_str(if inside { "\"" } else { "" })?;
             push_bare(&mut out, quoted.before)?;
-            out.push('"')?;
-            inside = true;
+            out.push_str(if is_bare { "" } else { "\"" })?;
+            inside = !is_bare;
         }
         let text = told(alloc, line, quoted)?;
         for _ in 0..quoted.times {
@@ -89,6 +91,10 @@ fn expanded(alloc: Global, line: Line<'_>) -> Result<String, Wrong> {
 fn told(alloc: Global, line: Line<'_>, quoted: &Quoted<'_>) -> Result<String, Wrong> {
     match quoted.kind {
         Kind::Plain => Ok(String::from_str(alloc, quoted.text)?),
+        Kind::Bare => match String::from_utf8(byte_list(alloc, line, quoted.text)?) {
+            Ok(text) => Ok(text),
+            Err(_) => Err(line.wrong(Fault::String)),
+        },
         Kind::Units => Ok(units_told(alloc, unit_list(alloc, line, quoted.text)?.as_slice())?),
         Kind::Bytes => Ok(bytes_told(alloc, byte_list(alloc, line, quoted.text)?.as_slice())?),
         Kind::Cells(word) => {
@@ -168,6 +174,7 @@ pub fn is_line(way: Way, wanted: &str, line: &str) -> bool {
     match way {
         Way::Report => is_told(wanted, line),
         Way::Dump => is_shown(wanted, line),
+        Way::Picture => wanted == line,
     }
 }
 
