@@ -8,6 +8,7 @@ mod fault;
 mod judging;
 mod part;
 mod picture;
+mod reads;
 mod running;
 mod setup;
 mod showing;
@@ -19,6 +20,7 @@ use events::events_difference;
 use fault::{Fault, Wrong};
 use judging::{Came, difference};
 use part::{Head, Line, Part, case_name, lines, parts};
+use reads::reads_difference;
 use running::host_case;
 use setup::{Setup, failing_end, times};
 use std::alloc::Global;
@@ -77,6 +79,7 @@ fn case_run<'a, T: Threads + Wait + Sync>(
     match part.head {
         Head::Words => Ok((name, case_difference(rt, alloc, parts.as_slice())?)),
         Head::Events => Ok((name, events_difference(alloc, part.rest, others)?)),
+        Head::Reads => Ok((name, reads_difference(alloc, others)?)),
         _ => Err(first.wrong(Fault::Case)),
     }
 }

@@ -51,6 +51,7 @@ pub fn case_name<'a>(text: &'a str) -> Option<&'a str> {
 pub enum Head {
     Words,
     Events,
+    Reads,
     File,
     Bytes,
     Link,
@@ -63,6 +64,8 @@ pub enum Head {
     Stream,
     Dump,
     Pictures,
+    Wrong,
+    Unread,
     Cells,
     Or,
 }
@@ -78,6 +81,7 @@ impl Head {
         match word {
             "words:" => Some(Head::Words),
             "events" => Some(Head::Events),
+            "reads" => Some(Head::Reads),
             "file" => Some(Head::File),
             "bytes" => Some(Head::Bytes),
             "link" => Some(Head::Link),
@@ -90,6 +94,8 @@ impl Head {
             "stream" => Some(Head::Stream),
             "dump" => Some(Head::Dump),
             "pictures" => Some(Head::Pictures),
+            "wrong" => Some(Head::Wrong),
+            "unread" => Some(Head::Unread),
             "cells" => Some(Head::Cells),
             "or" => Some(Head::Or),
             _ => None,
