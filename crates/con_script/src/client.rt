@@ -3,7 +3,7 @@
 ghost use Rattle.std.specs.Prelude.{◌≡◌, Some, None, IfOk, IfErr, codes};
 ghost use Rattle.con_events.specs.Reading.{IsForm};
 ghost use Rattle.serde_json.specs.View.{view, items_view};
-ghost use Rattle.con_script.specs.Session.{Spot, key, or_fault, member_at, program_units, program_in, group_in, call_at, each_from, calls_in, script_in};
+ghost use Rattle.con_script.specs.Session.{Spot, key, or_fault, member_at, program_in, group_in, call_at, each_from, calls_in, script_in};
 ghost use Rattle.con_script.specs.Places.{Gives};
 
 use crate::keys::{array_at, check_keys, halt_at};
@@ -17,26 +17,17 @@ use con_values::number;
 use serde_json::Value;
 use std::alloc::Global;
 
-fn program_of_units(units: Units) -> Result<Units, Misread>
-    ensures ok { IfOk result (λ us. program_units units ≡ Some us) }
-    ensures form { IfErr result (λ e. IsForm e → program_units units ≡ None) }
-{
-    let count = units.len();
-    if 1 <= count && count <= 255 {
-        Ok(units)
-    } else {
-        Err(Misread::Form)
-    }
-}
-
 /// The text of a program, of 1 to 255 units.
 fn program_of(alloc: Global, value: &Value) -> Result<Units, Misread>
     ensures ok { IfOk result (λ us. program_in (view value.now) ≡ Some us) }
     ensures form { IfErr result (λ e. IsForm e → program_in (view value.now) ≡ None) }
 {
-    match text(alloc, value) {
-        Ok(units) => program_of_units(units),
-        Err(fault) => Err(fault),
+    let units = text(alloc, value)?;
+    let count = units.len();
+    if 1 <= count && count <= 255 {
+        Ok(units)
+    } else {
+        Err(Misread::Form)
     }
 }
 

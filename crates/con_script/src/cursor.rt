@@ -1,7 +1,6 @@
 //! The arguments of a call in a document.
 
-ghost use Rattle.std.specs.Prelude.{◌≡◌, Some, None, IfOk, IfErr};
-ghost use Rattle.con_events.specs.Reading.{IsForm};
+ghost use Rattle.std.specs.Prelude.{◌≡◌};
 ghost use Rattle.serde_json.specs.View.{items_view};
 ghost use Rattle.con_script.specs.Values.{arguments};
 
@@ -19,17 +18,6 @@ pub(crate) struct Cursor<'v> {
     pub(crate) items: ItemsLeft<'v>,
 }
 
-/// A value, or else a refusal for the form.
-fn or_form<T>(value: Option<T>) -> Result<T, Misread>
-    ensures ok { IfOk result (λ v. value ≡ Some v) }
-    ensures form { IfErr result (λ e. IsForm e → value ≡ None) }
-{
-    match value {
-        Some(value) => Ok(value),
-        None => Err(Misread::Form),
-    }
-}
-
 impl Arguments for Cursor<'_> {
     ghost left = { λ c. arguments (items_view c.items.left.now) };
 
@@ -39,28 +27,28 @@ impl Arguments for Cursor<'_> {
 
     fn number(&mut self) -> Result<u32, Misread> {
         match take(&mut self.items) {
-            Some(value) => or_form(number(value)),
+            Some(value) => number(value).ok_or(Misread::Form),
             None => Err(Misread::Form),
         }
     }
 
     fn signed(&mut self) -> Result<i16, Misread> {
         match take(&mut self.items) {
-            Some(value) => or_form(signed(value)),
+            Some(value) => signed(value).ok_or(Misread::Form),
             None => Err(Misread::Form),
         }
     }
 
     fn unit(&mut self) -> Result<u16, Misread> {
         match take(&mut self.items) {
-            Some(value) => or_form(unit(value)),
+            Some(value) => unit(value).ok_or(Misread::Form),
             None => Err(Misread::Form),
         }
     }
 
     fn flag(&mut self) -> Result<bool, Misread> {
         match take(&mut self.items) {
-            Some(value) => or_form(value.as_bool()),
+            Some(value) => value.as_bool().ok_or(Misread::Form),
             None => Err(Misread::Form),
         }
     }
@@ -74,14 +62,14 @@ impl Arguments for Cursor<'_> {
 
     fn rect(&mut self) -> Result<Rect, Misread> {
         match take(&mut self.items) {
-            Some(value) => or_form(rect(value)),
+            Some(value) => rect(value).ok_or(Misread::Form),
             None => Err(Misread::Form),
         }
     }
 
     fn clip(&mut self) -> Result<Option<Rect>, Misread> {
         match take(&mut self.items) {
-            Some(value) => or_form(clip(value)),
+            Some(value) => clip(value).ok_or(Misread::Form),
             None => Err(Misread::Form),
         }
     }
