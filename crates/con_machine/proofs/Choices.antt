@@ -17,7 +17,8 @@ use Rattle.con_machine.specs.ScreenCalls.{is_size, refitted_at, set_size}
 use Rattle.con_machine.specs.State.{State}
 
 -- a call on a buffer, where its handle serves
-on_live : (s : State) (p h right : ℕ) (id : BufferId) (f : ℕ → Outcome) → guard s p h kind.Output right ≡ Ok (object.Output id) → on_buffer s p h right f ≡ f id.0
+on_live : (s : State) (p h right : ℕ) (id : BufferId) (f : ℕ → Outcome) → guard s p h kind.Output right ≡ Ok (object.Output id)
+    → on_buffer s p h right f ≡ f id.0
 on_live s p h right id f e = ap (λ (r : Result Object Code). with_object s r (λ o. f (buffer_of o))) e
 
 passed : (b : Bool) (x y : Outcome) → b ≡ true → (if b then x else y) ≡ x
@@ -35,12 +36,16 @@ size_is_set s p handle w h id serves fits =
     ∙ allowed s (record s { buffers = refitted_at s.buffers id.0 w h }) (is_size s.buffers id.0 w h) fits
 
 abbrev rect_by : State → Rect → List ℕ → Words → ℕ → Outcome
-rect_by s r units ws k = by_result s (rect_answer (cells_of s k) r) (with_cells s k (rect_written (cells_of s k) r (cells_for units ws))) (λ used. replies.Numbers (sides_of used))
+rect_by s r units ws k = by_result s (rect_answer (cells_of s k) r) (with_cells s k (rect_written (cells_of s k) r (cells_for units ws)))
+    (λ used. replies.Numbers (sides_of used))
 
-pub rect_is_by : (s : State) (p h : ℕ) (r : Rect) (units : List ℕ) (ws : Words) (id : BufferId) (x : Result Rect Code) → guard s p h kind.Output 2 ≡ Ok (object.Output id)
+pub rect_is_by : (s : State) (p h : ℕ) (r : Rect) (units : List ℕ) (ws : Words) (id : BufferId) (x : Result Rect Code)
+    → guard s p h kind.Output 2 ≡ Ok (object.Output id)
     → are_cells r units ws ≡ true → x ≡ rect_answer (cells_of s id.0) r
-    → wrote_rect s p h r units ws ≡ by_result s x (with_cells s id.0 (rect_written (cells_of s id.0) r (cells_for units ws))) (λ used. replies.Numbers (sides_of used))
+    → wrote_rect s p h r units ws ≡ by_result s x (with_cells s id.0 (rect_written (cells_of s id.0) r (cells_for units ws)))
+    (λ used. replies.Numbers (sides_of used))
 rect_is_by s p h r units ws id x serves full is =
     on_live s p h 2 id (λ k. if are_cells r units ws then rect_by s r units ws k else refused s code.BadArgument) serves
     ∙ passed (are_cells r units ws) (rect_by s r units ws id.0) (refused s code.BadArgument) full
-    ∙ ap (λ (y : Result Rect Code). by_result s y (with_cells s id.0 (rect_written (cells_of s id.0) r (cells_for units ws))) (λ used. replies.Numbers (sides_of used))) (sym is)
+    ∙ ap (λ (y : Result Rect Code). by_result s y (with_cells s id.0 (rect_written (cells_of s id.0) r (cells_for units ws)))
+    (λ used. replies.Numbers (sides_of used))) (sym is)

@@ -10,7 +10,8 @@ told_more xs ys zs k x inside is before pushed =
     pushed ∙ ap (λ l. l ++ x ∷ []) before ∙ ap (λ y. take k xs ++ y ∷ []) is ∙ sym (take_more xs k x inside)
 
 -- one item more of a list that is copied
-pub copied_more : {X : Type 0} (xs ys zs : List X) (k : ℕ) (d y : X) → ys ≡ take k xs → zs ≡ ys ++ y ∷ [] → y ≡ get_or xs k d → k < length xs → zs ≡ take (k + 1) xs
+pub copied_more : {X : Type 0} (xs ys zs : List X) (k : ℕ) (d y : X) → ys ≡ take k xs → zs ≡ ys ++ y ∷ [] → y ≡ get_or xs k d → k < length xs
+    → zs ≡ take (k + 1) xs
 copied_more xs ys zs k d y before pushed is inside =
     pushed ∙ ap (λ l. l ++ y ∷ []) before ∙ ap (λ x. take k xs ++ x ∷ []) is ∙ sym (take_more xs k d inside)
 

@@ -61,13 +61,16 @@ told_same s p (calls.CursorInfo h) t =
     by_handle s (guard s p h kind.Output 1) (λ o. replies.Numbers (cursor_numbers (page_of s (buffer_of o)).cursor_size (page_of s (buffer_of o)).visible))
 told_same s p calls.Title t = by_open s (answered s (replies.Units s.title)) refl
 told_same s p (calls.RectRead h rect) t = by_handle s (guard s p h kind.Output 1) (λ o. rect_told (cells_of s (buffer_of o)) rect)
-told_same s p (calls.RunReadUnits h x y n) t = by_handle s (guard s p h kind.Output 1) (λ o. run_told (cells_of s (buffer_of o)) (at_place x y) n (λ g. g.unit))
-told_same s p (calls.RunReadAttrs h x y n) t = by_handle s (guard s p h kind.Output 1) (λ o. run_told (cells_of s (buffer_of o)) (at_place x y) n (λ g. g.attr.word))
+told_same s p (calls.RunReadUnits h x y n) t = by_handle s (guard s p h kind.Output 1)
+    (λ o. run_told (cells_of s (buffer_of o)) (at_place x y) n (λ g. g.unit))
+told_same s p (calls.RunReadAttrs h x y n) t = by_handle s (guard s p h kind.Output 1)
+    (λ o. run_told (cells_of s (buffer_of o)) (at_place x y) n (λ g. g.attr.word))
 told_same s p (calls.Peek h n) t = by_handle s (guard s p h kind.Input 1) (λ o. peek_told s.records n)
 told_same s p (calls.Count h) t = by_handle s (guard s p h kind.Input 1) (λ o. replies.Number (min (length s.records) 4294967295))
 told_same s p calls.HistoryInfo t = by_open s (answered s (replies.Numbers (info_numbers s.histories.info))) refl
 told_same s p calls.HistoryList t = by_open s (answered s (replies.Lines (lines_of s.histories (program_of s.procs p)))) refl
-told_same s p (calls.AliasGet program source) t = by_open s (told_alias_in s (alias_at s.aliases program source)) (by_alias s (alias_at s.aliases program source))
+told_same s p (calls.AliasGet program source) t = by_open s (told_alias_in s (alias_at s.aliases program source))
+    (by_alias s (alias_at s.aliases program source))
 told_same s p (calls.AliasList program) t = by_open s (answered s (replies.Lines (map pair_of (entries_in s.aliases program)))) refl
 told_same s p calls.Processes t = by_open s (answered s (replies.Numbers (map (λ id. pos id) (ids_of s.procs)))) refl
 told_same s p x t = absurd (cc)

@@ -15,7 +15,12 @@ use Rattle.con_machine.specs.EventLaws.{Frame, step_frame}
 pub step_moves : (s : State) (a : Actor) (e : Event) → Moves s e (step s a e).after
 step_moves s a e =
     let k = step_frame s a e in
-    record { asks = ap (λ (f : Frame). f.asked) k; sizes = ap (λ (f : Frame). f.resized) k; paints = ap (λ (f : Frame). f.painted) k; ends = ap (λ (f : Frame). f.drained) k }
+    record {
+      asks = ap (λ (f : Frame). f.asked) k;
+      sizes = ap (λ (f : Frame). f.resized) k;
+      paints = ap (λ (f : Frame). f.painted) k;
+      ends = ap (λ (f : Frame). f.drained) k;
+    }
 
 -- ---- Paints
 

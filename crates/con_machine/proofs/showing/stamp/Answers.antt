@@ -19,7 +19,8 @@ pub returns-then-old-number-clause-seen : goal.returns-then-old-number-clause-se
 returns-then-old-number-clause-seen c =
     let was : c.now-old.result ≡ (page_at c.args.screens.now c.active-id.result.0).grid.now = cc in
     stamped_seen c.args.screens.now c.set_now.new.self c.active-id.result.0 c.place.result c.set_now.ensures.kept c.active-id.ensures
-    (ap (λ (b : Buffers). b.active) c.set_now.ensures.buffers) c.place.ensures (c.set_now.ensures.shown (subst (λ (n : ℕ). n < c.next_number-number.result) was c.if-old-number.true))
+    (ap (λ (b : Buffers). b.active) c.set_now.ensures.buffers) c.place.ensures
+    (c.set_now.ensures.shown (subst (λ (n : ℕ). n < c.next_number-number.result) was c.if-old-number.true))
 
 pub returns-else-old-number-clause-is : goal.returns-else-old-number-clause-is
 returns-else-old-number-clause-is c =

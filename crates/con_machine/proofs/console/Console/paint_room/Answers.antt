@@ -14,9 +14,10 @@ returns-clause-room c =
     subst (λ (v : Held). IsPaintRoom v.state r) c.self.view_is (record {
       view = view;
       kept = c.in_ok-kept.ensures.view;
-      marks = marks_are (state_of c.self.inside) c.self.inside.seen c.in_ok-view.view.size.h c.in_ok-marks.marks c.is_fresh-fresh.result c.is_known-known.result
-          c.marks_all-all.result c.self.invariant.buffers c.self.invariant.seen_was (ap (λ (v : View). v.size.h) view) c.is_fresh-fresh.ensures c.is_known-known.ensures
-          c.marks_all-all.ensures c.in_ok-marks.ensures.count c.in_ok-marks.ensures.all c.in_ok-marks.ensures.same;
+      marks = marks_are (state_of c.self.inside) c.self.inside.seen c.in_ok-view.view.size.h c.in_ok-marks.marks c.is_fresh-fresh.result
+          c.is_known-known.result c.marks_all-all.result c.self.invariant.buffers c.self.invariant.seen_was (ap (λ (v : View). v.size.h) view)
+          c.is_fresh-fresh.ensures c.is_known-known.ensures c.marks_all-all.ensures c.in_ok-marks.ensures.count c.in_ok-marks.ensures.all
+          c.in_ok-marks.ensures.same;
       fresh = c.is_fresh-fresh.ensures;
     })
 
@@ -25,5 +26,6 @@ returns-clause-moved c =
     let view : c.in_ok-view.view ≡ view_now (state_of c.self.inside) = c.in_ok-view.ensures.view in
     let P : Held → Type 0 = λ v. (v.seen ≡ Some (seen_at v.state.buffers) → ⊥) → c.in_ok-marks.marks ≡ replicate (view_now v.state).size.h true in
     subst P c.self.view_is (λ moved.
-    c.in_ok-marks.ensures.all (c.marks_all-all.ensures ∙ all_moved c.self.inside.seen c.self.inside.screens c.is_fresh-fresh.result c.is_known-known.result c.is_known-known.ensures moved)
+    c.in_ok-marks.ensures.all (c.marks_all-all.ensures ∙ all_moved c.self.inside.seen c.self.inside.screens c.is_fresh-fresh.result c.is_known-known.result
+    c.is_known-known.ensures moved)
     ∙ ap (λ (n : ℕ). replicate n true) (ap (λ (v : View). v.size.h) view))

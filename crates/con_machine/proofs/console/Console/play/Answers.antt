@@ -6,8 +6,8 @@ use Rattle.con_machine.proofs.console.Console.play.Goals as goal
 
 pub apply-requires-clause-ready : goal.apply-requires-clause-ready
 apply-requires-clause-ready c =
-    ready_now c.loop-entry.self.state _ c.args.entries.now c.loop-entry.entry-index c.entry-item.result c.loop-entry-test.true c.entry-item.is c.prepare.ensures.state
-    c.loop-entry.invariant.legal
+    ready_now c.loop-entry.self.state _ c.args.entries.now c.loop-entry.entry-index c.entry-item.result c.loop-entry-test.true c.entry-item.is
+    c.prepare.ensures.state c.loop-entry.invariant.legal
 
 pub loop-entry-preserved : goal.loop-entry-preserved
 loop-entry-preserved c =

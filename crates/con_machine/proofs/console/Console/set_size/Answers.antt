@@ -10,8 +10,10 @@ use Rattle.con_machine.proofs.console.Console.set_size.Goals as goal
 
 pub returns-in-Some-clause-state : goal.returns-in-Some-clause-state
 returns-in-Some-clause-state c =
-    let serves = subst (λ (v : Held). guard v.state c.args.p c.args.h kind.Output 2 ≡ Ok (object.Output c.in-Ok.id)) (sym c.self.view_is) c.in-Ok.ensures.is in
-    subst (λ (v : Held). state_of (record c.self.inside { screens = c.refit.new.screens; seen = None }) ≡ (set_size v.state c.args.p c.args.h c.args.width c.args.height).after)
+    let serves = subst (λ (v : Held). guard v.state c.args.p c.args.h kind.Output 2 ≡ Ok (object.Output c.in-Ok.id))
+    (sym c.self.view_is) c.in-Ok.ensures.is in
+    subst (λ (v : Held). state_of (record c.self.inside { screens = c.refit.new.screens; seen = None }) ≡
+    (set_size v.state c.args.p c.args.h c.args.width c.args.height).after)
     c.self.view_is
     (ap (λ (b : Buffers). state_of (record c.self.inside { screens = b; seen = None })) c.refit.ensures.is
     ∙ sym (ap (λ (o : Outcome). o.after) (size_is_set (state_of c.self.inside) c.args.p c.args.h c.args.width c.args.height c.in-Ok.id serves

@@ -9,7 +9,8 @@ queued : (c : goal.After-store_units) → c.store_units.new.records ≡ appended
 queued c =
     c.store_units.ensures
     ∙ ap (appended c.self.inside.records)
-    (sequence_records (state_of c.self.inside) c.args.key c.sequence_of-sequence.result (sym c.has_bit.ensures ∙ c.if-has_bit.true) c.sequence_of-sequence.ensures.units)
+    (sequence_records (state_of c.self.inside) c.args.key c.sequence_of-sequence.result
+    (sym c.has_bit.ensures ∙ c.if-has_bit.true) c.sequence_of-sequence.ensures.units)
 
 pub returns-then-has_bit-clause-state : goal.returns-then-has_bit-clause-state
 returns-then-has_bit-clause-state c = rw (← c.self.view_is) (ap (λ (q : Queue). state_of (record c.self.inside { records = q })) (queued c))
