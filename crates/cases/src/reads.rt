@@ -103,11 +103,19 @@ fn between(alloc: Global, line: &str) -> Result<Vec<u8>, AllocError> {
     Ok(bytes)
 }
 
+// Whether the second line of a text is its first wrong one.
+fn is_wrong_second(alloc: Global, bytes: &[u8]) -> bool {
+    match read(alloc, bytes) {
+        Err(TraceFault::Line(line)) => line == 1,
+        _ => false,
+    }
+}
+
 // The first of some lines that is not wrong between two lines of a report.
 fn taken(alloc: Global, lines: &[Line<'_>]) -> Result<Option<String>, Wrong> {
     for line in lines {
         let bytes = between(alloc, line.text)?;
-        if !matches!(read(alloc, bytes.as_slice()), Err(TraceFault::Line(1))) {
+        if !is_wrong_second(alloc, bytes.as_slice()) {
             let number = line.number;
             return Ok(Some(format!(in alloc; "line {number} of the file is not refused")?));
         }
