@@ -1,25 +1,13 @@
-//! Each call of a grid once, with cells by hand.
+//! What no session shows of a grid: the numbers of its rows, and cells that move past the place where its block ends.
 ghost use Rattle.std.specs.Prelude.{◌≡◌, IfOk};
 ghost use Rattle.con_grid.specs.Picture.{IsPicture};
 
 use con_grid::Grid;
 use con_units::{Attr, Cell, Coord, Size};
-use std::process::Abort;
 use std::test::Fail;
 
 fn cell(unit: u16) -> Cell {
     Cell::new(unit, Attr::of(7))
-}
-
-// A row of three cells shows these units, and has this stamp.
-fn row_is(rt: &impl Abort, grid: &Grid, y: u16, units: [u16; 3], stamp: u64) {
-    let start = y as usize * 3;
-    for (x, unit) in units.iter().enumerate() {
-        assert!(rt; start + x < grid.count());
-        assert_eq!(rt; grid.at(start + x).unit(), *unit, "row {y}, column {x}");
-    }
-    assert!(rt; y < grid.size().h);
-    assert_eq!(rt; grid.stamp(y), stamp, "row {y}");
 }
 
 // Three columns and three rows: abc, def, and spaces.
@@ -31,41 +19,45 @@ fn letters(rt: &HostRuntime) -> Result<Grid, Fail>
     Ok(grid)
 }
 
+// The numbers of the first three rows.
+fn stamps(grid: &Grid) -> [u64; 3] {
+    if grid.size().h < 3 {
+        return [99; 3];
+    }
+    [grid.stamp(0), grid.stamp(1), grid.stamp(2)]
+}
+
 #[test]
 fn rows_that_change_are_stamped(rt: HostRuntime) -> Result<(), Fail> {
     let mut grid = letters(&rt)?;
-    row_is(&rt, &grid, 2, [0x20, 0x20, 0x20], 0);
+    let new = stamps(&grid);
     assert!(rt; grid.now() <= 4);
     grid.set_now(4);
     grid.set(Coord { x: 1, y: 1 }, cell(0x78));
-    row_is(&rt, &grid, 0, [0x61, 0x62, 0x63], 0);
-    row_is(&rt, &grid, 1, [0x64, 0x78, 0x66], 4);
-    assert_eq!(rt; grid.cell(Coord { x: 1, y: 1 }).unit(), 0x78);
+    let set = stamps(&grid);
     assert!(rt; grid.now() <= 6);
     grid.set_now(6);
     grid.fill_run(Coord { x: 2, y: 0 }, 2, cell(0x2D));
-    row_is(&rt, &grid, 0, [0x61, 0x62, 0x2D], 6);
-    row_is(&rt, &grid, 1, [0x2D, 0x78, 0x66], 6);
-    row_is(&rt, &grid, 2, [0x20, 0x20, 0x20], 0);
-    assert_eq!(rt; grid.now(), 6);
+    let filled = stamps(&grid);
+    assert_eq!(rt; [new, set, filled], [[0, 0, 0], [0, 4, 0], [6, 6, 0]]);
     Ok(())
 }
 
 #[test]
-fn rows_move_up_and_down(rt: HostRuntime) -> Result<(), Fail> {
+fn rows_that_move_are_stamped(rt: HostRuntime) -> Result<(), Fail> {
     let mut grid = letters(&rt)?;
     assert!(rt; grid.now() <= 1);
     grid.set_now(1);
+    let larger = stamps(&grid.resized(Size { w: 3, h: 4 }, 1, cell(0x2E))?);
     grid.shift_rows(0, 1, 1, cell(0x2E));
-    row_is(&rt, &grid, 0, [0x2E, 0x2E, 0x2E], 1);
-    row_is(&rt, &grid, 1, [0x61, 0x62, 0x63], 1);
-    row_is(&rt, &grid, 2, [0x20, 0x20, 0x20], 0);
+    let down = stamps(&grid);
     grid.shift_rows(1, 2, -1, cell(0x2D));
-    row_is(&rt, &grid, 1, [0x20, 0x20, 0x20], 1);
-    row_is(&rt, &grid, 2, [0x2D, 0x2D, 0x2D], 1);
+    let up = stamps(&grid);
     grid.scroll_up(2, cell(0x3D));
-    row_is(&rt, &grid, 0, [0x2D, 0x2D, 0x2D], 1);
-    row_is(&rt, &grid, 1, [0x3D, 0x3D, 0x3D], 1);
+    assert_eq!(rt;
+        [larger, down, up, stamps(&grid)],
+        [[1, 1, 1], [1, 1, 0], [1, 1, 1], [1, 1, 1]]
+    );
     Ok(())
 }
 
@@ -95,32 +87,30 @@ fn move_most(grid: &mut Grid) {
     }
 }
 
+// The first nine units.
+fn units(grid: &Grid) -> [u16; 9] {
+    let mut all = [0; 9];
+    for k in 0..9usize {
+        if k < grid.count() {
+            all[k] = grid.at(k).unit();
+        }
+    }
+    all
+}
+
 #[test]
 fn cells_move_past_a_scrolled_row(rt: HostRuntime) -> Result<(), Fail> {
     let mut grid = letters(&rt)?;
     grid.scroll_up(1, cell(0x3D));
     change_across(&mut grid);
-    row_is(&rt, &grid, 1, [0x20, 0x2D, 0x78], 0);
-    row_is(&rt, &grid, 2, [0x7A, 0x2A, 0x3D], 0);
+    let changed = units(&grid);
     move_most(&mut grid);
-    row_is(&rt, &grid, 0, [0x66, 0x2B, 0x20], 0);
-    row_is(&rt, &grid, 1, [0x2D, 0x78, 0x2F], 0);
-    row_is(&rt, &grid, 2, [0x2F, 0x7A, 0x2A], 0);
-    Ok(())
-}
-
-#[test]
-fn another_size_keeps_the_rows_that_stay(rt: HostRuntime) -> Result<(), Fail> {
-    let mut grid = letters(&rt)?;
-    assert!(rt; grid.now() <= 1);
-    grid.set_now(1);
-    let wide = grid.resized(Size { w: 3, h: 4 }, 1, cell(0x2E))?;
-    row_is(&rt, &wide, 0, [0x64, 0x65, 0x66], 1);
-    row_is(&rt, &wide, 1, [0x20, 0x20, 0x20], 1);
-    row_is(&rt, &wide, 2, [0x2E, 0x2E, 0x2E], 1);
-    let narrow = grid.resized(Size { w: 2, h: 2 }, 0, cell(0x2E))?;
-    assert_eq!(rt; narrow.count(), 4);
-    assert_eq!(rt; narrow.at(1).unit(), 0x62);
-    assert_eq!(rt; narrow.at(2).unit(), 0x64);
+    assert_eq!(rt;
+        [changed, units(&grid)],
+        [
+            [0x64, 0x65, 0x66, 0x20, 0x2D, 0x78, 0x7A, 0x2A, 0x3D],
+            [0x66, 0x2B, 0x20, 0x2D, 0x78, 0x2F, 0x2F, 0x7A, 0x2A],
+        ]
+    );
     Ok(())
 }

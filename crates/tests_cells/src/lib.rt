@@ -1,8 +1,6 @@
-//! Tests of con_grid and con_rects by a caller, and callers that use their promises and those of cells at every value.
+//! Tests of con_grid by a caller, and callers that use their promises and those of cells at every value.
 #![tactic(auto)]
 
 pub mod callers;
 #[cfg(test)]
 mod grids;
-#[cfg(test)]
-mod rects;
