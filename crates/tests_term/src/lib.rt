@@ -5,6 +5,4 @@ pub mod callers;
 #[cfg(test)]
 mod dumps;
 #[cfg(test)]
-mod rows;
-#[cfg(test)]
 mod units;
