@@ -1,10 +1,9 @@
-// Who is asked, and who is dropped.
+//! What no session shows of handlers: which one handles, and that each is dropped once.
 ghost use Rattle.std.specs.Prelude.{◌≡◌};
 ghost use Rattle.con_handlers.specs.Answers.{raised};
 
 use con_handlers::handler::one_more;
-use con_handlers::{Chain, CtrlHandler, Delivered, Note, Once, Swallow, Tally};
-use con_units::Code;
+use con_handlers::{Chain, CtrlHandler, Delivered, Note, Tally};
 use std::alloc::Global;
 use std::sync::Arc;
 use std::sync::atomic::{AtomicU64, Ordering};
@@ -50,37 +49,21 @@ impl CtrlHandler for Watched {
 }
 
 #[test]
-fn the_newest_that_answers_true_handles(rt: HostRuntime) -> Result<(), Fail> {
+fn which_handles_is_told(rt: HostRuntime) -> Result<(), Fail> {
     let alloc = rt.alloc();
     let mut chain = Chain::new(alloc);
     assert!(rt; chain.add(Box::new(alloc, Note::new())?).is_ok());
-    assert!(rt; chain.add(Box::new(alloc, Swallow::new())?).is_ok());
-    assert!(rt; chain.add(Box::new(alloc, Note::new())?).is_ok());
-    assert_eq!(rt; chain.deliver(0), Delivered::Handled(1));
-    assert_eq!(rt; chain.len(), 3);
-    Ok(())
-}
-
-#[test]
-fn once_handles_once(rt: HostRuntime) -> Result<(), Fail> {
-    let alloc = rt.alloc();
-    let mut chain = Chain::new(alloc);
-    assert!(rt; chain.is_empty());
-    assert!(rt; chain.add(Box::new(alloc, Once::new())?).is_ok());
-    assert_eq!(rt; chain.deliver(1), Delivered::Handled(0));
-    assert_eq!(rt; chain.deliver(1), Delivered::Unhandled);
-    assert_eq!(rt; chain.remove(1), Err(Code::BadArgument));
-    Ok(())
-}
-
-#[test]
-fn tally_lets_ctrl_c_pass(rt: HostRuntime) -> Result<(), Fail> {
-    let alloc = rt.alloc();
-    let mut chain = Chain::new(alloc);
     assert!(rt; chain.add(Box::new(alloc, Tally::new())?).is_ok());
-    assert_eq!(rt; chain.deliver(0), Delivered::Unhandled);
-    assert_eq!(rt; chain.deliver(1), Delivered::Handled(0));
-    assert_eq!(rt; chain.deliver(2), Delivered::Handled(0));
+    assert!(rt; chain.add(Box::new(alloc, Note::new())?).is_ok());
+    let told = [chain.deliver(0), chain.deliver(1), chain.deliver(2)];
+    assert_eq!(rt;
+        told,
+        [
+            Delivered::Unhandled,
+            Delivered::Handled(1),
+            Delivered::Handled(1)
+        ]
+    );
     Ok(())
 }
 
@@ -100,14 +83,14 @@ fn each_is_dropped_once(rt: HostRuntime) -> Result<(), Fail> {
         };
         assert!(rt; chain.add(Box::new(alloc, one)?).is_ok());
     }
-    assert_eq!(rt; chain.deliver(0), Delivered::Handled(1));
-    assert_eq!(rt; seen.load(Ordering::SeqCst), 2);
-    assert_eq!(rt; dropped.load(Ordering::SeqCst), 0);
-    assert!(rt; chain.remove(1).is_ok());
-    assert_eq!(rt; dropped.load(Ordering::SeqCst), 1);
-    assert_eq!(rt; chain.deliver(0), Delivered::Unhandled);
-    assert_eq!(rt; seen.load(Ordering::SeqCst), 4);
+    let handled = chain.deliver(0);
+    let asked = [seen.load(Ordering::SeqCst), dropped.load(Ordering::SeqCst)];
+    let removed = chain.remove(1).is_ok();
+    let passed = chain.deliver(0);
+    let without = [seen.load(Ordering::SeqCst), dropped.load(Ordering::SeqCst)];
     drop(chain);
-    assert_eq!(rt; dropped.load(Ordering::SeqCst), 3);
+    let gone = [seen.load(Ordering::SeqCst), dropped.load(Ordering::SeqCst)];
+    assert!(rt; removed && handled == Delivered::Handled(1) && passed == Delivered::Unhandled);
+    assert_eq!(rt; [asked, without, gone], [[2, 0], [4, 1], [4, 3]]);
     Ok(())
 }
