@@ -1,4 +1,4 @@
-//! Tests of generated sessions and of limits, as a caller sees them; documents are cases.
+//! Tests of generated sessions and of limits, as a caller sees them, and callers of sessions and of values; documents are cases.
 #![tactic(auto)]
 
 pub mod callers;
@@ -6,3 +6,4 @@ pub mod callers;
 mod drawn;
 #[cfg(test)]
 mod limits;
+pub mod values;

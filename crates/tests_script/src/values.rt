@@ -1,4 +1,4 @@
-//! Callers that use each clause with values that they do not know.
+//! Callers that use each clause of con_values with values that they do not know.
 
 ghost use Rattle.std.specs.Prelude.{◌≡◌, ◌≤◌, pos, Some, None, IfSome, option_map};
 ghost use Rattle.serde_json.specs.View.{view};
