@@ -6,7 +6,8 @@
 //!
 //! - in memory, told to fail at chosen calls: [`MemorySource`], [`MemorySink`], [`MemoryFiles`];
 //! - in memory, with no failure: [`SureSource`], [`SureSink`], [`SureFiles`];
-//! - round a reader, a writer and the files of std, whose contents are untold: [`StdSource`], [`StdSink`], [`DiskFiles`];
+//! - round a reader, a writer and the files of std, whose contents are untold: [`StdSource`], [`StdSink`], [`DiskFiles`], and
+//!   [`DiskSink`], which writes one file and makes it at its first write;
 //! - a gate that does nothing: [`NoGate`].
 //!
 //! [`write_whole`] writes all of some bytes, and [`read_whole`] reads all that a source has left.
@@ -30,7 +31,7 @@ pub use files::{Files, Found, MemoryFiles, SureFiles};
 pub use gate::{Gate, NoGate};
 pub use memory::{MemorySink, MemorySource};
 pub use reading::read_whole;
-pub use real::{DiskFiles, StdSink, StdSource};
+pub use real::{DiskFiles, DiskSink, StdSink, StdSource};
 pub use sure::{SureSink, SureSource};
 pub use traits::{Failed, Fault, Sink, Source};
 pub use writing::write_whole;

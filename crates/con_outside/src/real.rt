@@ -90,3 +90,45 @@ impl<R: rt::Files + Drop> Files for DiskFiles<R> {
         }
     }
 }
+
+/// The file that a [`DiskSink`] writes, in the folder in which the program runs.
+pub const MIRROR_FILE: &str = "conpty.mirror";
+
+/// The file `conpty.mirror` of the system as a sink. It is created, or emptied where it is there, at the first write; without a
+/// write none is created, and an older one stays. A file that cannot be created is a failed write.
+#[derive(Drop)]
+pub struct DiskSink<R: rt::Files> {
+    pub rt: R,
+    /// The file once it is created; `None` before the first write.
+    pub file: Option<R::File>,
+    /// How often it has failed.
+    pub faults: u64,
+}
+
+impl<R: rt::Files + Drop> Sink for DiskSink<R> {
+    ghost written = { λ _. None };
+
+    ghost faults = { λ s. s.faults };
+
+    fn write(&mut self, bytes: &[u8]) -> Result<usize, Fault> {
+        let mut file = match self.file.take() {
+            Some(file) => file,
+            None => match fs::create(&self.rt, MIRROR_FILE) {
+                Ok(file) => file,
+                Err(_) => {
+                    raise(&mut self.faults);
+                    return Err(Fault::Failed);
+                }
+            },
+        };
+        let answer = file.write(bytes);
+        self.file = Some(file);
+        match answer {
+            Ok(n) if n > 0 || bytes.is_empty() => Ok(n),
+            _ => {
+                raise(&mut self.faults);
+                Err(Fault::Failed)
+            }
+        }
+    }
+}
