@@ -3,3 +3,5 @@ pub mod Pieces
 pub mod OneFrame
 pub mod NoFrame
 pub mod OneAnswer
+pub mod MirrorFrames
+pub mod OneMirrored

@@ -92,12 +92,13 @@ bytes_cut front more a b n is count some few less =
     rw is (rw (← count) test)
 
 -- a frame's first byte, and then what was taken behind it
-pub tagged : (tag : ℕ) (front buf text : List ℕ) (place before taken : ℕ) (first between last : Option (List ℕ)) (result : Result Frame LinkFault)
-    → buf ≡ front → length buf ≡ 1 → get_or buf 0 0 ≡ tag → before ≡ place + length front → first ≡ then_left front between → between ≡ then_left text last
-    → taken ≡ before + length text → Answers result place (tag ∷ text) last
-    → (x : List ℕ) × (first ≡ then_left x last) × (taken ≡ place + length x) × Answers result place x last
-tagged tag front buf text place before taken first between last result is long reads total p q more answers =
-    let e : front ≡ tag ∷ [] = sym is ∙ (one buf long ∙ ap (λ t. t ∷ []) reads) in
+pub tagged : (P : List ℕ → Type 0) (front buf text : List ℕ) (place before taken : ℕ) (first between last : Option (List ℕ))
+    → buf ≡ front → length buf ≡ 1 → before ≡ place + length front → first ≡ then_left front between → between ≡ then_left text last
+    → taken ≡ before + length text → P (get_or buf 0 0 ∷ text)
+    → (x : List ℕ) × (first ≡ then_left x last) × (taken ≡ place + length x) × P x
+tagged P front buf text place before taken first between last is long total p q more answers =
+    let tag = get_or buf 0 0 in
+    let e : front ≡ tag ∷ [] = sym is ∙ one buf long in
     let l : length front ≡ 1 = ap length e in
     (tag ∷ text, then_left-more (tag ∷ []) text first between last (p ∙ ap (λ f. then_left f between) e) q, omega arith, answers)
 

@@ -14,8 +14,8 @@ use std::marker::Model;
 /// Reads frames. It is seen as the number of bytes taken from the link.
 #[derive(Drop)]
 pub struct LinkReader {
-    alloc: Global,
-    taken: u64,
+    pub(crate) alloc: Global,
+    pub(crate) taken: u64,
 }
 
 impl Model for LinkReader {
@@ -48,17 +48,35 @@ impl LinkReader {
             Filled::Cut => return Ok(Frame::End),
             gap => return Err(fault_of(gap, place)),
         }
-        match tag[0] {
-            0x42 => bytes_frame(self.alloc, link, place, &mut self.taken),
-            0x51 => Ok(Frame::Quiet),
-            0x52 => resize_frame(link, place, &mut self.taken),
-            0x50 => Ok(Frame::Ask),
-            0x58 => Ok(Frame::Hangup),
-            _ => Err(LinkFault::Bad {
-                place,
-                kind: FrameFault::Tag,
-            }),
-        }
+        plain_frame(self.alloc, tag[0], link, place, &mut self.taken)
+    }
+}
+
+/// The rest of a frame, whose first byte was taken.
+pub(crate) fn plain_frame<I: Source>(
+    alloc: Global,
+    tag: u8,
+    link: &mut I,
+    place: u64,
+    taken: &mut u64,
+) -> Result<Frame, LinkFault>
+    requires few { taken.old ≤ MOST }
+    requires at { taken.old ≡ place + 1 }
+    ensures took { (text : List ℕ) × (I.left link.old ≡ then_left text (I.left link.new))
+        × (taken.new ≡ taken.old + length text) × Answers result place (tag ∷ text) (I.left link.new) }
+    ensures failed { result ≡ Err LinkFault.Failed → Rose (I.faults link.old) (I.faults link.new) }
+    ensures never_falls { I.faults link.old ≤ I.faults link.new }
+{
+    match tag {
+        0x42 => bytes_frame(alloc, link, place, taken),
+        0x51 => Ok(Frame::Quiet),
+        0x52 => resize_frame(link, place, taken),
+        0x50 => Ok(Frame::Ask),
+        0x58 => Ok(Frame::Hangup),
+        _ => Err(LinkFault::Bad {
+            place,
+            kind: FrameFault::Tag,
+        }),
     }
 }
 
@@ -105,7 +123,11 @@ fn bytes_frame<I: Source>(
 }
 
 /// The rest of a frame of a size, whose first byte was taken.
-fn resize_frame<I: Source>(link: &mut I, place: u64, taken: &mut u64) -> Result<Frame, LinkFault>
+pub(crate) fn resize_frame<I: Source>(
+    link: &mut I,
+    place: u64,
+    taken: &mut u64,
+) -> Result<Frame, LinkFault>
     requires few { taken.old ≤ MOST }
     requires at { taken.old ≡ place + 1 }
     ensures took { (text : List ℕ) × (I.left link.old ≡ then_left text (I.left link.new))

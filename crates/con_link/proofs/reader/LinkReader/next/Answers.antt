@@ -1,17 +1,12 @@
-use Rattle.std.proofs.Common.{◌≡◌, rules, length}
+use Rattle.std.proofs.Common.{◌≡◌, ℕ, List, rules, length}
+use Rattle.con_link.specs.Frames.{Answers}
 use Rattle.con_link.proofs.Pieces.{tagged}
 use Rattle.con_link.proofs.reader.LinkReader.next.Goals as goal
 
-pub returns-in-66-clause-took : goal.returns-in-66-clause-took
-returns-in-66-clause-took g c =
+pub returns-clause-took : goal.returns-clause-took
+returns-clause-took g c =
     let t = c.in-Full.ensures.took in
-    let u = c.bytes_frame.ensures.took in
+    let u = c.plain_frame.ensures.took in
     let long : length c.fill.new.buf ≡ 1 = search rules in
-    rw (← c.self.view_is) (tagged 66 t.0 c.fill.new.buf u.0 c.self.inside.taken c.fill.new.taken c.bytes_frame.new.taken _ _ _ c.bytes_frame.result t.3.0 long c.in-66.is t.2 t.1 u.1 u.2 u.3)
-
-pub returns-in-82-clause-took : goal.returns-in-82-clause-took
-returns-in-82-clause-took g c =
-    let t = c.in-Full.ensures.took in
-    let u = c.resize_frame.ensures.took in
-    let long : length c.fill.new.buf ≡ 1 = search rules in
-    rw (← c.self.view_is) (tagged 82 t.0 c.fill.new.buf u.0 c.self.inside.taken c.fill.new.taken c.resize_frame.new.taken _ _ _ c.resize_frame.result t.3.0 long c.in-82.is t.2 t.1 u.1 u.2 u.3)
+    let P : List ℕ → Type 0 = λ x. Answers c.plain_frame.result c.self.inside.taken x (g.I.Source.left c.plain_frame.new.link) in
+    rw (← c.self.view_is) (tagged P t.0 c.fill.new.buf u.0 c.self.inside.taken c.fill.new.taken c.plain_frame.new.taken _ _ _ t.3.0 long t.2 t.1 u.1 u.2 u.3)
