@@ -7,7 +7,7 @@ use Rattle.std.proofs.lemmas.Slice.Eq.{bytes_eq-Decides}
 use Rattle.con_units.specs.declared.view.FrameFault.{FrameFault}
 use Rattle.serde_json.specs.Data.{Data, Items, no_items, item}
 use Rattle.serde_json.specs.Find.{as_str, as_array}
-use Rattle.con_trace.specs.Ending.{Ending, alone, worded, at_frame, IsEnding, done, no_memory, usage, document, link, terminal, missing, failed, too_long, frame}
+use Rattle.con_trace.specs.Ending.{Ending, alone, worded, at_frame, IsEnding, done, no_memory, usage, document, link, terminal, missing, failed, too_long, mirror, frame}
 use Rattle.con_trace.specs.Last.{TextFits}
 use Rattle.con_trace.specs.Told.{length_in, alone_in, worded_in, kind_in, ending_items, ending_in}
 use Rattle.con_trace.proofs.TablesFit.{and_then_keeps}
@@ -46,7 +46,8 @@ worded_is n text =
     (λ _. cond_both (n == 5) (bytes_eq text (codes "term")) _ Q (λ h. if_row _ n text (λ k u. row n 5 text (codes "term") h k terminal))
     (λ _. cond_both (n == 7) (bytes_eq text (codes "missing") || bytes_eq text (codes "failed")) _ Q
     (λ h. if_row _ n text (λ k u. either (bytes_eq text (codes "missing")) (bytes_eq text (codes "failed")) (IsEnding (worded n text)) k (λ k. row n 7 text (codes "missing") h k missing) (λ k. row n 7 text (codes "failed") h k failed)))
-    (λ _. cond_both (n == 10) (bytes_eq text (codes "too long")) false Q (λ h. if_row _ n text (λ k u. row n 10 text (codes "too long") h k too_long)) (λ _. tt))))))
+    (λ _. cond_both (n == 10) (bytes_eq text (codes "too long")) _ Q (λ h. if_row _ n text (λ k u. row n 10 text (codes "too long") h k too_long))
+    (λ _. cond_both (n == 12) (bytes_eq text (codes "mirror")) false Q (λ h. if_row _ n text (λ k u. row n 12 text (codes "mirror") h k mirror)) (λ _. tt)))))))
 
 frame_is : (place : ℕ) (o : Option FrameFault) → place < 18446744073709551616 → IfSome (option_map (at_frame place) o) Is
 frame_is place None p = tt

@@ -27,7 +27,7 @@ use Rattle.con_trace.specs.Form.{form_of}
 use Rattle.con_trace.specs.Shown.{items, whole, units_text, shown, cell_words}
 use Rattle.con_trace.specs.Line.{number_and_flag, reply_data, event_name, event_data, actor_text, answer_data, line_data}
 use Rattle.con_trace.specs.Fits.{IsOwn, EventFits, IsWhole, AreWhole, IsFlag, AreTexts, AreRead, ReplyFits, refused, is_done, is_number, are_fields, number_and_flag as number_and_flag_fit, are_sides, are_ids, are_units, are_records, are_cells, are_lines, waited_units, waited_records, is_control, AnswerFits}
-use Rattle.con_trace.specs.Ending.{Ending, IsEnding, done, no_memory, usage, document, link, terminal, missing, failed, too_long, frame, ending_data}
+use Rattle.con_trace.specs.Ending.{Ending, IsEnding, done, no_memory, usage, document, link, terminal, missing, failed, too_long, mirror, frame, ending_data}
 use Rattle.con_trace.specs.Report.{IsLine}
 use Rattle.con_trace.specs.Told.{whole_in, units_in, all_in, if_many, number_and_flag_in, cells_from, reply_in, told, as_told, call_in, event_in, of_terminal, of_client, of_painter, one_digit, digits_after, actor_in, answer_in, said_in, ending_in}
 use Rattle.con_trace.proofs.ToldBack.{is_below, is_most, units_back, bytes_back, rect_back, records_back, told_back}
@@ -230,6 +230,7 @@ ending_back _ terminal = refl
 ending_back _ missing = refl
 ending_back _ failed = refl
 ending_back _ too_long = refl
+ending_back _ mirror = refl
 ending_back _ (frame place fault.Tag p) = rw (is_below place 18446744073709551616 p) refl
 ending_back _ (frame place fault.Length p) = rw (is_below place 18446744073709551616 p) refl
 ending_back _ (frame place fault.Size p) = rw (is_below place 18446744073709551616 p) refl

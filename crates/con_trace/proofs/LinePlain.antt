@@ -36,7 +36,7 @@ use Rattle.con_trace.specs.Hex.{hex_units, hex_bytes}
 use Rattle.con_trace.specs.Shown.{items, whole, units_text, rect_data, record_data, shown, cell_words}
 use Rattle.con_trace.specs.Line.{number_and_flag, reply_data, answer_data, event_name, event_data, wanted_data, actor_text, line_data}
 use Rattle.con_trace.specs.Fits.{IsOwn, AreBytes, WantedFits, EventFits, IsWhole, AreWhole, IsFlag, AreTexts, ReplyFits, refused, is_done, is_number, are_fields, number_and_flag as number_and_flag_fit, are_sides, are_ids, are_units, are_records, are_cells, are_lines, waited_units, waited_records, is_control, AnswerFits}
-use Rattle.con_trace.specs.Ending.{Ending, IsEnding, done, no_memory, usage, document, link, terminal, missing, failed, too_long, frame, kind_text, ending_data}
+use Rattle.con_trace.specs.Ending.{Ending, IsEnding, done, no_memory, usage, document, link, terminal, missing, failed, too_long, mirror, frame, kind_text, ending_data}
 use Rattle.con_trace.specs.Report.{IsLine}
 use Rattle.con_trace.proofs.ReadBack.{IsPlain, ArePlain}
 
@@ -267,4 +267,5 @@ ending_plain _ terminal = (end_utf8, (omega arith, (IsUtf8-are_ascii _ refl, tt)
 ending_plain _ missing = (end_utf8, (omega arith, (IsUtf8-are_ascii _ refl, tt)))
 ending_plain _ failed = (end_utf8, (omega arith, (IsUtf8-are_ascii _ refl, tt)))
 ending_plain _ too_long = (end_utf8, (omega arith, (IsUtf8-are_ascii _ refl, tt)))
+ending_plain _ mirror = (end_utf8, (omega arith, (IsUtf8-are_ascii _ refl, tt)))
 ending_plain _ (frame place kind p) = (end_utf8, (omega arith, (p, (kind_utf8 kind, tt))))

@@ -11,7 +11,7 @@ use Rattle.con_events.specs.declared.reply.Reply.{Reply}
 use Rattle.serde_json.specs.Read.{read}
 use Rattle.con_trace.specs.declared.said.Said.{Said}
 use Rattle.con_trace.specs.Line.{line_data, line_text, ended}
-use Rattle.con_trace.specs.Ending.{Ending, IsEnding, done, no_memory, usage, document, link, terminal, missing, failed, too_long, frame, ending_data, ending_text}
+use Rattle.con_trace.specs.Ending.{Ending, IsEnding, done, no_memory, usage, document, link, terminal, missing, failed, too_long, mirror, frame, ending_data, ending_text}
 use Rattle.con_trace.specs.Report.{IsLine, AreLines, said_text, report, History, end_of, ends_behind, said, with_picture, pictures, IsHistory, IsWrongAt, ReportTells, NoneIsWrong}
 use Rattle.con_trace.specs.Told.{said_in, ending_in}
 use Rattle.con_trace.specs.Cut.{cut_line, with_end, ends_of}
@@ -56,6 +56,7 @@ ending_says_nothing _ terminal = refl
 ending_says_nothing _ missing = refl
 ending_says_nothing _ failed = refl
 ending_says_nothing _ too_long = refl
+ending_says_nothing _ mirror = refl
 ending_says_nothing _ (frame place kind p) = refl
 
 some_same : {A : Type 0} (a b : A) → Some a ≡ Some b → a ≡ b

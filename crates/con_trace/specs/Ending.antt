@@ -47,6 +47,7 @@ pub data IsEnding : Ending → Type 0 where
   missing : IsEnding (worded 7 (codes "missing"))
   failed : IsEnding (worded 7 (codes "failed"))
   too_long : IsEnding (worded 10 (codes "too long"))
+  mirror : IsEnding (worded 12 (codes "mirror"))
   frame : (place : ℕ) (kind : FrameFault) → place < 18446744073709551616 → IsEnding (at_frame place kind)
 
 -- the last line that a value says; a path's units as UTF-8, with U+FFFD for half of a pair

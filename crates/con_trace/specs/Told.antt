@@ -304,7 +304,7 @@ abbrev pub is_worded : ℕ → List ℕ → Bool
 is_worded n text =
     if n == 2 then bytes_eq text (codes "usage") else if n == 3 then true else if n == 4 then bytes_eq text (codes "link") else
     if n == 5 then bytes_eq text (codes "term") else if n == 7 then bytes_eq text (codes "missing") || bytes_eq text (codes "failed") else
-    if n == 10 then bytes_eq text (codes "too long") else false
+    if n == 10 then bytes_eq text (codes "too long") else if n == 12 then bytes_eq text (codes "mirror") else false
 
 abbrev pub worded_in : ℕ → List ℕ → Option Ending
 worded_in n text = if is_worded n text then Some (worded n text) else None

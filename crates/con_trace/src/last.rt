@@ -74,6 +74,7 @@ fn has_text(status: u64, text: &str) -> bool
         5 => text == "term",
         7 => text == "missing" || text == "failed",
         10 => text == "too long",
+        12 => text == "mirror",
         _ => false,
     }
 }
@@ -83,7 +84,7 @@ fn worded(status: u64, text: &str) -> Option<Last<'_>>
     ensures told { option_map last_of result ≡ worded_in status text.now }
     ensures text { IfSome result (λ last. TextFits (last_of last)) }
 {
-    if has_text(status, text) && status <= 10 {
+    if has_text(status, text) && status <= 12 {
         Some(Last::Worded(status as u8, text))
     } else {
         None
