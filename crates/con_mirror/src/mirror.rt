@@ -1,0 +1,93 @@
+//! A mirror: a second terminal that attaches and detaches.
+ghost use Rattle.std.specs.Prelude.{◌≡◌, ◌++◌, length, drop, Some, None, IfSome, MatchResult};
+ghost use Rattle.std.specs.Vec.{vec_len, vec_capacity};
+ghost use Rattle.con_units.specs.Limits.{IsWindow};
+ghost use Rattle.con_units.specs.View.{IsWhole};
+ghost use Rattle.con_paint.specs.Painter.{unpainted};
+ghost use Rattle.con_mirror.specs.Mirror.{HasRoom, IsMirrored, WasMirrored, at_size};
+
+use crate::attached::Attached;
+use con_units::{OutOfMemory, Size, View};
+use std::alloc::Global;
+use std::marker::Model;
+
+/// A second terminal of any size that attaches and detaches, and shows the part of a view round its cursor. Contracts see what its
+/// painter keeps, where one is attached.
+#[derive(Drop)]
+pub struct Mirror {
+    alloc: Global,
+    attached: Option<Attached>,
+}
+
+impl Model for Mirror {
+    ghost use Rattle.std.specs.Prelude.{Option};
+    ghost use Rattle.con_paint.specs.Painter.{Kept};
+
+    ghost Value = { Option Kept };
+
+    ghost use Rattle.con_mirror.specs.Inside.{kept_of, IsInside};
+
+    ghost view = { kept_of };
+
+    ghost invariant = { IsInside };
+}
+
+impl Mirror {
+    /// A mirror to which no terminal is attached.
+    pub fn new(alloc: Global) -> Mirror
+        ensures { result ≡ None }
+    {
+        Mirror {
+            alloc,
+            attached: None,
+        }
+    }
+
+    /// Attaches a terminal of this size, 1 to 512 columns and 1 to 256 rows, of which nothing else is known, with the room of its
+    /// parts. One that was attached before is detached. Unchanged where there is no memory.
+    pub fn attach(&mut self, size: Size) -> Result<(), OutOfMemory>
+        requires { IsWindow size.w size.h }
+        ensures { MatchResult result (λ _. self.new ≡ Some (unpainted size.w size.h)) (λ _. self.new ≡ self.old) }
+    {
+        let attached = Attached::new(self.alloc, size)?;
+        self.attached = Some(attached);
+        Ok(())
+    }
+
+    /// Detaches the terminal, if one is attached.
+    pub fn detach(&mut self)
+        ensures { self.new ≡ None }
+    {
+        self.attached = None;
+    }
+
+    /// The size of the terminal that is attached; `None` where none is.
+    pub fn size(&self) -> Option<Size>
+        ensures size { result ≡ at_size self.now }
+        ensures window { IfSome result (λ z. IsWindow z.w z.h) }
+    {
+        match &self.attached {
+            Some(attached) => Some(attached.shown.size),
+            None => None,
+        }
+    }
+
+    /// Appends a frame: bytes that bring each terminal of the attached one's size that the mirror allows to one that shows the part
+    /// of the view, and that the mirror allows again; none where it shows that part already. The bytes before stay as they were.
+    /// It takes no memory.
+    pub fn paint(&mut self, view: &View, out: &mut Vec<u8>)
+        requires view { IsWhole view.now }
+        requires room { HasRoom self.old (vec_len out.old) (vec_capacity out.old) }
+        ensures paints { IsMirrored self.old self.new view.now (drop (length out.old.items) out.new.items) }
+        ensures appends { out.new.items ≡ out.old.items ++ drop (length out.old.items) out.new.items }
+        ensures size { at_size self.new ≡ at_size self.old }
+        ensures shown { WasMirrored self.new view.now }
+        ensures quiet { WasMirrored self.old view.now → out.new.items ≡ out.old.items }
+        ensures capacity { vec_capacity out.new ≡ vec_capacity out.old }
+    {
+        match &mut self.attached {
+            Some(attached) => attached.paint(view, out),
+            None => unreachable!(),
+        }
+    }
+}
