@@ -1,4 +1,5 @@
 use con_outside::memory::{fails, raise};
+use con_outside::real::MIRROR_FILE;
 use con_outside::*;
 use con_units::Bytes;
 use std::alloc::Global;
@@ -192,5 +193,25 @@ fn files_of_the_system_are_read_whole(rt: HostRuntime) -> Result<(), Fail> {
     let gate = NoGate;
     gate.before(1, 0);
     gate.after(1, 0);
+    Ok(())
+}
+
+#[test]
+fn a_file_of_the_system_is_made_at_the_first_write_that_it_takes(
+    rt: HostRuntime,
+) -> Result<(), Fail> {
+    let mut sink = DiskSink {
+        rt: rt.clone()?,
+        file: None,
+        faults: 0,
+    };
+    fs::create_dir(&rt, MIRROR_FILE)?;
+    let refused = sink.write(b"x") == Err(Fault::Failed) && sink.faults == 1;
+    fs::remove_dir(&rt, MIRROR_FILE)?;
+    fs::write(&rt, MIRROR_FILE, "older")?;
+    let answers = [write_whole(&mut sink, b"ab"), write_whole(&mut sink, b"c")];
+    let text = fs::read(&rt, MIRROR_FILE)?;
+    fs::remove_file(&rt, MIRROR_FILE)?;
+    assert!(rt; refused && answers == [Ok(()), Ok(())] && text.as_slice() == b"abc".as_slice());
     Ok(())
 }
