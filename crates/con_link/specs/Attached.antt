@@ -4,16 +4,16 @@ use Rattle.con_units.specs.declared.view.Frame.{Frame}
 use Rattle.con_units.specs.declared.view.Frame.TheVariants as frames
 use Rattle.con_link.specs.declared.fault.LinkFault.{LinkFault}
 use Rattle.con_link.specs.declared.mirror.MirrorFrame.{MirrorFrame}
-use Rattle.con_link.specs.declared.mirror.MirrorFrame.TheVariants.{Plain, Attach, Detach}
+use Rattle.con_link.specs.declared.mirror.MirrorFrame.TheVariants.{Plain, Attach}
 
--- what is read behind A is a size, which attaches; no other frame is read there
+-- a size that is read behind A attaches; no other frame is read there
 abbrev pub attached : Frame → MirrorFrame
 attached (frames.Resize size) = Attach size
-attached (frames.Bytes bytes) = Detach
-attached frames.Quiet = Detach
-attached frames.Ask = Detach
-attached frames.Hangup = Detach
-attached frames.End = Detach
+attached (frames.Bytes bytes) = Plain (frames.Bytes bytes)
+attached frames.Quiet = Plain frames.Quiet
+attached frames.Ask = Plain frames.Ask
+attached frames.Hangup = Plain frames.Hangup
+attached frames.End = Plain frames.End
 
 abbrev pub attach_read : Result Frame LinkFault → Result MirrorFrame LinkFault
 attach_read (Ok frame) = Ok (attached frame)

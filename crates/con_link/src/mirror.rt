@@ -33,13 +33,13 @@ fn as_ever(read: Result<Frame, LinkFault>) -> Result<MirrorFrame, LinkFault>
     }
 }
 
-// What was read as a new size attaches. Where a size is read no other frame comes.
+// What was read as a new size attaches. No other frame is read behind `A`.
 fn as_attach(read: Result<Frame, LinkFault>) -> Result<MirrorFrame, LinkFault>
     ensures { result ≡ attach_read read }
 {
     match read {
         Ok(Frame::Resize(size)) => Ok(MirrorFrame::Attach(size)),
-        Ok(_) => Ok(MirrorFrame::Detach),
+        Ok(frame) => Ok(MirrorFrame::Plain(frame)),
         Err(fault) => Err(fault),
     }
 }
