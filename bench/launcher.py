@@ -256,7 +256,7 @@ def other_rt(copy):
 
 
 def spaces(copy):
-    """The folder's name may have spaces and stars, and the call come from another folder."""
+    """The folder's name may have spaces, stars and a byte that is no UTF-8, and the call come from another folder."""
     same(copy.call("type", text=b"x", folder="/")[:2], (5, b"type.x"))
     same(copy.call("type", text=b"y", folder=copy.room)[:2], (5, b"type.y"))
     same(sorted(set(copy.noted("proved"))), sorted(copy.below()))
@@ -355,7 +355,7 @@ def main():
             continue
         with tempfile.TemporaryDirectory() as folder:
             try:
-                one(Copy(folder, "a folder * of it" if one is spaces else "copy"))
+                one(Copy(folder, "a folder * of \udcff it" if one is spaces else "copy"))
                 print(f"{one.__name__}: ok", flush=True)
             except (AssertionError, subprocess.TimeoutExpired) as error:
                 failed += 1

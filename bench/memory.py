@@ -71,17 +71,18 @@ void *realloc(void *old, size_t size)
 """
 
 
-def sweep(shim, words, link=None):
-    """Runs with each allocation failing in turn, each with its number, until one meets no failure; before them one with all memory."""
+def sweep(shim, words, link=None, seconds=20):
+    """Runs with each allocation failing in turn, each with its number, until one meets no failure; before them one with all memory. Each has some seconds."""
     mark = shim + ".mark"
     for n in range(MOST):
         if os.path.exists(mark):
             os.remove(mark)
         given = open(link, "rb") if link else subprocess.DEVNULL
         try:
-            ran = subprocess.run(words, env={"LD_PRELOAD": shim, "FAIL_AT": str(n), "MARK": mark}, stdin=given, capture_output=True, check=False, timeout=20)
+            env = {"LD_PRELOAD": shim, "FAIL_AT": str(n), "MARK": mark}
+            ran = subprocess.run(words, env=env, stdin=given, capture_output=True, check=False, timeout=seconds)
         except subprocess.TimeoutExpired:
-            ran = subprocess.CompletedProcess(words, "none within 20 seconds", b"", b"")
+            ran = subprocess.CompletedProcess(words, f"none within {seconds} seconds", b"", b"")
         if link:
             given.close()
         if n and not os.path.exists(mark):
@@ -128,21 +129,27 @@ def lengths(report):
     return [int(length) for length in re.findall(rb'\["painted",(\d+)\]', report)]
 
 
-def kind_by_turns(one, whole):
-    """What a session by turns ended with, or None where that is not right."""
-    if (one.returncode, one.stdout, one.stderr) == (0, whole.stdout, whole.stderr):
-        return "with status 0, whole"
-    if one.returncode != 9 or not whole.stdout.startswith(one.stdout):
+class Whole:
+    """A session by turns that had all memory."""
+
+    def __init__(self, ran):
+        self.out, self.err = ran.stdout, ran.stderr
+        self.fronts = set(fronts(ran.stderr.splitlines(keepends=True)[:-1]))
+
+    def kind_of(self, one):
+        """What the session ended with where one allocation failed, or None where that is not right."""
+        if (one.returncode, one.stdout, one.stderr) == (0, self.out, self.err):
+            return "with status 0, whole"
+        if one.returncode != 9 or not self.out.startswith(one.stdout):
+            return None
+        if one.stderr in self.fronts:
+            ends = lengths(one.stderr)
+            # What was written is all that was there before the last frame, and no more than its length.
+            least = max(ends[:-1], default=0)
+            return "with status 9 and the last line" if least <= len(one.stdout) <= max(ends, default=0) else None
+        if self.err.startswith(one.stderr) or any(report.startswith(one.stderr) for report in self.fronts):
+            return "with status 9 and a part of the report"
         return None
-    reports = list(fronts(whole.stderr.splitlines(keepends=True)[:-1]))
-    if one.stderr in reports:
-        ends = lengths(one.stderr)
-        # What was written is all that was there before the last frame, and no more than its length.
-        least = max(ends[:-1], default=0)
-        return "with status 9 and the last line" if least <= len(one.stdout) <= max(ends, default=0) else None
-    if any(report.startswith(one.stderr) for report in reports) or whole.stderr.startswith(one.stderr):
-        return "with status 9 and a part of the report"
-    return None
 
 
 def kind_by_threads(one):
@@ -160,11 +167,11 @@ def session(shim, way, name):
     kinds, others, whole = {}, [], None
     for n, one in sweep(shim, [PROGRAM, way, examples.path(name, "json")], examples.path(name, "link")):
         if n == 0:
-            whole = one
+            whole = Whole(one)
             if way == "solo" and (one.returncode != 0 or examples.without_lengths(one.stderr) != examples.report_of(name)):
                 others.append("with all memory, another report")
             continue
-        kind = kind_by_turns(one, whole) if way == "solo" else kind_by_threads(one)
+        kind = whole.kind_of(one) if way == "solo" else kind_by_threads(one)
         if kind:
             kinds[kind] = kinds.get(kind, 0) + 1
         else:
@@ -186,4 +193,5 @@ def main():
     sys.exit(wrong > 0)
 
 
-main()
+if __name__ == "__main__":
+    main()

@@ -5,6 +5,7 @@ pictures stand beside them.
     statuses.py
 
 Prints a line for each run, and ends with 1 where one ended otherwise than it has to. The statuses and last lines are those of docs/FORMATS.md."""
+import json
 import os
 import resource
 import subprocess
@@ -12,10 +13,12 @@ import sys
 import tempfile
 
 import examples
+import generated
 
 PROGRAM = os.path.join(os.path.dirname(os.path.abspath(__file__)), "..", "crates", "conpty", "out", "conpty")
 SHELL = examples.path("shell", "json")
 WAYS = ("solo", "run")
+NUMBERS = (0, 1, 7, 4294967295)
 wrong = 0
 
 
@@ -43,7 +46,8 @@ def made(folder, name, text):
 
 
 def usages():
-    for words in ([], ["run"], ["solo"], ["solo", "a", "b"], ["solo", ""], ["run", "a", "b"], ["run", ""], ["gen", "07"], ["gen", "-1"], ["gen", "4294967296"], ["play", "0x5"], ["--help"]):
+    ways = ([way, *words] for way in WAYS for words in ([], ["a", "b"], [""]))
+    for words in ([], *ways, ["gen", "07"], ["gen", "-1"], ["gen", "4294967296"], ["play", "0x5"], ["--help"]):
         expect(f"words {words}", run(words), 2, '["end",2,"usage"]')
 
 
@@ -78,12 +82,28 @@ def failures(folder, way):
     expect(f"{way}: little memory", run([way, idle], typed, memory=100 * 1024 * 1024), 9, '["end",9]')
 
 
-def generations():
-    expect("a generated session", run(["gen", "7"]), 0)
+def generations(folder):
+    for number in NUMBERS:
+        drawn(folder, number)
     with open("/dev/full", "wb") as full:
         expect("a terminal that fails a generated session", run(["gen", "7"], out=full), 5, '["end",5,"term"]')
         expect("a summary that fails", run(["gen", "7"], err=full), 6)
     expect("little memory for a generated session", run(["gen", "7"], memory=8 * 1024 * 1024), 9)
+
+
+def drawn(folder, number):
+    """A generated session, whose stream and summary are those of the document that is drawn by docs/FORMATS.md."""
+    global wrong
+    ran, beside = run(["gen", str(number)]), run(["solo", made(folder, "drawn", json.dumps(generated.session(number)).encode())])
+    expect(f"gen {number}", ran, 0)
+    report, told = beside.stderr.decode(), ran.stderr.decode().splitlines(keepends=True)
+    # Each record that is put in is left, since no call takes one.
+    count = {"refused": '["fail",', "records": '"write-input"', "paints": '["painted",'}
+    counts = "calls 2000\n" + "".join(f"{name} {report.count(word)}\n" for name, word in count.items())
+    dump = run(["play", "80x25"], ran.stdout).stderr.decode()
+    if beside.returncode != 0 or (ran.stdout, "".join(told[:4]), "".join(told[4:])) != (beside.stdout, counts, dump):
+        wrong += 1
+        print(f"OTHERWISE: gen {number} is another session than the drawn one")
 
 
 def example(name, way):
@@ -112,7 +132,7 @@ def main():
             for name in examples.NAMES:
                 example(name, way)
             expect(f"{way}: example fault", run([way, examples.path("fault", "json")], b"Q"), 3, '["end",3,"clients[0].calls[1]"]')
-    generations()
+        generations(folder)
     sys.exit(wrong > 0)
 
 
