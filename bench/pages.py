@@ -12,8 +12,8 @@ import sys
 
 TOP = os.path.join(os.path.dirname(os.path.abspath(__file__)), "..")
 MOST = 160
-# Its lines are long, and it is written by whoever proves.
-LONG = {"docs/PROOFS.md"}
+# Their tables have long rows, and they are written by whoever proves.
+LONG = {"docs/PROOFS.md", "crates/cases/README.md"}
 SIGNS = {"r": "\r", "n": "\n", "t": "\t", "e": "\x1b"}
 wrong = 0
 
@@ -30,7 +30,7 @@ def read(path):
 
 
 def pages():
-    found = [path for folder in ("", "docs/", "examples/", "bench/") for path in glob.glob(os.path.join(TOP, folder, "*.md"))]
+    found = [path for folder in ("", "docs/", "examples/", "bench/", "tools/", "crates/cases/") for path in glob.glob(os.path.join(TOP, folder, "*.md"))]
     return sorted(os.path.relpath(path, TOP) for path in found)
 
 
