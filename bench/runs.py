@@ -7,7 +7,8 @@ import threading
 import time
 from typing import NamedTuple
 
-PROGRAM = os.path.join(os.path.dirname(os.path.abspath(__file__)), "..", "crates", "conpty", "out", "conpty")
+BUILT = os.path.join(os.path.dirname(os.path.abspath(__file__)), "..", "crates", "conpty", "out", "conpty")
+PROGRAM = os.path.abspath(os.environ.get("CONPTY") or BUILT)
 NO_END = "no end"
 WIDEST = 60
 
@@ -15,7 +16,7 @@ WIDEST = 60
 class Kept(threading.Thread):
     """What comes out of a pipe: how many bytes, the first and the last of them."""
 
-    FIRST, LAST = 8 * 1024 * 1024, 65_536
+    FIRST, LAST = 1 << 20, 1 << 16
 
     def __init__(self, pipe):
         super().__init__(daemon=True)
@@ -96,9 +97,10 @@ def ended_of(status):
     return NO_END if status is None else signal.Signals(-status).name if status < 0 else str(status)
 
 
-def run(words, link=None, *, given=None, out=None, err=None, seconds=120, limits=None, closed=(), user=None, env=None, program=PROGRAM, name=None, beside=None):
+def run(words, link=None, *, given=None, out=None, err=None, seconds=120, limits=None, closed=(), user=None, env=None, program=None, name=None, beside=None):
     """Runs the program. `link` is the path of what it reads, `given` an open file in its place; `out` and `err` are open files, or what comes is kept.
     `name` is what the program is told that it is called; `beside` is called with the process once it runs."""
+    program = program or PROGRAM
     reader = given if given is not None else open(link or os.devnull, "rb")
     floor = resource.getrusage(resource.RUSAGE_SELF).ru_maxrss // 1024 + 1
     how = {"stdout": subprocess.PIPE if out is None else out, "stderr": subprocess.PIPE if err is None else err, "env": {**os.environ, **(env or {})}}
@@ -131,7 +133,8 @@ class Table:
         """A row. `wanted` says what it had to be where it was otherwise, and is empty where all is right."""
         self.wrong += bool(wanted)
         self.rows.append((what, ended, last, f"{seconds:.2f}", memory))
-        print(f"{'OTHERWISE' if wanted else 'as it has to'}: {what}: {ended}, {last or 'no line'}, {seconds:.2f} s, {memory} MiB{wanted}", flush=True)
+        room = f", {memory} MiB" if memory else ""
+        print(f"{'OTHERWISE' if wanted else 'as it has to'}: {what}: {ended}, {last or 'no line'}, {seconds:.2f} s{room}{wanted}", flush=True)
 
     def expect(self, what, ran, ended, last=None, other=""):
         """A run that has to end with this status, or one of these, and with this last line of its report; `other` tells what else is not right."""
@@ -141,10 +144,11 @@ class Table:
         wanted = "; it has to be " + ", ".join([*wrong, other] if other else wrong) if wrong or other else ""
         self.tell(what, ran.ended, line if len(line) <= WIDEST else f"{line[:WIDEST]}.. ({len(line)} characters and more)", ran.seconds, ran.memory, wanted)
 
-    def count(self, what, kinds, others, seconds):
+    def count(self, what, kinds, others, seconds, last=""):
         """Many runs of one kind: how many there were of each ending, and those that have to be otherwise."""
-        told = ", ".join(f"{count} times {kind}" for kind, count in sorted(kinds.items(), key=lambda kind: -kind[1]))
-        self.tell(f"{what}: {sum(kinds.values())} runs", told, "", seconds, "", "; ".join(["", *others[:5]]))
+        told = ", ".join(f"{count} times {kind}" for kind, count in sorted(kinds.items(), key=lambda kind: -kind[1]) if count)
+        wanted = "; it has to be otherwise: " + "; ".join(others[:5]) if others else ""
+        self.tell(what, told, last, seconds, "", wanted)
 
     def page(self):
         """The table as a page has it."""
