@@ -12,7 +12,8 @@ import support
 from conptylib import terminal
 from film import colour, style
 
-SHELL_END = ["$ ls -l", "notes.txt", "$ exit", ""]
+SHELL_END = ["$ ls -l", "notes.txt", "$ ls -l *.txt", "", "", "", "", ""]
+EDITOR = [" notes.txt", "milk", "", "", "", ""]
 BROWSER = shutil.which("chromium") or shutil.which("chromium-browser") or shutil.which("google-chrome")
 
 
@@ -95,25 +96,26 @@ class Films(unittest.TestCase):
     def test_shell(self):
         page = self.film(support.example("shell", "json"), support.example("shell", "link"))
         film = film_in(page)
-        self.assertEqual(len(film["steps"]), 7)
+        self.assertEqual(len(film["steps"]), 8)
         self.assertEqual(screen(film, 1)[:2], ["$", ""])
-        self.assertEqual(screen(film, 5), SHELL_END + [""] * 21)
-        self.assertEqual(film["steps"][5]["cursor"], [0, 3])
-        green = film["rows"][film["steps"][5]["rows"][1]][0]
+        self.assertEqual(screen(film, 6), SHELL_END)
+        self.assertEqual(film["steps"][6]["cursor"], [0, 3])
+        green = film["rows"][film["steps"][6]["rows"][1]][0]
         self.assertEqual(green[1], "notes.txt")
         self.assertIn(f"#screen .s{green[0]}{{color:#13a10e;background:#0c0c0c}}", page)
         self.assertEqual(
             [event[1:4] for event in film["steps"][3]["events"]],
             [["t", "feed", 'type " -l" + key return'], ["c1", "collect", ""], ["p", "paint", ""]],
         )
-        self.assertEqual(film["steps"][6]["title"], "After the last picture: end 0, all was done")
+        self.assertEqual(film["steps"][7]["title"], "After the last picture: end 0, all was done")
         self.assertEqual(film["names"]["c1"], "c1 sh")
 
     def test_editor_grows(self):
         film = film_in(self.film(support.example("editor", "json"), support.example("editor", "link")))
-        self.assertEqual([step["size"] for step in film["steps"]], [[40, 10]] * 3 + [[60, 12]] * 4)
-        self.assertEqual(screen(film, 3), ["milk", "bread"] + [""] * 10)
-        self.assertEqual(screen(film, 6), ["$ edit notes.txt"] + [""] * 11)
+        self.assertEqual([step["size"] for step in film["steps"]], [[24, 4]] * 3 + [[30, 6]] * 4)
+        self.assertEqual(screen(film, 3), EDITOR)
+        self.assertEqual(screen(film, 4), EDITOR[:5] + ["q to leave"])
+        self.assertEqual(screen(film, 6), ["$ edit notes.txt"] + [""] * 5)
 
     def test_a_run_by_threads_that_was_kept(self):
         """The shell is one client, so that it ends with the same screen in whatever order its keys come."""
@@ -121,7 +123,7 @@ class Films(unittest.TestCase):
         with open(link, "rb") as file:
             ran = support.base.run_program(support.PROGRAM, ["run", session], file.read())
         film = film_in(self.film(session, link, self.path("stream", ran.out), self.path("report", ran.err)))
-        self.assertEqual(screen(film, len(film["steps"]) - 1), SHELL_END + [""] * 21)
+        self.assertEqual(screen(film, len(film["steps"]) - 1), SHELL_END)
 
     def test_pictures_are_those_of_the_program(self):
         """Each picture, played by the program itself."""

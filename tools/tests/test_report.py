@@ -270,14 +270,14 @@ class WithTheProgram(unittest.TestCase):
         self.assertEqual((out.returncode, re.findall(rb"[\x00-\x09\x0b-\x1f\x7f]", out.stdout)), (0, []))
         self.assertIn('ok "a\u20acb"'.encode(), out.stdout)
 
-    def test_the_generated_session_compares_with_itself(self):
+    def test_a_report_compares_with_itself(self):
         with open(support.example("shell", "link"), "rb") as link:
             ran = support.base.run_program(support.PROGRAM, ["solo", support.example("shell", "json")], link.read())
         with tempfile.NamedTemporaryFile() as file:
             file.write(ran.err)
             file.flush()
             out = support.tool("report.py", "compare", file.name, "-", given=ran.err)
-        self.assertEqual((out.returncode, out.stdout), (0, b"the same 27 lines, but for lengths\n"))
+        self.assertEqual((out.returncode, out.stdout), (0, b"the same 30 lines, but for lengths\n"))
 
 
 if __name__ == "__main__":
