@@ -1,12 +1,12 @@
 #!/usr/bin/env python3
 """The program as an attacker, a careless user and a system under load would use it: what it ends with, how long that takes, and how much memory.
 
-    robustness.py [--table FILE] [--large] [GROUP..]
+    robustness.py [--page] [GROUP..]
 
-The groups are memory, calls, links, documents, sizes, texts, files, streams and limits; without words all are tried, which takes some minutes. What has to
-come is said by the statuses of docs/FORMATS.md and the rules of docs/PROFILE.md; streams and reports of runs that were disturbed are a front of those of a run
-that was not. `--large` adds sessions that take gigabytes. Prints a line for each case, writes them as a page's table to FILE, and ends with 1 where one was
-otherwise than it has to be.
+The groups are memory, calls, links, documents, sizes, texts, files, streams and limits, and largest, whose sessions take gigabytes; without words all but the
+last are tried, which takes some minutes. What has to come is said by the statuses of docs/FORMATS.md and the rules of docs/PROFILE.md; streams and reports of
+runs that were disturbed are a front of those of a run that was not. Prints a line for each case, and with `--page` writes them into docs/ROBUSTNESS.md, behind
+its heading "Each case". Ends with 1 where one was otherwise than it has to be. CONPTY may name another program than the one that is built here.
 
 Allocations, reads and writes fail by a library that is loaded before the program, for which there must be `cc`."""
 import argparse
@@ -91,8 +91,8 @@ ssize_t write(int file, const void *from, size_t size)
 class Room:
     """A folder with what all cases use."""
 
-    def __init__(self, folder, large):
-        self.folder, self.large = folder, large
+    def __init__(self, folder):
+        self.folder = folder
         self.idle = hostile.document(folder, "idle.json", hostile.IDLE)
         self.listing = hostile.document(folder, "listing.json", hostile.listing())
         self.listing_link = self.file("listing.link", hostile.LISTING_LINK)
@@ -117,9 +117,9 @@ def swept(shim, words, link, kind_of):
     kinds, others, begun = collections.Counter(), [], time.perf_counter()
     for n, ran in memory.sweep(shim, [runs.PROGRAM, *words], link, seconds=5):
         kind = kind_of(n, ran)
-        kinds[kind or "otherwise"] += n > 0
+        kinds[(kind or "otherwise").removeprefix("with status ")] += n > 0
         others += [f"allocation {n}: status {ran.returncode}"] * (kind is None)
-    table.count(f"each allocation of `{words[0]} {os.path.basename(words[1])}` fails in turn", kinds, others, time.perf_counter() - begun)
+    table.count(f"`{words[0]} {os.path.basename(words[1])}`", kinds, others, time.perf_counter() - begun)
 
 
 class Turns:
@@ -186,7 +186,7 @@ def failing(room, shim, words, link, what, fronts=True):
         others += [f"call {n}: {fault}"] * bool(fault)
         n += 1
     told = f"{CALLS.get(what, f'each write of the {what}')} by `{' '.join(map(os.path.basename, words))}` fails in turn"
-    kinds = collections.Counter({f"status {LASTS[what][0]}": n - 1})
+    kinds = collections.Counter({LASTS[what][0]: n - 1})
     table.count(told, kinds, others + ["none failed"] * (n == 1), time.perf_counter() - begun, LASTS[what][1] or "")
 
 
@@ -218,7 +218,7 @@ def cuts(way, name, path, link, room):
     kinds, others, begun = collections.Counter(), [], time.perf_counter()
     for word, text in hostile.spoiled(link):
         ran, wanted = runs.run([way, path], room.file("spoiled", text)), hostile.end_of(text)
-        kinds[f"status {wanted[0]}"] += 1
+        kinds[wanted[0]] += 1
         others += [f"{word}: {ran.ended}, {ran.err.last_line()}, and not {wanted[1]}"] * ((ran.ended, ran.err.last_line()) != wanted)
     table.count(f"the link of {name}, `{way}`: cut at each byte, and each byte set to 0 and to 255", kinds, others, time.perf_counter() - begun)
 
@@ -342,13 +342,15 @@ def lists(room):
     table.expect("768 lists of 256 aliases, 480 MiB of units, with 1 GiB of room", ran, ("0", "9"), DONE if ran.ended == "0" else '["end",9]')
     ran = runs.run(["solo", hostile.document(room.folder, "lists", hostile.session(calls_of, clients=16))], limits={"AS": 1 << 30})
     table.expect("16 clients with 768 such lists each, 7 GiB of units, with 1 GiB of room", ran, "9")
-    if room.large:
-        cells = hostile.session([["rect-read", 2, [0, 0, 127, 127]]] * 256, clients=64, window=(128, 128))
-        ran = runs.run(["solo", hostile.document(room.folder, "cells", cells)], seconds=600)
-        table.expect("16,384 times `rect-read` of 16,384 cells", ran, "0", DONE)
-        for tag in (b"Q", b"P"):
-            ran = runs.run(["solo", room.idle], named(room, "link", hostile.filled(b"", tag)), seconds=3600)
-            table.expect(f"16 MiB of `{tag.decode()}` at 80 by 25", ran, "0", DONE)
+
+
+def largest(room):
+    table.group("Sessions that take gigabytes")
+    cells = hostile.session([["rect-read", 2, [0, 0, 127, 127]]] * 256, clients=64, window=(128, 128))
+    ran = runs.run(["solo", hostile.document(room.folder, "cells", cells)], seconds=600)
+    table.expect("16,384 times `rect-read` of 16,384 cells", ran, "0", DONE)
+    ran = runs.run(["solo", room.idle], named(room, "link", hostile.filled(b"", b"Q")), seconds=600)
+    table.expect("16 MiB of `Q`", ran, "0", DONE)
 
 
 # ---- texts that are typed and played
@@ -431,7 +433,7 @@ def changed(room):
     writer = subprocess.Popen([sys.executable, "-c", CHANGES, path, room.shell])
     for n in range(100):
         ran = runs.run(["solo", path], room.shell_link)
-        kinds[f"status {ran.ended}"] += 1
+        kinds[ran.ended] += 1
         others += [f"run {n}: {ran.ended}, {ran.err.last_line()}"] * ((ran.ended, ran.err.last_line()) not in (("0", DONE), ("3", '["end",3,"json"]')))
     writer.kill()
     writer.wait()
@@ -591,23 +593,30 @@ GROUPS = {
     "streams": streams,
     "limits": limits,
 }
+PAGE = os.path.join(os.path.dirname(os.path.abspath(__file__)), "..", "docs", "ROBUSTNESS.md")
+HEADING = "## Each case\n"
+
+
+def write_page():
+    with open(PAGE, encoding="utf-8") as text:
+        front = text.read().partition(HEADING)[0]
+    with open(PAGE, "w", encoding="utf-8") as out:
+        out.write(front + HEADING + table.page())
 
 
 def main():
     parser = argparse.ArgumentParser(description=__doc__, formatter_class=argparse.RawDescriptionHelpFormatter)
-    parser.add_argument("--table", metavar="FILE")
-    parser.add_argument("--large", action="store_true")
-    parser.add_argument("groups", nargs="*", metavar="GROUP", choices=[[], *GROUPS])
+    parser.add_argument("--page", action="store_true")
+    parser.add_argument("groups", nargs="*", metavar="GROUP", choices=[[], *GROUPS, "largest"])
     got = parser.parse_args()
     if not os.access(runs.PROGRAM, os.X_OK):
         sys.exit("build the program first: ./conpty type </dev/null >/dev/null")
     with tempfile.TemporaryDirectory() as folder:
-        room = Room(folder, got.large)
+        room = Room(folder)
         for name in got.groups or GROUPS:
-            GROUPS[name](room)
-    if got.table:
-        with open(got.table, "w", encoding="utf-8") as out:
-            out.write(table.page())
+            {**GROUPS, "largest": largest}[name](room)
+    if got.page:
+        write_page()
     print(f"{sum(not isinstance(row, str) for row in table.rows)} rows, {table.wrong} otherwise")
     sys.exit(table.wrong > 0)
 

@@ -142,11 +142,12 @@ class Table:
         endings = (ended,) if isinstance(ended, str) else ended
         wrong = [f"status {' or '.join(endings)}"] * (ran.ended not in endings) + [f"the last line {last}"] * (last is not None and line != last)
         wanted = "; it has to be " + ", ".join([*wrong, other] if other else wrong) if wrong or other else ""
-        self.tell(what, ran.ended, line if len(line) <= WIDEST else f"{line[:WIDEST]}.. ({len(line)} characters and more)", ran.seconds, ran.memory, wanted)
+        told = line if line.startswith('["end",') or wanted else "another" if line else ""
+        self.tell(what, ran.ended, told if len(told) <= WIDEST else f"{told[:WIDEST]}..", ran.seconds, ran.memory, wanted)
 
     def count(self, what, kinds, others, seconds, last=""):
         """Many runs of one kind: how many there were of each ending, and those that have to be otherwise."""
-        told = ", ".join(f"{count} times {kind}" for kind, count in sorted(kinds.items(), key=lambda kind: -kind[1]) if count)
+        told = ", ".join(f"{count} × {kind}" for kind, count in sorted(kinds.items(), key=lambda kind: -kind[1]) if count)
         wanted = "; it has to be otherwise: " + "; ".join(others[:5]) if others else ""
         self.tell(what, told, last, seconds, "", wanted)
 
@@ -158,6 +159,6 @@ class Table:
                 lines += ["", f"### {row}", "", "| what | ended with | last line | seconds | MiB |", "|---|---|---|---|---|"]
             else:
                 cells = [cell.replace("|", "\\|") for cell in row]
-                cells[2] = f"`{cells[2]}`" if cells[2] else ""
+                cells[2] = f"`{cells[2]}`" if cells[2].startswith("[") else cells[2]
                 lines.append("| " + " | ".join(cells) + " |")
         return "\n".join(lines) + "\n"
