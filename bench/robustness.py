@@ -24,8 +24,7 @@ import runs
 
 DONE, WAYS = '["end",0]', ("solo", "run")
 table = runs.Table()
-# By docs/FORMATS.md `run` may not end where the system makes no thread.
-NO_THREAD = ("0", "9", runs.NO_END)
+DOCS = os.path.join(os.path.dirname(os.path.abspath(__file__)), "..", "docs")
 
 SHIM = """
 #define _GNU_SOURCE
@@ -88,6 +87,15 @@ ssize_t write(int file, const void *from, size_t size)
 """
 
 
+def endings_without_threads():
+    """What a session by threads may end with where the system refuses it a thread: that it may not end is so as long as docs/FORMATS.md says it."""
+    with open(os.path.join(DOCS, "FORMATS.md"), encoding="utf-8") as text:
+        return ("0", "9") + (runs.NO_END,) * ("`run` may not end" in text.read())
+
+
+NO_THREAD = endings_without_threads()
+
+
 class Room:
     """A folder with what all cases use."""
 
@@ -136,7 +144,7 @@ class Turns:
 
 def by_threads(_, ran):
     if ran.returncode not in (0, 9):
-        return "no end" if str(ran.returncode).startswith("none") else None
+        return runs.NO_END if str(ran.returncode).startswith("none") and runs.NO_END in NO_THREAD else None
     return memory.kind_by_threads(ran)
 
 
@@ -593,7 +601,7 @@ GROUPS = {
     "streams": streams,
     "limits": limits,
 }
-PAGE = os.path.join(os.path.dirname(os.path.abspath(__file__)), "..", "docs", "ROBUSTNESS.md")
+PAGE = os.path.join(DOCS, "ROBUSTNESS.md")
 HEADING = "## Each case\n"
 
 
