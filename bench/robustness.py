@@ -12,6 +12,7 @@ Allocations, reads and writes fail by a library that is loaded before the progra
 import argparse
 import collections
 import os
+import signal
 import subprocess
 import sys
 import tempfile
@@ -296,23 +297,32 @@ def documents(room):
 
 def sizes(room):
     table.group("Sessions that ask for much")
-    idle = ["solo", room.idle]
-    for what, unit in (("escape", b"\x1b"), ("the byte 255", b"\xff"), ("`ESC [`", b"\x1b["), ("moves of the mouse", b"\x1b[<35;1;1M")):
-        ran = runs.run(idle, named(room, "link", hostile.fed(unit)))
-        table.expect(f"16 MiB that are typed, and nobody reads: {what}", ran, "0", DONE)
+    for way in WAYS:
+        for what, unit in (("escape", b"\x1b"), ("the byte 255", b"\xff"), ("`ESC [`", b"\x1b["), ("moves of the mouse", b"\x1b[<35;1;1M")):
+            ran = runs.run([way, room.idle], named(room, "link", hostile.fed(unit)))
+            table.expect(f"16 MiB that are typed, and nobody reads, `{way}`: {what}", ran, "0", DONE)
+        frames(room, way)
     for what, unit in (("ESC", b"\x1b"), ("255", b"\xff")):
-        table.expect(f"a link of 16,777,216 bytes {what}", runs.run(idle, named(room, "link", hostile.filled(b"", unit))), "8", '["end",8,0,"tag"]')
-    table.expect("X, and 16 MiB that are not read", runs.run(idle, named(room, "link", hostile.filled(b"X", b"z"))), "0", DONE)
-    table.expect("2 MiB of `Q`", runs.run(idle, named(room, "link", hostile.filled(b"", b"Q", most=1 << 21))), "0", DONE)
-    turned = hostile.size(1, 1) + hostile.size(512, 256)
-    table.expect("1,000 times a window of 1 by 1, and of 512 by 256", runs.run(idle, named(room, "link", [turned * 1000])), "0", DONE)
-    for width, height, count in ((80, 25, 100_000), (512, 256, 4_000)):
-        window = hostile.document(room.folder, "window", hostile.session([], window=(width, height)))
-        ran = runs.run(["solo", window], named(room, "link", [b"P" * count]))
-        table.expect(f"{count:,} times `P` at {width} by {height}", ran, "0", DONE)
+        ran = runs.run(["solo", room.idle], named(room, "link", hostile.filled(b"", unit)))
+        table.expect(f"a link of 16,777,216 bytes {what}", ran, "8", '["end",8,0,"tag"]')
+    ran = runs.run(["solo", room.idle], named(room, "link", hostile.filled(b"X", b"z")))
+    table.expect("X, and 16 MiB that are not read", ran, "0", DONE)
     lines(room)
     controls(room)
     lists(room)
+
+
+def frames(room, way):
+    """Frames that cost the most for their length."""
+    ran = runs.run([way, room.idle], named(room, "link", hostile.filled(b"", b"Q", most=1 << 21)))
+    table.expect(f"2 MiB of `Q`, `{way}`", ran, "0", DONE)
+    turned = hostile.size(1, 1) + hostile.size(512, 256)
+    ran = runs.run([way, room.idle], named(room, "link", [turned * 1000]))
+    table.expect(f"1,000 times a window of 1 by 1, and of 512 by 256, `{way}`", ran, "0", DONE)
+    for width, height, count in ((80, 25, 100_000), (512, 256, 4_000)):
+        window = hostile.document(room.folder, "window", hostile.session([], window=(width, height)))
+        ran = runs.run([way, window], named(room, "link", [b"P" * count]))
+        table.expect(f"{count:,} times `P` at {width} by {height}, `{way}`", ran, "0", DONE)
 
 
 def lines(room):
@@ -338,6 +348,9 @@ def controls(room):
     took = [ran.err.first.count(f'["c1","take-ctrl",[],["ctrl",{event}]]'.encode()) for event in (0, 2)]
     other = "" if took == [64, 1] else f"64 events 0 and one event 2, and not {took}"
     table.expect("4,096 ctrl+C in a frame, of which a client takes 64", ran, "0", DONE, other)
+    loud = hostile.document(room.folder, "loud", hostile.session([["handler-add", 0], *[["signal", 0, 0]] * 255], clients=64))
+    for way in WAYS:
+        table.expect(f"64 clients, each of which sends ctrl+C to all 255 times, `{way}`", runs.run([way, loud]), "0", DONE)
     ran = runs.run(["a"] * 160_000)
     table.expect("160,000 words", ran, "2", '["end",2,"usage"]')
 
@@ -565,12 +578,37 @@ def silent(room):
     os.close(here)
 
 
+def signalled(room, way, names):
+    """A run that gets signals while it waits for its link."""
+    given, link = os.pipe()
+
+    def beside(child):
+        time.sleep(0.2)
+        for name in names:
+            os.kill(child.pid, getattr(signal, name))
+            time.sleep(0.05)
+        os.write(link, b"Q")
+        os.close(link)
+
+    with os.fdopen(given, "rb", 0) as reader:
+        return runs.run([way, room.shell], given=reader, beside=beside)
+
+
+def signals(room):
+    harmless = ("SIGSTOP", "SIGCONT", "SIGWINCH", "SIGPIPE", "SIGCHLD")
+    for way in WAYS:
+        table.expect(f"{', '.join(harmless)} while it waits, `{way}`", signalled(room, way, harmless), "0", DONE)
+        for name in ("SIGINT", "SIGTERM", "SIGHUP"):
+            table.expect(f"{name} while it waits, `{way}`: it ends, and there is no report", signalled(room, way, (name,)), name, "")
+
+
 def streams(room):
     table.group("Standard input, output and error")
     closed(room)
     full(room)
     gone(room)
     silent(room)
+    signals(room)
 
 
 # ---- limits of the system
