@@ -437,7 +437,7 @@ def pipes(room):
 
 
 CHANGES = """
-import sys
+import sys, time
 with open(sys.argv[2], "rb") as text:
     session = text.read()
 while True:
@@ -445,6 +445,7 @@ while True:
         for k in range(8):
             out.write(b" " * 4096)
         out.write(session)
+    time.sleep(0.002)
 """
 
 
