@@ -119,6 +119,11 @@ class Room:
         return path
 
 
+def shown(ran, size="80x25"):
+    """What a stream shows."""
+    return subprocess.run([runs.PROGRAM, "play", size], input=ran.out.first, capture_output=True, check=False).stderr.decode()
+
+
 # ---- each allocation fails in turn
 
 def swept(shim, words, link, kind_of):
@@ -149,7 +154,17 @@ def by_threads(_, ran):
     return memory.kind_by_threads(ran)
 
 
+def undisturbed(room):
+    """The session that is disturbed below, which leaves the picture that its files ask for."""
+    table.group("Nothing fails")
+    for way in WAYS:
+        ran = runs.run([way, room.listing], room.listing_link)
+        other = "" if shown(ran, "120x30") == hostile.LISTING_DUMP else "the picture of the last 29 files"
+        table.expect(f"`{way} listing.json`", ran, "0", DONE, other)
+
+
 def memories(room):
+    undisturbed(room)
     table.group("Each allocation fails in turn")
     shim = room.library("memory.so", memory.SHIM)
     both = hostile.document(room.folder, "two scripts", hostile.session([["count", 1]] * 2, clients=2))
@@ -375,11 +390,6 @@ def largest(room):
 
 
 # ---- texts that are typed and played
-
-def shown(ran):
-    """What a frame of 80 by 25 shows."""
-    return subprocess.run([runs.PROGRAM, "play", "80x25"], input=ran.out.first, capture_output=True, check=False).stderr.decode()
-
 
 BLANK, BOLD = hostile.dump(80, 25, "0,0", []), hostile.dump(80, 25, "1,0", ["X"], ["@0,0+1 000f"])
 # 16,777,216 is 16 more than a number of rows.
