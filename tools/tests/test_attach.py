@@ -60,6 +60,14 @@ class Pane:
         with open(os.path.join(self.folder, name), "rb") as file:
             return file.read()
 
+    def wait_for_quiet(self) -> None:
+        """Waits until a pause behind what was typed stands in the link that is kept."""
+        until = time.monotonic() + PATIENCE
+        while not self.read("link").endswith(b"Q"):
+            if time.monotonic() > until:
+                raise AssertionError(f"no quiet: {self.read('link')!r}")
+            time.sleep(0.05)
+
     def wait_over(self, status: int, last: str) -> None:
         """Waits until the screen is the one from before with the tool's last words, and looks at the modes."""
         self.wait("was here", f"attach.py: status {status}, {last}", f"status {status}", "over")
@@ -83,6 +91,7 @@ class Attached(unittest.TestCase):
         pane.wait("$")
         pane.type("ls -l", "Enter")
         pane.wait("$ ls -l", "notes.txt", "$")
+        pane.wait_for_quiet()
         pane.type("exit", "Enter")
         pane.wait(*SHELL_END)
         pane.type("C-]")
