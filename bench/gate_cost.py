@@ -1,12 +1,16 @@
 #!/usr/bin/env python3
-"""Runs a command, as `rt ci --anew`, and prints the processor seconds of each crate's checks: its proof, its tests, its edits,
-and then of each edit (`seed` is what they are tried over).
+"""Runs a command, as `rt ci`, and prints the processor seconds of each crate's checks: its proof, its tests, its edits, and then of each
+edit by name (`seed` is the crate as it stands, among its edits).
 
-    bench/gate_cost.py [--log FILE] [--table FILE] rt ci --anew
+    bench/gate_cost.py [--log FILE] [--table FILE] rt ci
     bench/gate_cost.py --read FILE [--table FILE]
 
-It stands in the repository's top folder. It looks twice a second at the processes below the command, by /proc, so up to half a second of each process is not counted. The last
-line has all that the command and its children took, by the system's own count. A run that is interrupted prints what it took so far.
+It stands in the repository's top folder. It looks twice a second at the processes below the command, by /proc, so up to half a second of each process is not
+counted. The last line has all that the command and its children took, by the system's own count. A run that is interrupted prints what it took so far.
+
+How edits are tried depends on the kit. rattle-kit-13b tries a crate's edits one behind another, the first one over an empty folder, so that one has the crate's
+proof in its seconds; the crate as it stands comes last, where there are two edits or more. rattle-kit-13f checks the crate as it stands first, and keeps what
+passed from run to run: there `rt ci --anew` is the run that shows the whole cost.
 
 --log has a line for each check, written every ten seconds and again as it goes on: the process, its seconds, the crate, the kind of check and the edit. --read
 prints the same from such a file, also while the run goes on or where it was killed. --table writes a line for each crate: its name, and the seconds of its
