@@ -1,8 +1,9 @@
 -- Rows, one after another.
-use Rattle.std.proofs.Common.{◌≡◌, ℕ, ◌+◌, ◌-◌, ◌*◌, ◌<◌, ◌≤◌, Bool, true, false, nat_lt, ◌&&◌, ◌||◌, not, ◌⊎◌, inl, inr, List, [], ◌∷◌, ◌++◌, length, take, drop, replicate, get_or, refl, sym, ap, ◌∙◌, append_assoc, arith, length-append, length-drop, add-one, zero, suc}
+use Rattle.std.proofs.Common.{◌≡◌, ℕ, ◌+◌, ◌-◌, ◌*◌, ◌<◌, ◌≤◌, Bool, true, false, cond, nat_lt, ◌&&◌, ◌||◌, not, ◌⊎◌, inl, inr, List, [], ◌∷◌, ◌++◌, length, take, drop, replicate, get_or, refl, sym, ap, ◌∙◌, append_assoc, arith, length-append, length-drop, add-one, zero, suc}
 use Rattle.std.proofs.lemmas.Nat.{mul-le}
-use Rattle.std.proofs.lemmas.List.{take_at, drop_at, drop-drop, length-take-le, take-append-drop, take_all, drop_all, take_more, length-replicate, replicate-append-replicate, replicate_more}
+use Rattle.std.proofs.lemmas.List.{take_at, drop_at, drop-drop, length-take-le, take-append-drop, take_all, drop_all, take_more, length-replicate, replicate-append-replicate, replicate_more, same_lists, places}
 use Rattle.std.proofs.Math.Seq.{take-add}
+use borrow.Rule.Slice.PartMut.{put_mid}
 use Rattle.std.proofs.lemmas.Bool.Decides.{nat_tests}
 use Rattle.con_units.specs.Attr.{Attribute, plain}
 use Rattle.con_units.specs.Glyph.{Glyph, blank_cell}
@@ -27,7 +28,7 @@ small_pen = record { foreground = omega arith; background = omega arith; fore = 
 
 -- ---- the first rows are those of a view
 
-mixed_row : (v c : List Glyph) (n w : ℕ) → n + w ≤ length v → length c ≡ length v → pasted (mixed v c n) n (take w (drop n v)) ≡ mixed v c (n + w)
+pub mixed_row : (v c : List Glyph) (n w : ℕ) → n + w ≤ length v → length c ≡ length v → pasted (mixed v c n) n (take w (drop n v)) ≡ mixed v c (n + w)
 unfolding pasted
 mixed_row v c n w fits same =
     let front : length (take n v) ≡ n = length-take-le n v (omega arith) in
@@ -35,10 +36,10 @@ mixed_row v c n w fits same =
     let behind : drop (n + w) (take n v ++ drop n c) ≡ drop (n + w) c = sym (drop-drop w n (take n v ++ drop n c)) ∙ ap (drop w) (drop_at (take n v) (drop n c) n front) ∙ drop-drop w n c in
     rw (row, behind, take_at (take n v) (drop n c) n front, take-add n w v) refl
 
-mixed_same : (v c : List Glyph) (n w : ℕ) → take w (drop n v) ≡ take w (drop n c) → mixed v c n ≡ mixed v c (n + w)
+pub mixed_same : (v c : List Glyph) (n w : ℕ) → take w (drop n v) ≡ take w (drop n c) → mixed v c n ≡ mixed v c (n + w)
 mixed_same v c n w e = rw (take-add n w v, e, ← drop-drop w n c) (ap (λ xs. take n v ++ xs) (sym (take-append-drop w (drop n c))) ∙ sym (append_assoc (take n v) (take w (drop n c)) (drop w (drop n c))))
 
-length-mixed : (v c : List Glyph) (n : ℕ) → n ≤ length v → length c ≡ length v → length (mixed v c n) ≡ length v
+pub length-mixed : (v c : List Glyph) (n : ℕ) → n ≤ length v → length c ≡ length v → length (mixed v c n) ≡ length v
 length-mixed v c n h e = omega (arith, length-append (take n v) (drop n c), length-take-le n v h, length-drop n c)
 
 pub mixed_none : (v c : List Glyph) → mixed v c 0 ≡ c
@@ -64,19 +65,24 @@ differing_none w (suc y) a b h = rw (same_by _ _ (h y (omega arith)), differing_
 pub differing-self : (w y : ℕ) (v shadow : List Glyph) → v ≡ shadow → differing w y v shadow ≡ 0
 differing-self w y v shadow e = differing_none w y v shadow (λ i lt. ap (λ xs. row_of w xs i) e)
 
-one_more : (known : Bool) (w y : ℕ) (v shadow : List Glyph) → (known ≡ true → same_cells (row_of w v y) (row_of w shadow y) ≡ false) → rows_to_paint known w (y + 1) v shadow ≡ rows_to_paint known w y v shadow + 1
+pub one_row_more : (known : Bool) (w y : ℕ) (v shadow : List Glyph) → (known ≡ true → same_cells (row_of w v y) (row_of w shadow y) ≡ false) → rows_to_paint known w (y + 1) v shadow ≡ rows_to_paint known w y v shadow + 1
 unfolding differing
-one_more true w y v shadow h = rw (add-one, h refl) refl
-one_more false w y v shadow h = refl
+one_row_more true w y v shadow h = rw (add-one, h refl) refl
+one_row_more false w y v shadow h = refl
 
-no_more : (known : Bool) (w y : ℕ) (v shadow : List Glyph) → known ≡ true → same_cells (row_of w v y) (row_of w shadow y) ≡ true → rows_to_paint known w (y + 1) v shadow ≡ rows_to_paint known w y v shadow
+pub no_more : (known : Bool) (w y : ℕ) (v shadow : List Glyph) → known ≡ true → same_cells (row_of w v y) (row_of w shadow y) ≡ true → rows_to_paint known w (y + 1) v shadow ≡ rows_to_paint known w y v shadow
 unfolding differing
 no_more true w y v shadow k h = rw (add-one, h) (omega arith)
 no_more false w y v shadow k h = cc
 
+pub none_to_paint : (known : Bool) (w : ℕ) (v shadow : List Glyph) → 0 ≡ rows_to_paint known w 0 v shadow
+unfolding differing
+none_to_paint true w v shadow = refl
+none_to_paint false w v shadow = refl
+
 -- ---- one more row
 
-next_row : (y w : ℕ) → (y + 1) * w ≡ y * w + w
+pub next_row : (y w : ℕ) → (y + 1) * w ≡ y * w + w
 next_row y w = omega arith
 
 pub rows_none : (w h : ℕ) (v shadow : List Glyph) (known : Bool) (before : State) (old : List ℕ) → Rows w h v shadow known before old old 0 before
@@ -99,7 +105,7 @@ rows_painted w h y before state after v shadow row was known old mid new rows lt
       let below : y * w + w ≤ h * w = omega (arith, mul-le (y + 1) w h w (omega arith) (omega arith)) in
       let now : row_of w r.to.cells y ≡ row_of w s.cells y = ap (λ xs. row_of w xs y) r.cells ∙ ap (take w) (mixed_behind v s.cells (y * w) (omega arith)) in
       let p : Painted w h y after row mid new r.to = line r.to r.stands r.place lt (λ k. now ∙ ap (λ xs. row_of w xs y) (e k) ∙ sym was_is) in
-      let more = one_more known w y v shadow (λ k. ap (λ z. same_cells z (row_of w shadow y)) (sym row_is) ∙ ap (same_cells row) (sym was_is) ∙ differs k) in
+      let more = one_row_more known w y v shadow (λ k. ap (λ z. same_cells z (row_of w shadow y)) (sym row_is) ∙ ap (same_cells row) (sym was_is) ∙ differs k) in
       record {
         to = p.to;
         count = r.count + p.count;
@@ -169,9 +175,33 @@ row_used out used used' y w k a b c = omega arith
 pub room_left : (out cap used y h w k : ℕ) → used ≤ out + y * (11 + 57 * w) → y < h → out + h * (11 + 57 * w) ≤ cap → k ≤ w → used + 11 + 57 * k ≤ cap
 room_left out cap used y h w k a lt b c = omega (arith, mul-le (y + 1) (11 + 57 * w) h (11 + 57 * w) (omega arith) (omega arith))
 
-pub neither : (a b : Bool) → (a || b) ≡ false → (a ≡ false) × (b ≡ false)
-neither true b h = cc
-neither false b h = (refl, h)
+-- a row that cannot differ stands there already
+pub cannot_differ : (lifted marked result : Bool) (y first : ℕ) → (lifted ≡ true → result ≡ false → y < first) → (lifted ≡ false → result ≡ marked) → result ≡ false → ((lifted ≡ true) × (y < first)) ⊎ ((lifted ≡ false) × (marked ≡ false))
+cannot_differ true marked result y first behind is f = inl (refl, behind refl f)
+cannot_differ false marked result y first behind is f = inr (refl, sym (is refl) ∙ f)
+
+-- ---- the view is kept, row by row
+
+pub part_pasted : (cells row now : List Glyph) (at : ℕ) → at + length row ≤ length cells → now ≡ row → put_mid at (at + length row - at) cells now ≡ pasted cells at row
+unfolding pasted
+part_pasted cells row now at fits is = rw is (same_lists _ _ (grind (arith, places)) (λ k d h. grind (arith, places)))
+
+keeps : (w h y : ℕ) (v old now new row : List Glyph) (wanted : Bool) → y < h → length v ≡ h * w → length old ≡ h * w → now ≡ mixed v old (y * w) → row ≡ take (y * w + w - y * w) (drop (y * w) v) → new ≡ cond wanted (pasted now (y * w) row) now
+    → (wanted ≡ false → row_of w v y ≡ row_of w old y) → new ≡ mixed v old ((y + 1) * w)
+keeps w h y v old now new row true lt long same is row_is new_is equal =
+    let below : y * w + w ≤ h * w = omega (arith, mul-le (y + 1) w h w (omega arith) (omega arith)) in
+    new_is ∙ rw (is, row_is ∙ slice_is y w v, next_row y w) (mixed_row v old (y * w) w (omega (arith, long)) (same ∙ sym long))
+keeps w h y v old now new row false lt long same is row_is new_is equal = new_is ∙ is ∙ rw (next_row y w) (mixed_same v old (y * w) w (equal refl))
+
+pub kept_more : (w h y first : ℕ) (v old now new row : List Glyph) (known lifted mark marked wanted : Bool) → y < h → length v ≡ h * w → length old ≡ h * w → now ≡ mixed v old (y * w) → row ≡ take (y * w + w - y * w) (drop (y * w) v)
+    → new ≡ cond wanted (pasted now (y * w) row) now → wanted ≡ (not known || marked) → (lifted ≡ true → marked ≡ false → y < first) → (lifted ≡ false → marked ≡ mark)
+    → (known ≡ true → lifted ≡ false → mark ≡ false → row_of w v y ≡ row_of w old y) → (known ≡ true → lifted ≡ true → y < first → row_of w v y ≡ row_of w old y) → new ≡ mixed v old ((y + 1) * w)
+kept_more w h y first v old now new row known lifted mark marked wanted lt long same is row_is new_is wanted_is behind is_mark by_mark by_lift =
+    keeps w h y v old now new row wanted lt long same is row_is new_is (λ f. let p = unwanted known marked (sym wanted_is ∙ f) in elim (cannot_differ lifted mark marked y first behind is_mark p.1) [ inl q ↦ by_lift p.0 q.0 q.1 | inr q ↦ by_mark p.0 q.0 q.1 ])
+  where
+    unwanted : (known marked : Bool) → (not known || marked) ≡ false → (known ≡ true) × (marked ≡ false)
+    unwanted true marked e = (refl, e)
+    unwanted false marked e = cc
 
 -- ---- the last rows, where they are blank
 
@@ -188,7 +218,7 @@ emptied_more known w h k y v shadow row was at lt long row_is was_is blank diffe
     let second : drop (y * w + w) v ≡ replicate (k * w) blank_cell = ap (λ z. drop z v) (sym (next_row y w)) ∙ rw m at rest in
     let split : drop (y * w) v ≡ row_of w v y ++ drop (y * w + w) v = sym (take-append-drop w (drop (y * w) v)) ∙ ap (λ z. row_of w v y ++ z) (drop-drop w (y * w) v) in
     let size : w + k * w ≡ (k + 1) * w = omega arith in
-    let more = one_more known w y v shadow (λ t. ap (λ z. same_cells z (row_of w shadow y)) (sym ry) ∙ ap (same_cells row) (sym wy) ∙ differs t) in
+    let more = one_row_more known w y v shadow (λ t. ap (λ z. same_cells z (row_of w shadow y)) (sym ry) ∙ ap (same_cells row) (sym wy) ∙ differs t) in
     let c2 : rows_to_paint known w h v shadow ≡ rows_to_paint known w y v shadow + 1 + k = (rw m at count) ∙ ap (λ z. z + k) more in
     (rw n (split ∙ rw (first, second) (replicate-append-replicate w (k * w) blank_cell ∙ ap (λ z. replicate z blank_cell) size)), rw n (omega arith))
 

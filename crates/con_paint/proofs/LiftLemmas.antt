@@ -1,6 +1,5 @@
 -- Rows that are lifted.
 use Rattle.std.proofs.Common.{◌≡◌, ℕ, zero, suc, ◌+◌, ◌-◌, ◌*◌, ◌<◌, ◌≤◌, Bool, true, false, cond, ◌&&◌, ◌||◌, not, inl, inr, nat_lt, min, List, [], ◌∷◌, ◌++◌, append_assoc, get_or, set, length, take, drop, replicate, refl, sym, ap, ◌∙◌, arith, length-append, length-drop, below_more}
-use Rattle.std.proofs.lemmas.Grind.{common_steps}
 use Rattle.std.proofs.lemmas.Nat.{mul-le}
 use Rattle.std.proofs.lemmas.Grind.{replicate_next}
 use Rattle.std.proofs.Math.Seq.{set-append_seam}
@@ -15,10 +14,11 @@ use Rattle.con_term.specs.Effect.{lifted}
 use Rattle.con_paint.specs.Leads.{Leads}
 use Rattle.con_paint.specs.Ink.{pen_for}
 use Rattle.con_paint.specs.Compared.{same_cells, differing, IsLifted}
-use Rattle.con_paint.specs.Lift.{IsLeast, Lifts, lifted_cells}
+use Rattle.con_paint.specs.Lift.{IsLeastBelow, Lifts, lifted_cells}
 use Rattle.con_paint.proofs.LeadLemmas.{leads_then, leads-none}
 use Rattle.con_paint.proofs.SameLemmas.{are_same, same_by}
-use Rattle.con_paint.proofs.FrameLemmas.{must_differ, must_equal, slice_is, small_pen, differing_none, differing-self}
+use Rattle.con_paint.specs.Frame.{rows_to_paint}
+use Rattle.con_paint.proofs.FrameLemmas.{must_differ, must_equal, one_row_more, no_more, slice_is, small_pen, differing_none, differing-self}
 
 pub here : (w h k : ℕ) (v old : List Glyph) (b : Bool) → length v ≡ h * w → b ≡ same_cells (take (length v - k * w) v) (drop (k * w) old) → b ≡ true → IsLifted w h k v old
 here w h k v old b long e t = rw (← long) (are_same _ _ (sym e ∙ t))
@@ -29,22 +29,21 @@ not_here w h k v old b long e f is = let same : same_cells (take (length v - k *
 pub lower_more : (w h k : ℕ) (v old : List Glyph) → ((j : ℕ) → 0 < j → j < k → IsLifted w h j v old → ⊥) → (IsLifted w h k v old → ⊥) → (j : ℕ) → 0 < j → j < k + 1 → IsLifted w h j v old → ⊥
 lower_more w h k v old below now j some lt is = below_more (λ i. 0 < i → IsLifted w h i v old → ⊥) k (λ i l p q. below i p l q) (λ p q. now q) j lt some is
 
-pub whole_lift : (w h : ℕ) (v old : List Glyph) → length old ≡ h * w → IsLifted w h h v old
-whole_lift w h v old e = let none : h * w - h * w ≡ 0 = omega arith in rw (none, ← e) (grind (arith, common_steps))
-
-pub count_turn : (w y count : ℕ) (v shadow row was : List Glyph) (marked paint : Bool) → count ≡ differing w y v shadow → row ≡ take (y * w + w - y * w) (drop (y * w) v) → was ≡ take (y * w + w - y * w) (drop (y * w) shadow)
-    → paint ≡ (not true || (marked && not (same_cells row was))) → (marked ≡ false → row_of w v y ≡ row_of w shadow y) → count + cond paint 1 0 ≡ differing w (y + 1) v shadow
-unfolding differing
-count_turn w y count v shadow row was marked true h row_is was_is e equal =
-    let differ : same_cells (row_of w v y) (row_of w shadow y) ≡ false = rw (row_is ∙ slice_is y w v, was_is ∙ slice_is y w shadow) at (must_differ true marked (same_cells row was) e refl) in
-    let e1 : y + 1 ≡ suc y = omega arith in rw (e1, differ, h) refl
-count_turn w y count v shadow row was marked false h row_is was_is e equal =
-    let same : row_of w v y ≡ row_of w shadow y = elim (must_equal true marked (same_cells row was) e).1 [ inl f ↦ equal f | inr t ↦ sym (row_is ∙ slice_is y w v) ∙ are_same row was t ∙ was_is ∙ slice_is y w shadow ] in
-    let e1 : y + 1 ≡ suc y = omega arith in rw (e1, same_by _ _ same, h) refl
+pub count_turn : (known : Bool) (w y count : ℕ) (v shadow row was : List Glyph) (marked paint : Bool) → count ≡ rows_to_paint known w y v shadow → row ≡ take (y * w + w - y * w) (drop (y * w) v) → was ≡ take (y * w + w - y * w) (drop (y * w) shadow)
+    → paint ≡ (not known || (marked && not (same_cells row was))) → (known ≡ true → marked ≡ false → row_of w v y ≡ row_of w shadow y) → count + cond paint 1 0 ≡ rows_to_paint known w (y + 1) v shadow
+count_turn known w y count v shadow row was marked true h row_is was_is e equal =
+    rw h (sym (one_row_more known w y v shadow (λ k. rw (row_is ∙ slice_is y w v, was_is ∙ slice_is y w shadow) at (must_differ known marked (same_cells row was) e k))))
+count_turn known w y count v shadow row was marked false h row_is was_is e equal =
+    let m = must_equal known marked (same_cells row was) e in
+    let same : row_of w v y ≡ row_of w shadow y = elim m.1 [ inl f ↦ equal m.0 f | inr t ↦ sym (row_is ∙ slice_is y w v) ∙ are_same row was t ∙ was_is ∙ slice_is y w shadow ] in
+    rw h (plus_none _ ∙ sym (no_more known w y v shadow m.0 (same_by _ _ same)))
+  where
+    plus_none : (n : ℕ) → n + 0 ≡ n
+    plus_none n = omega arith
 
 -- ---- how many rows differ from the lifted ones
 
-prefix_row : (n y w : ℕ) (a b : List Glyph) → take n a ≡ take n b → y * w + w ≤ n → row_of w a y ≡ row_of w b y
+pub prefix_row : (n y w : ℕ) (a b : List Glyph) → take n a ≡ take n b → y * w + w ≤ n → row_of w a y ≡ row_of w b y
 prefix_row n y w a b e fits =
     let one : (xs : List Glyph) → row_of w xs y ≡ drop (y * w) (take (y * w + w) (take n xs)) = λ xs. sym (rw take-take (drop-take (y * w) w xs)) in
     one a ∙ ap (λ xs. drop (y * w) (take (y * w + w) xs)) e ∙ sym (one b)
@@ -58,12 +57,19 @@ unfolding differing
 differing_behind w y zero a b = let e : y + 0 ≡ y = omega arith in rw e (omega arith)
 differing_behind w y (suc k) a b = let e : y + suc k ≡ suc (y + k) = omega arith in rw e (omega (arith, differing_behind w y k a b, at_most_one (same_cells (row_of w a (y + k)) (row_of w b (y + k)))))
 
-pub differing_lifted : (w h k : ℕ) (v was : List Glyph) → IsLifted w h k v was → k ≤ h → length was ≡ h * w → differing w h v (lifted_cells was (k * w)) ≤ k
-differing_lifted w h k v was is most long =
+same_front : (w h k : ℕ) (v was : List Glyph) → IsLifted w h k v was → k ≤ h → length was ≡ h * w → take (h * w - k * w) v ≡ take (h * w - k * w) (lifted_cells was (k * w))
+same_front w h k v was is most long =
     let below : k * w ≤ h * w = mul-le k w h w most (omega arith) in
     let front : length (drop (k * w) was) ≡ h * w - k * w = omega (arith, length-drop (k * w) was) in
-    let same : take (h * w - k * w) v ≡ take (h * w - k * w) (lifted_cells was (k * w)) = is ∙ sym (take_at (drop (k * w) was) (replicate (k * w) blank_cell) (h * w - k * w) front) in
-    let none : differing w (h - k) v (lifted_cells was (k * w)) ≡ 0 = differing_none w (h - k) v (lifted_cells was (k * w)) (λ i lt. prefix_row (h * w - k * w) i w v (lifted_cells was (k * w)) same (omega (arith, mul-le (i + 1 + k) w h w (omega arith) (omega arith)))) in
+    is ∙ sym (take_at (drop (k * w) was) (replicate (k * w) blank_cell) (h * w - k * w) front)
+
+-- the rows above those that come are the view's
+front_row : (w h k y : ℕ) (v was : List Glyph) → IsLifted w h k v was → k ≤ h → length was ≡ h * w → y < h - k → row_of w v y ≡ row_of w (lifted_cells was (k * w)) y
+front_row w h k y v was is most long lt = prefix_row (h * w - k * w) y w v (lifted_cells was (k * w)) (same_front w h k v was is most long) (omega (arith, mul-le (y + 1 + k) w h w (omega arith) (omega arith)))
+
+pub differing_lifted : (w h k : ℕ) (v was : List Glyph) → IsLifted w h k v was → k ≤ h → length was ≡ h * w → differing w h v (lifted_cells was (k * w)) ≤ k
+differing_lifted w h k v was is most long =
+    let none : differing w (h - k) v (lifted_cells was (k * w)) ≡ 0 = differing_none w (h - k) v (lifted_cells was (k * w)) (λ i lt. front_row w h k i v was is most long lt) in
     let e : h - k + k ≡ h = omega arith in
     let few = differing_behind w (h - k) k v (lifted_cells was (k * w)) in
     omega (arith, none, rw e at few)
@@ -79,13 +85,15 @@ scrolls a b c s by w h ew eh most first second =
 length-lifted : (was : List Glyph) (count n : ℕ) → length was ≡ n → count ≤ n → length (lifted_cells was count) ≡ n
 length-lifted was count n e h = omega (arith, length-append (drop count was) (replicate count blank_cell), length-drop count was, length-replicate count blank_cell)
 
-pub stays : (w h rows : ℕ) (v was : List Glyph) (before : Attribute) (old : List ℕ) → length was ≡ h * w → (v ≡ was → rows ≡ 0) → ((k : ℕ) → 0 < k → k ≤ h → IsLifted w h k v was → differing w h v was ≤ k)
+pub stays : (w h rows : ℕ) (v was : List Glyph) (before : Attribute) (old : List ℕ) → length was ≡ h * w → rows ≤ h → (v ≡ was → rows ≡ 0) → ((k : ℕ) → 0 < k → k ≤ h → IsLifted w h k v was → differing w h v was ≤ k)
     → Lifts w h true v was was before before false rows old old
-stays w h rows v was before old long none few = record {
+stays w h rows v was before old long most none few = record {
   leads = λ s st p e. (s.cells, rw (← p refl) (leads-none old s), st.page.cells ∙ rw (st.wide, st.high) refl, e);
   pen = λ p. p refl;
   same = λ f. refl;
   size = long;
+  inside = most;
+  front = λ k f. absurd (cc);
   few = λ k. omega arith;
   lifted = λ k. few;
   quiet = λ k e. (refl, refl, refl, none e);
@@ -98,6 +106,8 @@ begun w h v was before old new long go = record {
   pen = λ p. small_pen;
   same = λ f. refl;
   size = long;
+  inside = omega arith;
+  front = λ k. absurd (cc);
   few = λ k. omega arith;
   lifted = λ k. absurd (cc);
   quiet = λ k. absurd (cc);
@@ -106,24 +116,27 @@ begun w h v was before old new long go = record {
 pub no_rows : (w h rows : ℕ) (v was : List Glyph) → rows ≡ differing w h v was → v ≡ was → rows ≡ 0
 no_rows w h rows v was e same = e ∙ differing-self w h v was same
 
-pub few_by : (w h least rows : ℕ) (v was : List Glyph) → IsLeast w h v was least → rows ≡ differing w h v was → rows ≤ least → (k : ℕ) → 0 < k → k ≤ h → IsLifted w h k v was → differing w h v was ≤ k
+pub few_by : (w h least rows : ℕ) (v was : List Glyph) → IsLeastBelow w h rows v was least → rows ≡ differing w h v was → rows ≤ least → (k : ℕ) → 0 < k → k ≤ h → IsLifted w h k v was → differing w h v was ≤ k
 few_by w h least rows v was is e le k some most lift = by_order (nat_lt k least) refl
   where
     by_order : (b : Bool) → nat_lt k least ≡ b → differing w h v was ≤ k
     by_order true t = absurd (is.least k some (grind (arith, nat_tests)) lift)
     by_order false t = let ge : least ≤ k = grind (arith, nat_tests) in omega (arith, e, le, ge)
 
-pub moves : (w h least rows : ℕ) (v was now : List Glyph) (before : Attribute) (old new : List ℕ) → length was ≡ h * w → IsLeast w h v was least → rows ≡ differing w h v was → least < rows → now ≡ lifted_cells was (least * w)
+pub moves : (w h least rows : ℕ) (v was now : List Glyph) (before : Attribute) (old new : List ℕ) → length was ≡ h * w → rows ≤ h → IsLeastBelow w h rows v was least → rows ≡ differing w h v was → least < rows → now ≡ lifted_cells was (least * w)
     → ((s : Page) → s.w ≡ w → s.h ≡ h → s.pen ≡ pen_for before → Leads old new s (record s { cells = lifted_cells s.cells (least * w); pen = pen_for (plain 7) }) 0)
     → Lifts w h true v was now before (plain 7) true least old new
-moves w h least rows v was now before old new long is e lt now_is go =
-    let below : least * w ≤ h * w = mul-le least w h w is.most (omega arith) in
-    let few : differing w h v now ≤ least = rw now_is (differing_lifted w h least v was is.is is.most long) in
+moves w h least rows v was now before old new long most is e lt now_is go =
+    let within : least ≤ h = omega arith in
+    let below : least * w ≤ h * w = mul-le least w h w within (omega arith) in
+    let few : differing w h v now ≤ least = rw now_is (differing_lifted w h least v was (is.is lt) within long) in
     record {
       leads = λ s st p k. (lifted_cells s.cells (least * w), go s st.wide st.high (p refl), length-lifted s.cells (least * w) (h * w) (st.page.cells ∙ rw (st.wide, st.high) refl) below, λ t. rw (k t) (sym now_is));
       pen = λ p. small_pen;
       same = λ f. cc;
       size = ap length now_is ∙ length-lifted was (least * w) (h * w) long below;
+      inside = within;
+      front = λ k t y less. rw now_is (front_row w h least y v was (is.is lt) within long less);
       few = λ k. omega arith;
       lifted = λ t k some most lift. at_least k (nat_lt k least) refl some lift few;
       quiet = λ t same. absurd (omega (arith, differing-self w h v was same, e, lt));

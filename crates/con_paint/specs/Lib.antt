@@ -15,6 +15,7 @@ pub mod Paint
 pub mod Frame
 pub mod Span
 pub mod Rest
+pub mod Checksum
 pub mod Lift
 pub mod Placed
 pub mod Drawn

@@ -1,7 +1,8 @@
 -- Frames that lift the rows of a terminal.
-use Rattle.std.specs.Prelude.{ℕ, ◌*◌, ◌<◌, ◌≤◌, ◌≡◌, Bool, true, false, List, ◌++◌, length, drop, replicate}
+use Rattle.std.specs.Prelude.{ℕ, ◌-◌, ◌*◌, ◌<◌, ◌≤◌, ◌≡◌, Bool, true, false, List, ◌++◌, length, drop, replicate}
 use Rattle.con_units.specs.Attr.{Attribute}
 use Rattle.con_units.specs.Glyph.{Glyph, blank_cell}
+use Rattle.con_units.specs.View.{row_of}
 use Rattle.con_term.specs.Pen.{IsPen}
 use Rattle.con_term.specs.Page.{Page}
 use Rattle.con_paint.specs.Leads.{Leads}
@@ -13,11 +14,11 @@ use Rattle.con_paint.specs.Frame.{Sized}
 abbrev pub lifted_cells : List Glyph → ℕ → List Glyph
 lifted_cells cells count = drop count cells ++ replicate count blank_cell
 
--- the least k by which the rows are lifted
-pub record IsLeast (w h : ℕ) (v old : List Glyph) (k : ℕ) : Type 0 where
+-- the least k below n by which the rows are lifted, or n
+pub record IsLeastBelow (w h n : ℕ) (v old : List Glyph) (k : ℕ) : Type 0 where
   pub some : 0 < k
-  pub most : k ≤ h
-  pub is : IsLifted w h k v old
+  pub most : k ≤ n
+  pub is : k < n → IsLifted w h k v old
   pub least : (j : ℕ) → 0 < j → j < k → IsLifted w h j v old → ⊥
 
 -- the bytes bring a terminal to a known pen, and lift its rows or not
@@ -26,6 +27,8 @@ pub record Lifts (w h : ℕ) (known : Bool) (v was now : List Glyph) (before ink
   pub pen : (known ≡ true → IsPen (pen_for before)) → IsPen (pen_for ink)
   pub same : every ≡ false → now ≡ was
   pub size : length now ≡ h * w
+  pub inside : rows ≤ h
+  pub front : known ≡ true → every ≡ true → (y : ℕ) → y < h - rows → row_of w v y ≡ row_of w now y
   pub few : known ≡ true → differing w h v now ≤ differing w h v was
   pub lifted : known ≡ true → (k : ℕ) → 0 < k → k ≤ h → IsLifted w h k v was → differing w h v now ≤ k
   pub quiet : known ≡ true → v ≡ was → (new ≡ old) × (now ≡ was) × (ink ≡ before) × (rows ≡ 0)

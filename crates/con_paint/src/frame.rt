@@ -1,5 +1,5 @@
 //! The part of a frame behind its begin: the rows, and the cursor.
-ghost use Rattle.std.specs.Prelude.{◌≡◌, ◌+◌, ◌*◌, ◌<◌, ◌≤◌, ℕ, true, false, length, slice_index_or, if◌then◌else◌};
+ghost use Rattle.std.specs.Prelude.{◌≡◌, ◌+◌, ◌-◌, ◌*◌, ◌<◌, ◌≤◌, ℕ, true, false, length, slice_index_or, if◌then◌else◌};
 ghost use Rattle.std.specs.Vec.{vec_len, vec_capacity};
 ghost use Rattle.con_units.specs.View.{row_of, IsWhole};
 ghost use Rattle.con_term.specs.Page.{Page};
@@ -129,7 +129,9 @@ pub(crate) fn draw(
 ) -> State
     requires few { (0 < size.w) × (size.w ≤ 512) × (size.h ≤ 256) }
     requires lengths { (length cells.now ≡ size.h * size.w) × (length shadow.now ≡ size.h * size.w) × (length marks.now ≡ size.h) }
+    requires few_rows { lifting.rows ≤ size.h }
     requires marked { known ≡ true → lifting.lifted ≡ false → (y : ℕ) → y < size.h → slice_index_or marks.now y false ≡ false → row_of size.w cells.now y ≡ row_of size.w shadow.now y }
+    requires lifted { known ≡ true → lifting.lifted ≡ true → (y : ℕ) → y < size.h - lifting.rows → row_of size.w cells.now y ≡ row_of size.w shadow.now y }
     requires small { (caret.x < 999) × (caret.y < 999) }
     requires room { vec_len out.old + 80 + size.h * (11 + 57 * size.w) ≤ vec_capacity out.old }
     ensures drawn { (s : Page) → Stands size.w size.h lifting.attr s → IsAt spot s → (known ≡ true → (s.cells ≡ shadow.now) × (s.visible ≡ was)) → (caret.visible ≡ true → (caret.x < size.w) × (caret.y < size.h)) → Drawn size.w size.h cells.now (size.w * rows_to_paint known size.w size.h cells.now shadow.now) caret result out.old.items out.new.items s }
@@ -138,14 +140,25 @@ pub(crate) fn draw(
     ensures capacity { vec_capacity out.new ≡ vec_capacity out.old }
     ensures few { vec_len out.new ≤ vec_len out.old + 80 + size.h * (11 + 57 * size.w) }
 {
-    let tail = tail_of(cells, shadow, known, size);
+    let tail = tail_of(cells, shadow, known, size, lifting.rows);
     let many = is_many(lifting.rows, size.h - tail);
     let hidden = must_hide(known, many, was, caret.visible);
     turn_if(out, hidden, false);
     let attr = lifting.attr;
     let before = State { attr, spot };
-    let every = lifting.lifted;
-    let after = rows(out, cells, shadow, marks, every, known, size, tail, before);
+    let first = size.h - lifting.rows;
+    let after = rows(
+        out,
+        cells,
+        shadow,
+        marks,
+        lifting.lifted,
+        first,
+        known,
+        size,
+        tail,
+        before,
+    );
     let end = finish(out, known, hidden, was, after.spot, caret);
     State {
         attr: after.attr,

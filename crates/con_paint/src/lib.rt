@@ -14,6 +14,7 @@
 #![tactic(auto)]
 
 pub mod cells;
+pub mod checksum;
 pub mod columns;
 pub mod emit;
 pub mod frame;

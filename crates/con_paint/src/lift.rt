@@ -7,10 +7,13 @@ ghost use Rattle.con_units.specs.View.{row_of};
 ghost use Rattle.con_term.specs.Page.{Page};
 ghost use Rattle.con_paint.specs.Leads.{Leads};
 ghost use Rattle.con_paint.specs.Ink.{pen_for};
+ghost use Rattle.con_paint.specs.Checksum.{IsSummed, AreSummed};
 ghost use Rattle.con_paint.specs.Compared.{same_cells, differing, IsLifted};
-ghost use Rattle.con_paint.specs.Lift.{IsLeast, Lifts, lifted_cells};
+ghost use Rattle.con_paint.specs.Frame.{rows_to_paint};
+ghost use Rattle.con_paint.specs.Lift.{IsLeastBelow, Lifts, lifted_cells};
 
 use crate::cells::same;
+use crate::checksum::{Checksums, agree, renewed};
 use crate::emit::{ground, up};
 use crate::pen::choose;
 use crate::rows::differs;
@@ -26,26 +29,40 @@ pub(crate) struct Lifting {
 }
 
 // Whether the cells are the old ones, that many places on.
-fn is_lifted(cells: &[Cell], shadow: &[Cell], by: usize) -> bool
+fn is_moved(cells: &[Cell], shadow: &[Cell], by: usize) -> bool
     requires { (by ≤ length shadow.now) × (length cells.now ≡ length shadow.now) }
     ensures { result ≡ same_cells (take (length cells.now - by) cells.now) (drop by shadow.now) }
 {
     same(&cells[..cells.len() - by], &shadow[by..])
 }
 
-// The least number of rows by which the old ones are lifted.
-fn least_lift(cells: &[Cell], shadow: &[Cell], size: Size) -> u16
-    requires few { (size.w ≤ 512) × (size.h ≤ 256) × (0 < size.h) }
+// Whether the rows are the old ones lifted by a count of rows. Cells are compared where the rows' checksums agree.
+fn is_lifted(cells: &[Cell], shadow: &[Cell], sums: &[Checksums], by: u16, size: Size) -> bool
+    requires few { (size.w ≤ 512) × (size.h ≤ 256) × (by ≤ size.h) }
     requires lengths { (length cells.now ≡ size.h * size.w) × (length shadow.now ≡ size.h * size.w) }
-    ensures { IsLeast size.w size.h cells.now shadow.now result }
+    requires summed { AreSummed true size.w size.h cells.now shadow.now sums.now }
+    ensures is { result ≡ true → IsLifted size.w size.h by cells.now shadow.now }
+    ensures not { result ≡ false → IsLifted size.w size.h by cells.now shadow.now → ⊥ }
 {
-    let width = size.w as usize;
-    for k in 1..size.h {
-        if is_lifted(cells, shadow, k as usize * width) {
+    if !agree(sums, by as usize) {
+        return false;
+    }
+    is_moved(cells, shadow, by as usize * size.w as usize)
+}
+
+// The least number of rows, below a number of them, by which the old ones are lifted, or that number.
+fn least_lift(cells: &[Cell], shadow: &[Cell], sums: &[Checksums], rows: u16, size: Size) -> u16
+    requires few { (size.w ≤ 512) × (size.h ≤ 256) × (0 < rows) × (rows ≤ size.h) }
+    requires lengths { (length cells.now ≡ size.h * size.w) × (length shadow.now ≡ size.h * size.w) }
+    requires summed { AreSummed true size.w size.h cells.now shadow.now sums.now }
+    ensures { IsLeastBelow size.w size.h rows cells.now shadow.now result }
+{
+    for k in 1..rows {
+        if is_lifted(cells, shadow, sums, k, size) {
             return k;
         }
     }
-    size.h
+    rows
 }
 
 fn plus_if(count: u16, one: bool) -> u16
@@ -55,12 +72,22 @@ fn plus_if(count: u16, one: bool) -> u16
     if one { count + 1 } else { count }
 }
 
-// How many rows differ.
-fn count(cells: &[Cell], shadow: &[Cell], marks: &[bool], size: Size) -> u16
+// How many rows are to be painted. Each gets its checksums.
+fn count_rows(
+    sums: &mut [Checksums],
+    cells: &[Cell],
+    shadow: &[Cell],
+    marks: &[bool],
+    known: bool,
+    size: Size,
+) -> u16
     requires few { (size.w ≤ 512) × (size.h ≤ 256) }
     requires lengths { (length cells.now ≡ size.h * size.w) × (length shadow.now ≡ size.h * size.w) × (length marks.now ≡ size.h) }
-    requires marked { (y : ℕ) → y < size.h → slice_index_or marks.now y false ≡ false → row_of size.w cells.now y ≡ row_of size.w shadow.now y }
-    ensures { result ≡ differing size.w size.h cells.now shadow.now }
+    requires marked { known ≡ true → (y : ℕ) → y < size.h → slice_index_or marks.now y false ≡ false → row_of size.w cells.now y ≡ row_of size.w shadow.now y }
+    requires summed { IsSummed known size.w size.h shadow.now sums.old }
+    ensures count { result ≡ rows_to_paint known size.w size.h cells.now shadow.now }
+    ensures few { result ≤ size.h }
+    ensures summed { AreSummed known size.w size.h cells.now shadow.now sums.new }
 {
     let width = size.w as usize;
     let mut count = 0;
@@ -68,9 +95,31 @@ fn count(cells: &[Cell], shadow: &[Cell], marks: &[bool], size: Size) -> u16
         let from = y as usize * width;
         let row = &cells[from..from + width];
         let was = &shadow[from..from + width];
-        count = plus_if(count, differs(true, marks[y as usize], row, was));
+        let differ = differs(known, marks[y as usize], row, was);
+        sums[y as usize] = renewed(sums[y as usize], differ, row);
+        count = plus_if(count, differ);
     }
     count
+}
+
+/// How many rows are to be painted: those that differ, or all where nothing is known. Each row gets its checksums.
+pub(crate) fn count(
+    sums: &mut Vec<Checksums>,
+    cells: &[Cell],
+    shadow: &[Cell],
+    marks: &[bool],
+    known: bool,
+    size: Size,
+) -> u16
+    requires few { (size.w ≤ 512) × (size.h ≤ 256) }
+    requires lengths { (length cells.now ≡ size.h * size.w) × (length shadow.now ≡ size.h * size.w) × (length marks.now ≡ size.h) }
+    requires marked { known ≡ true → (y : ℕ) → y < size.h → slice_index_or marks.now y false ≡ false → row_of size.w cells.now y ≡ row_of size.w shadow.now y }
+    requires summed { IsSummed known size.w size.h shadow.now sums.old.items }
+    ensures count { result ≡ rows_to_paint known size.w size.h cells.now shadow.now }
+    ensures few { result ≤ size.h }
+    ensures summed { AreSummed known size.w size.h cells.now shadow.now sums.new.items }
+{
+    count_rows(sums.as_mut_slice(), cells, shadow, marks, known, size)
 }
 
 // Makes all cells blank.
@@ -124,19 +173,21 @@ fn lift_by_least(
     out: &mut Vec<u8>,
     shadow: &mut Vec<Cell>,
     cells: &[Cell],
+    sums: &[Checksums],
     rows: u16,
     size: Size,
     before: Attr,
 ) -> Lifting
-    requires few { (size.w ≤ 512) × (size.h ≤ 256) × (0 < size.h) }
+    requires few { (size.w ≤ 512) × (size.h ≤ 256) × (0 < rows) × (rows ≤ size.h) }
     requires lengths { (length cells.now ≡ size.h * size.w) × (length shadow.old.items ≡ size.h * size.w) }
     requires rows { rows ≡ differing size.w size.h cells.now shadow.old.items }
+    requires summed { AreSummed true size.w size.h cells.now shadow.old.items sums.now }
     requires room { vec_len out.old + 50 ≤ vec_capacity out.old }
     ensures lifts { Lifts size.w size.h true cells.now shadow.old.items shadow.new.items before result.attr result.lifted result.rows out.old.items out.new.items }
     ensures capacity { vec_capacity out.new ≡ vec_capacity out.old }
     ensures few { vec_len out.new ≤ vec_len out.old + 50 }
 {
-    let least = least_lift(cells, shadow.as_slice(), size);
+    let least = least_lift(cells, shadow.as_slice(), sums, rows, size);
     if rows <= least {
         return stay(before, rows);
     }
@@ -148,52 +199,55 @@ fn lift_by_least(
     }
 }
 
-/// Lifts the rows of a terminal, and the cells, where that saves rows.
-pub(crate) fn lift_if(
+/// Lifts the rows of a terminal, and the cells, where that saves rows of those that differ.
+fn lift_if(
     out: &mut Vec<u8>,
     shadow: &mut Vec<Cell>,
     cells: &[Cell],
-    marks: &[bool],
+    sums: &[Checksums],
+    rows: u16,
     size: Size,
     before: Attr,
 ) -> Lifting
-    requires few { (size.w ≤ 512) × (size.h ≤ 256) × (0 < size.h) }
-    requires lengths { (length cells.now ≡ size.h * size.w) × (length shadow.old.items ≡ size.h * size.w) × (length marks.now ≡ size.h) }
-    requires marked { (y : ℕ) → y < size.h → slice_index_or marks.now y false ≡ false → row_of size.w cells.now y ≡ row_of size.w shadow.old.items y }
+    requires few { (size.w ≤ 512) × (size.h ≤ 256) × (rows ≤ size.h) }
+    requires lengths { (length cells.now ≡ size.h * size.w) × (length shadow.old.items ≡ size.h * size.w) }
+    requires rows { rows ≡ differing size.w size.h cells.now shadow.old.items }
+    requires summed { AreSummed true size.w size.h cells.now shadow.old.items sums.now }
     requires room { vec_len out.old + 50 ≤ vec_capacity out.old }
     ensures lifts { Lifts size.w size.h true cells.now shadow.old.items shadow.new.items before result.attr result.lifted result.rows out.old.items out.new.items }
     ensures capacity { vec_capacity out.new ≡ vec_capacity out.old }
     ensures few { vec_len out.new ≤ vec_len out.old + 50 }
 {
-    let rows = count(cells, shadow.as_slice(), marks, size);
     if rows < 2 {
         stay(before, rows)
     } else {
-        lift_by_least(out, shadow, cells, rows, size, before)
+        lift_by_least(out, shadow, cells, sums, rows, size, before)
     }
 }
 
-/// Begins a frame: a terminal that nothing is known of is brought to known ground; the rows of another are lifted, and the
-/// cells, where that saves rows.
+/// Begins a frame of which so many rows are to be painted: a terminal that nothing is known of is brought to known ground;
+/// the rows of another are lifted, and the cells, where that saves rows.
 pub(crate) fn begin(
     out: &mut Vec<u8>,
     shadow: &mut Vec<Cell>,
     cells: &[Cell],
-    marks: &[bool],
+    sums: &[Checksums],
+    rows: u16,
     known: bool,
     size: Size,
     before: Attr,
 ) -> Lifting
-    requires few { (size.w ≤ 512) × (size.h ≤ 256) × (0 < size.h) }
-    requires lengths { (length cells.now ≡ size.h * size.w) × (length shadow.old.items ≡ size.h * size.w) × (length marks.now ≡ size.h) }
-    requires marked { known ≡ true → (y : ℕ) → y < size.h → slice_index_or marks.now y false ≡ false → row_of size.w cells.now y ≡ row_of size.w shadow.old.items y }
+    requires few { (size.w ≤ 512) × (size.h ≤ 256) × (rows ≤ size.h) }
+    requires lengths { (length cells.now ≡ size.h * size.w) × (length shadow.old.items ≡ size.h * size.w) }
+    requires rows { rows ≡ rows_to_paint known size.w size.h cells.now shadow.old.items }
+    requires summed { AreSummed known size.w size.h cells.now shadow.old.items sums.now }
     requires room { vec_len out.old + 53 ≤ vec_capacity out.old }
     ensures lifts { Lifts size.w size.h known cells.now shadow.old.items shadow.new.items before result.attr result.lifted result.rows out.old.items out.new.items }
     ensures capacity { vec_capacity out.new ≡ vec_capacity out.old }
     ensures few { vec_len out.new ≤ vec_len out.old + 53 }
 {
     if known {
-        lift_if(out, shadow, cells, marks, size, before)
+        lift_if(out, shadow, cells, sums, rows, size, before)
     } else {
         ground(out);
         stay(plain_attr(), size.h)

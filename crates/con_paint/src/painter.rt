@@ -1,13 +1,17 @@
 //! The painter.
-ghost use Rattle.std.specs.Prelude.{◌≡◌, ◌+◌, ◌*◌, ◌<◌, ◌≤◌, ℕ, true, false, ◌++◌, length, drop, slice_index_or, IfOk, MatchResult};
+ghost use Rattle.std.specs.Prelude.{◌≡◌, ◌+◌, ◌-◌, ◌*◌, ◌<◌, ◌≤◌, ℕ, true, false, ◌++◌, length, drop, slice_index_or, if◌then◌else◌, IfOk, MatchResult};
 ghost use Rattle.std.specs.Vec.{vec_len, vec_capacity};
 ghost use Rattle.con_units.specs.View.{row_of, IsWhole};
 ghost use Rattle.con_units.specs.Limits.{IsWindow};
 ghost use Rattle.con_term.specs.Terminal.{Terminal};
+ghost use Rattle.con_paint.specs.Paint.{pasted};
 ghost use Rattle.con_paint.specs.Painter.{Allows, IsShown, Paints, frame_room, unpainted};
 
+use crate::checksum::Checksums;
+use crate::emit::either;
 use crate::frame::{caret_of, draw};
-use crate::lift::begin;
+use crate::lift::{begin, count};
+use crate::rows::may_differ;
 use crate::span::{blank, plain_attr};
 use crate::spot::{NOWHERE, Spot, spot_if};
 use con_units::{Attr, Cell, Marks, OutOfMemory, Size, View};
@@ -20,6 +24,7 @@ pub struct Painter {
     size: Size,
     known: bool,
     shadow: Vec<Cell>,
+    sums: Vec<Checksums>,
     attr: Attr,
     spot: Spot,
     visible: bool,
@@ -56,12 +61,78 @@ fn blanks(alloc: Global, size: Size) -> Result<Vec<Cell>, OutOfMemory>
     }
 }
 
+// Checksums for all rows of a size.
+fn no_sums(alloc: Global, size: Size) -> Result<Vec<Checksums>, OutOfMemory>
+    ensures { IfOk result (λ sums. length sums.items ≡ size.h) }
+{
+    match Vec::from_elem(alloc, Checksums { was: 0, now: 0 }, size.h as usize) {
+        Ok(sums) => Ok(sums),
+        Err(_) => Err(OutOfMemory),
+    }
+}
+
+// Copies a row to a place, where it is wanted.
+fn copy_if(shadow: &mut [Cell], wanted: bool, at: usize, row: &[Cell])
+    requires { at + length row.now ≤ length shadow.old }
+    ensures { shadow.new ≡ (if wanted then pasted shadow.old at row.now else shadow.old) }
+{
+    if wanted {
+        shadow[at..at + row.len()].copy_from_slice(row);
+    }
+}
+
+// Makes the cells those of a view, row by row, where they may differ.
+fn keep_rows(
+    shadow: &mut [Cell],
+    cells: &[Cell],
+    marks: &[bool],
+    known: bool,
+    lifted: bool,
+    rows: u16,
+    size: Size,
+)
+    requires few { (size.w ≤ 512) × (size.h ≤ 256) × (rows ≤ size.h) }
+    requires lengths { (length cells.now ≡ size.h * size.w) × (length shadow.old ≡ size.h * size.w) × (length marks.now ≡ size.h) }
+    requires marked { known ≡ true → lifted ≡ false → (y : ℕ) → y < size.h → slice_index_or marks.now y false ≡ false → row_of size.w cells.now y ≡ row_of size.w shadow.old y }
+    requires lifted { known ≡ true → lifted ≡ true → (y : ℕ) → y < size.h - rows → row_of size.w cells.now y ≡ row_of size.w shadow.old y }
+    ensures { shadow.new ≡ cells.now }
+{
+    let width = size.w as usize;
+    let first = size.h - rows;
+    for y in 0..size.h {
+        let marked = may_differ(lifted, first, y, marks[y as usize]);
+        let wanted = either(!known, marked);
+        let from = y as usize * width;
+        let row = &cells[from..from + width];
+        copy_if(shadow, wanted, from, row);
+    }
+}
+
 // Makes the cells those of a view.
-fn keep(shadow: &mut Vec<Cell>, cells: &[Cell])
-    requires { length shadow.old.items ≡ length cells.now }
+fn keep(
+    shadow: &mut Vec<Cell>,
+    cells: &[Cell],
+    marks: &[bool],
+    known: bool,
+    lifted: bool,
+    rows: u16,
+    size: Size,
+)
+    requires few { (size.w ≤ 512) × (size.h ≤ 256) × (rows ≤ size.h) }
+    requires lengths { (length cells.now ≡ size.h * size.w) × (length shadow.old.items ≡ size.h * size.w) × (length marks.now ≡ size.h) }
+    requires marked { known ≡ true → lifted ≡ false → (y : ℕ) → y < size.h → slice_index_or marks.now y false ≡ false → row_of size.w cells.now y ≡ row_of size.w shadow.old.items y }
+    requires lifted { known ≡ true → lifted ≡ true → (y : ℕ) → y < size.h - rows → row_of size.w cells.now y ≡ row_of size.w shadow.old.items y }
     ensures { shadow.new.items ≡ cells.now }
 {
-    shadow.as_mut_slice().copy_from_slice(cells);
+    keep_rows(
+        shadow.as_mut_slice(),
+        cells,
+        marks,
+        known,
+        lifted,
+        rows,
+        size,
+    );
 }
 
 impl Painter {
@@ -71,10 +142,12 @@ impl Painter {
         ensures { IfOk result (λ p. p ≡ unpainted size.w size.h) }
     {
         let shadow = blanks(alloc, size)?;
+        let sums = no_sums(alloc, size)?;
         Ok(Painter {
             size,
             known: false,
             shadow,
+            sums,
             attr: plain_attr(),
             spot: NOWHERE,
             visible: false,
@@ -86,10 +159,13 @@ impl Painter {
         requires { IsWindow size.w size.h }
         ensures { MatchResult result (λ _. self.new ≡ unpainted size.w size.h) (λ _. self.new ≡ self.old) }
     {
-        let shadow = blanks(*self.shadow.allocator(), size)?;
+        let alloc = *self.shadow.allocator();
+        let shadow = blanks(alloc, size)?;
+        let sums = no_sums(alloc, size)?;
         self.size = size;
         self.known = false;
         self.shadow = shadow;
+        self.sums = sums;
         self.attr = plain_attr();
         self.spot = NOWHERE;
         self.visible = false;
@@ -117,15 +193,26 @@ impl Painter {
         let caret = caret_of(view);
         let cells = view.rows.as_slice();
         let at = spot_if(self.known, self.spot);
+        let rows = count(
+            &mut self.sums,
+            cells,
+            self.shadow.as_slice(),
+            marks.as_slice(),
+            self.known,
+            self.size,
+        );
         let lifting = begin(
             out,
             &mut self.shadow,
             cells,
-            marks.as_slice(),
+            self.sums.as_slice(),
+            rows,
             self.known,
             self.size,
             self.attr,
         );
+        let lifted = lifting.lifted;
+        let left = lifting.rows;
         let end = draw(
             out,
             cells,
@@ -138,7 +225,15 @@ impl Painter {
             self.visible,
             caret,
         );
-        keep(&mut self.shadow, cells);
+        keep(
+            &mut self.shadow,
+            cells,
+            marks.as_slice(),
+            self.known,
+            lifted,
+            left,
+            self.size,
+        );
         self.known = true;
         self.attr = end.attr;
         self.spot = end.spot;

@@ -8,7 +8,7 @@ ghost use Rattle.con_paint.specs.Frame.{rows_to_paint, Rows, RowStep};
 ghost use Rattle.con_paint.specs.Rest.{RestStep};
 
 use crate::cells::{is_same, same};
-use crate::emit::{either, erase_rest};
+use crate::emit::erase_rest;
 use crate::pen::choose;
 use crate::span::{blank, line, plain_attr, span_of};
 use crate::spot::{Spot, State, go};
@@ -20,6 +20,14 @@ pub(crate) fn differs(known: bool, marked: bool, row: &[Cell], was: &[Cell]) -> 
     ensures { result ≡ (not known || (marked && not (same_cells row.now was.now))) }
 {
     !known || (marked && !same(row, was))
+}
+
+/// Whether a row may differ: behind a lift each from the first one on that is new, else each with a mark.
+pub(crate) fn may_differ(lifted: bool, first: u16, y: u16, marked: bool) -> bool
+    ensures behind { lifted ≡ true → result ≡ false → y < first }
+    ensures marked { lifted ≡ false → result ≡ marked }
+{
+    if lifted { first <= y } else { marked }
 }
 
 // Paints a row, where it is to be.
@@ -52,7 +60,8 @@ fn first_rows(
     cells: &[Cell],
     shadow: &[Cell],
     marks: &[bool],
-    every: bool,
+    lifted: bool,
+    first: u16,
     known: bool,
     size: Size,
     tail: u16,
@@ -60,7 +69,8 @@ fn first_rows(
 ) -> State
     requires few { (0 < size.w) × (size.w ≤ 512) × (size.h ≤ 256) × (tail ≤ size.h) }
     requires lengths { (length cells.now ≡ size.h * size.w) × (length shadow.now ≡ size.h * size.w) × (length marks.now ≡ size.h) }
-    requires marked { known ≡ true → every ≡ false → (y : ℕ) → y < size.h → slice_index_or marks.now y false ≡ false → row_of size.w cells.now y ≡ row_of size.w shadow.now y }
+    requires marked { known ≡ true → lifted ≡ false → (y : ℕ) → y < size.h → slice_index_or marks.now y false ≡ false → row_of size.w cells.now y ≡ row_of size.w shadow.now y }
+    requires lifted { known ≡ true → lifted ≡ true → (y : ℕ) → y < first → row_of size.w cells.now y ≡ row_of size.w shadow.now y }
     requires room { vec_len out.old + size.h * (11 + 57 * size.w) ≤ vec_capacity out.old }
     ensures rows { Rows size.w size.h cells.now shadow.now known before out.old.items out.new.items tail result }
     ensures capacity { vec_capacity out.new ≡ vec_capacity out.old }
@@ -72,7 +82,7 @@ fn first_rows(
         let from = y as usize * width;
         let row = &cells[from..from + width];
         let was = &shadow[from..from + width];
-        let marked = either(every, marks[y as usize]);
+        let marked = may_differ(lifted, first, y, marks[y as usize]);
         let paint = differs(known, marked, row, was);
         state = one_row(out, known, paint, y, row, was, state);
     }
@@ -122,14 +132,17 @@ fn emptied_from(cells: &[Cell], shadow: &[Cell], known: bool, size: Size) -> u16
     0
 }
 
-/// The first row from which on one sequence erases all, where that saves some.
-pub(crate) fn tail_of(cells: &[Cell], shadow: &[Cell], known: bool, size: Size) -> u16
+/// The first row from which on one sequence erases all, where that saves some of those that are to be painted.
+pub(crate) fn tail_of(cells: &[Cell], shadow: &[Cell], known: bool, size: Size, rows: u16) -> u16
     requires few { (size.w ≤ 512) × (size.h ≤ 256) }
     requires lengths { (length cells.now ≡ size.h * size.w) × (length shadow.now ≡ size.h * size.w) }
     ensures inside { result ≤ size.h }
     ensures blank { drop (result * size.w) cells.now ≡ replicate ((size.h - result) * size.w) blank_cell }
     ensures differ { rows_to_paint known size.w size.h cells.now shadow.now ≡ rows_to_paint known size.w result cells.now shadow.now + (size.h - result) }
 {
+    if rows < 2 {
+        return size.h;
+    }
     let tail = emptied_from(cells, shadow, known, size);
     if size.h - tail < 2 { size.h } else { tail }
 }
@@ -170,7 +183,8 @@ pub(crate) fn rows(
     cells: &[Cell],
     shadow: &[Cell],
     marks: &[bool],
-    every: bool,
+    lifted: bool,
+    first: u16,
     known: bool,
     size: Size,
     tail: u16,
@@ -181,12 +195,15 @@ pub(crate) fn rows(
     requires blank { drop (tail * size.w) cells.now ≡ replicate ((size.h - tail) * size.w) blank_cell }
     requires differ { rows_to_paint known size.w size.h cells.now shadow.now ≡ rows_to_paint known size.w tail cells.now shadow.now + (size.h - tail) }
     requires lengths { (length cells.now ≡ size.h * size.w) × (length shadow.now ≡ size.h * size.w) × (length marks.now ≡ size.h) }
-    requires marked { known ≡ true → every ≡ false → (y : ℕ) → y < size.h → slice_index_or marks.now y false ≡ false → row_of size.w cells.now y ≡ row_of size.w shadow.now y }
+    requires marked { known ≡ true → lifted ≡ false → (y : ℕ) → y < size.h → slice_index_or marks.now y false ≡ false → row_of size.w cells.now y ≡ row_of size.w shadow.now y }
+    requires lifted { known ≡ true → lifted ≡ true → (y : ℕ) → y < first → row_of size.w cells.now y ≡ row_of size.w shadow.now y }
     requires room { vec_len out.old + 57 + size.h * (11 + 57 * size.w) ≤ vec_capacity out.old }
     ensures rows { Rows size.w size.h cells.now shadow.now known before out.old.items out.new.items size.h result }
     ensures capacity { vec_capacity out.new ≡ vec_capacity out.old }
     ensures few { vec_len out.new ≤ vec_len out.old + 57 + size.h * (11 + 57 * size.w) }
 {
-    let first = first_rows(out, cells, shadow, marks, every, known, size, tail, before);
-    rest(out, tail, size, first)
+    let above = first_rows(
+        out, cells, shadow, marks, lifted, first, known, size, tail, before,
+    );
+    rest(out, tail, size, above)
 }
