@@ -132,14 +132,22 @@ fn empty(cells: &mut [Cell])
     }
 }
 
-// Lifts the cells by a count of places, and makes the last ones blank.
-fn raise(cells: &mut [Cell], count: usize)
-    requires { count ≤ length cells.old }
-    ensures { cells.new ≡ lifted_cells cells.old count }
+// Makes the cells from a place on blank.
+fn empty_from(cells: &mut [Cell], from: usize)
+    requires { from ≤ length cells.old }
+    ensures { cells.new ≡ take from cells.old ++ replicate (length cells.old - from) blank_cell }
 {
-    cells.rotate_left(count);
+    empty(&mut cells[from..]);
+}
+
+// Lifts the cells by a count of places, and makes the last ones blank.
+fn raise(cells: &mut Vec<Cell>, count: usize)
+    requires { count ≤ length cells.old.items }
+    ensures { cells.new.items ≡ lifted_cells cells.old.items count }
+{
     let rest = cells.len() - count;
-    empty(&mut cells[rest..]);
+    cells.copy_within(count.., 0);
+    empty_from(cells.as_mut_slice(), rest);
 }
 
 // Lifts the rows of a terminal, and the cells.
@@ -154,7 +162,7 @@ fn scroll(out: &mut Vec<u8>, shadow: &mut Vec<Cell>, by: u16, size: Size, before
 {
     choose(out, before, plain_attr());
     up(out, by);
-    raise(shadow.as_mut_slice(), by as usize * size.w as usize);
+    raise(shadow, by as usize * size.w as usize);
 }
 
 // Nothing is lifted.
