@@ -12,7 +12,8 @@ and its report in it. All pages are of equal rows at first, since a search that 
 - line: CR LF at the bottom, and some text, so that rows are lifted
 - none: a frame of output is wanted, and nothing changed
 
-Behind each count stands its ratio to the one of half as many rows. At most 2 is a straight line; 4 is a square."""
+Behind each count stands its ratio to the one of half as many rows. At most 2 is a straight line; 4 is a square. CONPTY names another
+program than the one of this tree, and JOBS how many run side by side."""
 import json
 import os
 import re
