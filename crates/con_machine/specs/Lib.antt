@@ -66,3 +66,6 @@ pub mod Fates
 pub mod Answers
 pub mod Texts
 pub mod Left
+-- What stands behind what, and when no picture is due.
+pub mod AlongLaws
+pub mod DueLaws

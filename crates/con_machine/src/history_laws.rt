@@ -1,11 +1,13 @@
 //! What follows from the definitions of histories, for whoever keeps one.
 ghost use Rattle.std.specs.Prelude.{◌≡◌, ℕ, ◌+◌, ◌&&◌, Bool, true, false, List, [], ◌∷◌, ◌++◌, Option};
+ghost use Rattle.con_units.specs.declared.view.Frame.{Frame};
 ghost use Rattle.con_events.specs.declared.actor.Actor.{Actor};
 ghost use Rattle.con_events.specs.declared.entry.Entry.{Entry};
 ghost use Rattle.con_events.specs.declared.actor.Actor.TheVariants as actors;
 ghost use Rattle.con_events.specs.declared.event.Event.{Event};
 ghost use Rattle.con_events.specs.declared.event.Event.TheVariants as events;
 ghost use Rattle.con_events.specs.declared.reply.Reply.TheVariants as replies;
+ghost use Rattle.con_events.specs.declared.script.Step.{Step};
 ghost use Rattle.con_machine.specs.State.{State};
 ghost use Rattle.con_machine.specs.Step.{step, is_ready};
 ghost use Rattle.con_machine.specs.Painting.{view_now};
@@ -13,6 +15,10 @@ ghost use Rattle.con_machine.specs.Moves.{Moves};
 ghost use Rattle.con_machine.specs.History.{run, replies_of, is_legal};
 ghost use Rattle.con_machine.specs.Turns.{turns, turn_of, sent, is_client, is_terminal, is_last_sent, has_ended, paints};
 ghost use Rattle.con_machine.specs.Sights.{sights_of};
+ghost use Rattle.con_machine.specs.Along.{after};
+ghost use Rattle.con_machine.specs.AlongLaws.{all_coming};
+ghost use Rattle.con_machine.specs.Client.{May, FollowsScript, client_after};
+ghost use Rattle.con_machine.specs.Follows.{is_one_of, are_of_session, MaySend, sent_one, FollowsLink, MayAct, asks, AreAnswered};
 ghost use Rattle.con_machine.specs.Rounds.{Begun, AreTurns, IsTurn, AreRounds, entry_of, entries_of, all_entries, all_order, is_nobody};
 
 /// Of two histories, one behind the other: the console after them, the replies, whether each event is ready, what a client
@@ -55,4 +61,25 @@ pub fn an_event_moves_the_picture()
 pub fn what_is_asked_for_is_due()
     ensures due { (s : State) → s.asked ≡ true → is_ready s actors.Painter events.Paint ≡ true }
     ensures view { (s : State) → (step s actors.Painter events.Paint).reply ≡ replies.View (view_now s) [] false }
+{}
+
+/// One entry more stands behind a history exactly where it is ready, its actor is one of the session's, and it is what its actor may
+/// do next: both ways, for what a client's entries follow, the terminal's side, and what was asked for.
+pub fn an_entry_more_may_stand()
+    ensures ready { (s : State) (h : List Entry) (x : Entry) → is_legal s h ≡ true → is_legal s (h ++ x ∷ []) ≡ true → is_ready (run s h) x.actor x.event ≡ true }
+    ensures legal { (s : State) (h : List Entry) (x : Entry) → is_legal s h ≡ true → is_ready (run s h) x.actor x.event ≡ true → is_legal s (h ++ x ∷ []) ≡ true }
+    ensures actor { (n : ℕ) (h : List Entry) (x : Entry) → are_of_session n (h ++ x ∷ []) ≡ true → is_one_of n x.actor ≡ true }
+    ensures of_session { (n : ℕ) (h : List Entry) (x : Entry) → are_of_session n h ≡ true → is_one_of n x.actor ≡ true → are_of_session n (h ++ x ∷ []) ≡ true }
+    ensures may_client { (s : State) (steps : List Step) (kinds : List ℕ) (h : List Entry) (x : Entry) (p : ℕ) → is_client p x.actor ≡ true → FollowsScript steps kinds (turns s p (h ++ x ∷ [])) → May (client_after steps kinds (turns s p h)) (turn_of (run s h) p x) }
+    ensures client { (s : State) (steps : List Step) (kinds : List ℕ) (h : List Entry) (x : Entry) (p : ℕ) → is_client p x.actor ≡ true → FollowsScript steps kinds (turns s p h) → May (client_after steps kinds (turns s p h)) (turn_of (run s h) p x) → FollowsScript steps kinds (turns s p (h ++ x ∷ [])) }
+    ensures may_send { (cut : Bool) (frames : List Frame) (h : List Entry) (x : Entry) → is_terminal x.actor ≡ true → FollowsLink cut frames (sent (h ++ x ∷ [])) → MaySend cut (after sent_one (all_coming frames) (sent h)) x.event }
+    ensures link { (cut : Bool) (frames : List Frame) (h : List Entry) (x : Entry) → is_terminal x.actor ≡ true → FollowsLink cut frames (sent h) → MaySend cut (after sent_one (all_coming frames) (sent h)) x.event → FollowsLink cut frames (sent (h ++ x ∷ [])) }
+    ensures may_act { (lost : Bool) (h : List Entry) (x : Entry) → AreAnswered lost (h ++ x ∷ []) → MayAct lost (after asks false h) x.actor }
+    ensures answered { (lost : Bool) (h : List Entry) (x : Entry) → AreAnswered lost h → MayAct lost (after asks false h) x.actor → AreAnswered lost (h ++ x ∷ []) }
+{}
+
+/// An Ask is the terminal's, and whether one is asked for and not painted is told by the history.
+pub fn a_history_tells_what_is_asked_for()
+    ensures terminal { (s : State) (a : Actor) → is_ready s a events.Ask ≡ true → is_terminal a ≡ true }
+    ensures asked { (s : State) (h : List Entry) → (run s h).asked ≡ after asks s.asked h }
 {}

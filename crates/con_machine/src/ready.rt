@@ -2,6 +2,7 @@
 ghost use Rattle.std.specs.Prelude.{◌≡◌, length};
 ghost use Rattle.con_events.specs.Session.{is_size};
 ghost use Rattle.con_procs.specs.Procs.{is_attached};
+ghost use Rattle.con_machine.specs.Turns.{is_pending};
 ghost use Rattle.con_machine.specs.Step.{is_clients, is_painters, is_actors, client_of, is_outside, is_due, is_ready};
 
 use crate::console::Console;
@@ -95,6 +96,13 @@ impl Console {
         ensures { result ≡ is_attached self.now.state.procs process }
     {
         self.procs.attached(process)
+    }
+
+    /// Whether a control event waits for a process, which exited processes have none of.
+    pub fn pending(&self, process: u8) -> bool
+        ensures { result ≡ is_pending self.now.state process }
+    {
+        self.procs.first_pending(process).is_some()
     }
 
     /// Whether an event is that of a client that is not attached.

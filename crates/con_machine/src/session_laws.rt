@@ -5,6 +5,7 @@ ghost use Rattle.con_events.specs.declared.actor.Actor.TheVariants as actors;
 ghost use Rattle.con_events.specs.declared.entry.Entry.{Entry};
 ghost use Rattle.con_events.specs.declared.event.Event.TheVariants as events;
 ghost use Rattle.con_procs.specs.Procs.{is_attached};
+ghost use Rattle.con_machine.specs.State.{State};
 ghost use Rattle.con_machine.specs.Step.{is_ready};
 ghost use Rattle.con_machine.specs.History.{run};
 ghost use Rattle.con_machine.specs.Turns.{sent, has_ended};
@@ -20,6 +21,12 @@ pub fn a_session_opens()
 /// Where no Paint is ready, there was one, nothing was resized behind it, and it showed what there is now.
 pub fn the_last_paint_shows_all()
     ensures { (session : Clients) (racks : List (List ℕ)) (h : List Entry) → is_ready (run (begun session racks) h) actors.Painter events.Paint ≡ false → ShowsAll (begun session racks) h }
+{}
+
+/// And the other way: where the last Paint showed what there is now, nothing was resized behind it, and nothing is asked for, no Paint
+/// is ready.
+pub fn nothing_is_due()
+    ensures { (s : State) (h : List Entry) → ShowsAll s h → (run s h).asked ≡ false → is_ready (run s h) actors.Painter events.Paint ≡ false }
 {}
 
 /// Once the terminal's side has ended, it is never so that all who are left wait for reads.
