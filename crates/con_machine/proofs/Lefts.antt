@@ -50,7 +50,7 @@ record Set (units : List ℕ) (rs : List Rest) (q h p hd : ℕ) : Type 0 where
   handle : h ≡ hd
   now : (rest_in (with_rest units rs q h) p hd ≡ units) ⊎ (rest_in (with_rest units rs q h) p hd ≡ [])
 
-and_parts_of : (a b : Bool) → (a && b) ≡ true → (a ≡ true) × (b ≡ true)
+pub and_parts_of : (a b : Bool) → (a && b) ≡ true → (a ≡ true) × (b ≡ true)
 and_parts_of true true e = (refl, refl)
 and_parts_of true false e = absurd (true≢false (sym e))
 and_parts_of false b e = absurd (true≢false (sym e))
@@ -95,7 +95,7 @@ begun_by : (rs : List Rest) (e : Rest) (p hd : ℕ) (b : Bool) → e.units ≡ [
 begun_by rs e p hd true none = refl
 begun_by rs e p hd false none = empty_behind rs e p hd none
 
-begun_same : (rs : List Rest) (q h p hd : ℕ) → rest_in (rest_begun rs q h) p hd ≡ rest_in rs p hd
+pub begun_same : (rs : List Rest) (q h p hd : ℕ) → rest_in (rest_begun rs q h) p hd ≡ rest_in rs p hd
 begun_same rs q h p hd = begun_by rs (record { process = q; handle = h; units = [] }) p hd (has_rest rs q h) refl
 
 -- rests go
@@ -105,7 +105,7 @@ stay_by f r rs p hd true false ea eb keep ih = rw ea (rw eb ih)
 stay_by f r rs p hd false true ea eb keep ih = absurd (true≢false (sym (keep eb) ∙ ea))
 stay_by f r rs p hd false false ea eb keep ih = rw ea (rw eb ih)
 
-stay : (f : Rest → Bool) (rs : List Rest) (p hd : ℕ) → ((r : Rest) → is_rest_of p hd r ≡ true → f r ≡ true) → rest_in (filter f rs) p hd ≡ rest_in rs p hd
+pub stay : (f : Rest → Bool) (rs : List Rest) (p hd : ℕ) → ((r : Rest) → is_rest_of p hd r ≡ true → f r ≡ true) → rest_in (filter f rs) p hd ≡ rest_in rs p hd
 stay f [] p hd keep = refl
 stay f (r ∷ rs) p hd keep = stay_by f r rs p hd (f r) (is_rest_of p hd r) refl refl (keep r) (stay f rs p hd keep)
 
@@ -114,7 +114,7 @@ go_by f r rs p hd true true ea eb drop ih = absurd (true≢false (sym ea ∙ dro
 go_by f r rs p hd true false ea eb drop ih = rw ea (rw eb ih)
 go_by f r rs p hd false b ea eb drop ih = rw ea ih
 
-go : (f : Rest → Bool) (rs : List Rest) (p hd : ℕ) → ((r : Rest) → is_rest_of p hd r ≡ true → f r ≡ false) → rest_in (filter f rs) p hd ≡ []
+pub go : (f : Rest → Bool) (rs : List Rest) (p hd : ℕ) → ((r : Rest) → is_rest_of p hd r ≡ true → f r ≡ false) → rest_in (filter f rs) p hd ≡ []
 go f [] p hd drop = refl
 go f (r ∷ rs) p hd drop = go_by f r rs p hd (f r) (is_rest_of p hd r) refl refl (drop r) (go f rs p hd drop)
 
@@ -180,11 +180,11 @@ unfolding process_or
 found_by m n ns p true e ih h = ap process_or (sym h) ∙ eqb-true m.process p e
 found_by m n ns p false e ih h = ih h
 
-found_own : (ns : List Noted) (p : ℕ) (n : Noted) → noted_of ns p ≡ Some n → n.process ≡ p
+pub found_own : (ns : List Noted) (p : ℕ) (n : Noted) → noted_of ns p ≡ Some n → n.process ≡ p
 found_own [] p n h = cc
 found_own (m ∷ ns) p n h = found_by m n ns p (m.process == p) refl (found_own ns p n) h
 
-whole_text : (n : Noted) (text : List ℕ) (b : Bool) → n.woken ≡ b → text ≡ part_told n text ++ part_left n text
+pub whole_text : (n : Noted) (text : List ℕ) (b : Bool) → n.woken ≡ b → text ≡ part_told n text ++ part_left n text
 whole_text n text true e = rw e (sym (take-append-drop n.n text))
 whole_text n text false e = rw e (sym (take-append-drop (line_front n.n text) text))
 

@@ -66,6 +66,10 @@ pub mod Fates
 pub mod Answers
 pub mod Texts
 pub mod Left
--- What stands behind what, and when no picture is due.
+-- However bytes are cut, what stands behind what, and what leaves the console as it is.
 pub mod AlongLaws
 pub mod DueLaws
+pub mod Cut
+pub mod Settled
+pub mod Once
+pub mod Rested

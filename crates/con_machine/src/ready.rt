@@ -98,7 +98,7 @@ impl Console {
         self.procs.attached(process)
     }
 
-    /// Whether a control event waits for a process, which exited processes have none of.
+    /// Whether a control event waits for a process.
     pub fn pending(&self, process: u8) -> bool
         ensures { result ≡ is_pending self.now.state process }
     {

@@ -1,0 +1,22 @@
+use Rattle.con_machine.proofs.Onces.{Laws, once, session_once}
+use Rattle.con_machine.proofs.once_laws.each_record_is_taken_once.Goals as goal
+
+pub returns-clause-console : goal.returns-clause-console
+returns-clause-console c = once (record {
+  whole = c.no_record_is_lost.ensures.records;
+  each = c.no_record_is_lost.ensures.fates;
+  records = c.a_read_answers_the_records_of_its_fate.ensures;
+  texts = c.a_text_is_of_the_records_of_its_fate.ensures;
+  peeked = c.a_peek_changes_no_fate.ensures.peeked;
+  stays = c.a_peek_changes_no_fate.ensures.stays;
+})
+
+pub returns-clause-session : goal.returns-clause-session
+returns-clause-session c = session_once (record {
+  whole = c.no_record_is_lost.ensures.records;
+  each = c.no_record_is_lost.ensures.fates;
+  records = c.a_read_answers_the_records_of_its_fate.ensures;
+  texts = c.a_text_is_of_the_records_of_its_fate.ensures;
+  peeked = c.a_peek_changes_no_fate.ensures.peeked;
+  stays = c.a_peek_changes_no_fate.ensures.stays;
+})
