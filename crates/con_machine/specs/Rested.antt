@@ -1,5 +1,6 @@
 -- What is left of a line for further reads of a handle: whose it is, and that each unit of it is answered once.
 use Rattle.std.specs.Prelude.{◌≡◌, ℕ, ◌==◌, ◌&&◌, ◌||◌, Bool, true, false, not, List, [], ◌∷◌, ◌++◌, Option, Some, None, if◌then◌else◌}
+use Rattle.con_events.specs.declared.actor.Actor.{Actor}
 use Rattle.con_events.specs.declared.call.Call.{Call}
 use Rattle.con_events.specs.declared.call.Call.TheVariants as calls
 use Rattle.con_events.specs.declared.entry.Entry.{Entry}
@@ -88,3 +89,18 @@ pub record IsLeft (s : State) (h : List Entry) (p hd : ℕ) (rest : List ℕ) : 
   pub goes_on : ends_in (moved (run s before) last) p hd later ≡ false
   -- and what followed is what reads answered since then, in order, and then what is left.
   pub once : left ≡ takes_in (moved (run s before) last) p hd later ++ rest
+
+-- ---- a handle that was closed
+
+-- client c begins a read of handle hd of client p
+abbrev pub begins : ℕ → ℕ → ℕ → Event → Reply → Bool
+begins c p hd (events.Begin w) reply = (c == p) && ((handle_of w == hd) && not (is_fail reply))
+begins c p hd _ reply = false
+
+abbrev pub begins_in : State → ℕ → ℕ → List Entry → Bool
+begins_in s p hd [] = false
+begins_in s p hd (x ∷ xs) = begins (client_of x.actor) p hd x.event (step s x.actor x.event).reply || begins_in (moved s x) p hd xs
+
+-- client p closes handle hd
+abbrev pub closes_it : State → ℕ → ℕ → Actor → Call → Bool
+closes_it s p hd a call = closes (client_of a) p hd call (step s a (events.Call call)).reply
