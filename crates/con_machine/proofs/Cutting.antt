@@ -147,9 +147,11 @@ record Agrees (f : Record → Record) (R : State → State → Type 0) : Type 0 
   goes : (s t : State) (p : Piece) → R s t → R (piece_taken s p) (piece_taken t p)
 
 two_parts : (f : Record → Record) (xs ys zs ws : List Record) → map f xs ≡ map f zs → map f ys ≡ map f ws → map f (xs ++ ys) ≡ map f (zs ++ ws)
-two_parts f xs ys zs ws e g = map-append f xs ys ∙ ap (λ (l : List Record). l ++ map f ys) e ∙ ap (λ (l : List Record). map f zs ++ l) g ∙ sym (map-append f zs ws)
+two_parts f xs ys zs ws e g = map-append f xs ys ∙ ap (λ (l : List Record). l ++ map f ys) e ∙ ap (λ (l : List Record). map f zs ++ l) g
+    ∙ sym (map-append f zs ws)
 
-all_arrive : (f : Record → Record) (R : State → State → Type 0) → Agrees f R → (s t : State) (ps : List Piece) → R s t → map f (all_bytes_arrivals s ps) ≡ map f (all_bytes_arrivals t ps)
+all_arrive : (f : Record → Record) (R : State → State → Type 0) → Agrees f R → (s t : State) (ps : List Piece) → R s t
+    → map f (all_bytes_arrivals s ps) ≡ map f (all_bytes_arrivals t ps)
 unfolding all_bytes_arrivals
 all_arrive f R k s t [] r = refl
 all_arrive f R k s t (p ∷ ps) r =
@@ -173,7 +175,8 @@ fed_arrivals_is s bytes = refl
 
 -- bytes in one piece, by the pieces of both parts
 whole_arrivals : (s : State) (a b : List ℕ) → (let p : Split Piece = split_after piece_grammar s.held a in let q : Split Piece = split_after piece_grammar p.tail b in
-    let t : State = record s { held = q.tail } in fed_arrivals s (a ++ b) ≡ all_bytes_arrivals t p.items ++ all_bytes_arrivals (fold piece_taken t p.items) q.items)
+    let t : State = record s { held = q.tail } in fed_arrivals s (a ++ b) ≡ all_bytes_arrivals t p.items ++ all_bytes_arrivals
+    (fold piece_taken t p.items) q.items)
 whole_arrivals s a b =
     let p : Split Piece = split_after piece_grammar s.held a in
     let q : Split Piece = split_after piece_grammar p.tail b in
@@ -181,8 +184,10 @@ whole_arrivals s a b =
     ∙ arrivals_append (record s { held = q.tail }) p.items q.items
 
 -- where both consoles agree at the cut
-cut_arrivals : (f : Record → Record) (R : State → State → Type 0) → Agrees f R → (s : State) (a b : List ℕ) → ((h k : List ℕ) → R (record s { held = h }) (record s { held = k }))
-    → ((h : List ℕ) → (let p : Split Piece = split_after piece_grammar s.held a in R (record (behind s a) { held = h }) (fold piece_taken (record s { held = h }) p.items)))
+cut_arrivals : (f : Record → Record) (R : State → State → Type 0) → Agrees f R → (s : State) (a b : List ℕ)
+    → ((h k : List ℕ) → R (record s { held = h }) (record s { held = k }))
+    → ((h : List ℕ) → (let p : Split Piece = split_after piece_grammar s.held a in R (record (behind s a) { held = h })
+    (fold piece_taken (record s { held = h }) p.items)))
     → map f (arrived s (in_two a b)) ≡ map f (arrived s (in_one a b))
 unfolding behind
 cut_arrivals f R k s a b same at =
@@ -192,15 +197,18 @@ cut_arrivals f R k s a b same at =
     let t : State = record s { held = q.tail } in
     let held : u.held ≡ p.tail = ap (λ (x : Both). x.1) (behind_both s a ∙ fed_both s a) in
     let later : fed_arrivals u b ≡ all_bytes_arrivals (record u { held = q.tail }) q.items =
-    fed_arrivals_is u b ∙ ap (λ (h : List ℕ). let n : Split Piece = split_after piece_grammar h b in all_bytes_arrivals (record u { held = n.tail }) n.items) held in
+    fed_arrivals_is u b ∙ ap (λ (h : List ℕ). let n : Split Piece = split_after piece_grammar h b in all_bytes_arrivals
+    (record u { held = n.tail }) n.items) held in
     let first : map f (fed_arrivals s a) ≡ map f (all_bytes_arrivals t p.items) =
     ap (map f) (fed_arrivals_is s a) ∙ all_arrive f R k (record s { held = p.tail }) t p.items (same p.tail q.tail) in
     let behind_it : map f (fed_arrivals u b) ≡ map f (all_bytes_arrivals (fold piece_taken t p.items) q.items) =
     ap (map f) later ∙ all_arrive f R k (record u { held = q.tail }) (fold piece_taken t p.items) q.items (at q.tail) in
     let two : arrived s (in_two a b) ≡ fed_arrivals s a ++ fed_arrivals u b =
-    ap (λ (l : List Record). l ++ (step_arrivals u (feed b) ++ [])) (arrived_is s a) ∙ ap (λ (l : List Record). fed_arrivals s a ++ l) (append-nil (step_arrivals u (feed b)) ∙ arrived_is u b) in
+    ap (λ (l : List Record). l ++ (step_arrivals u (feed b) ++ [])) (arrived_is s a)
+    ∙ ap (λ (l : List Record). fed_arrivals s a ++ l) (append-nil (step_arrivals u (feed b)) ∙ arrived_is u b) in
     let one : arrived s (in_one a b) ≡ fed_arrivals s (a ++ b) = append-nil (step_arrivals s (feed (a ++ b))) ∙ arrived_is s (a ++ b) in
-    ap (map f) two ∙ two_parts f (fed_arrivals s a) (fed_arrivals u b) (all_bytes_arrivals t p.items) (all_bytes_arrivals (fold piece_taken t p.items) q.items) first behind_it
+    ap (map f) two ∙ two_parts f (fed_arrivals s a) (fed_arrivals u b) (all_bytes_arrivals t p.items)
+    (all_bytes_arrivals (fold piece_taken t p.items) q.items) first behind_it
     ∙ ap (map f) (sym (whole_arrivals s a b)) ∙ sym (ap (map f) one)
 
 -- ---- but for places
@@ -218,10 +226,13 @@ report_unplaced s t (Some r) e =
     ap (λ (i : Input). map unplaced (mouse_records (page_of s s.buffers.active) (record_of i.buttons r))) e
     ∙ mouse_unplaced (page_of s s.buffers.active) (page_of t t.buffers.active) (record_of t.buttons r)
 
-ended_unplaced : (s t : State) (bytes : List ℕ) → input s ≡ input t → map unplaced (bytes_arrivals s (Ended bytes)) ≡ map unplaced (bytes_arrivals t (Ended bytes))
-ended_unplaced s t bytes e = ap (λ (i : Input). map unplaced (if has_bit i.mode 0x10 then report_arrivals s (report_of bytes) else [])) e ∙ by (has_bit t.mode 0x10)
+ended_unplaced : (s t : State) (bytes : List ℕ) → input s ≡ input t
+    → map unplaced (bytes_arrivals s (Ended bytes)) ≡ map unplaced (bytes_arrivals t (Ended bytes))
+ended_unplaced s t bytes e = ap (λ (i : Input). map unplaced (if has_bit i.mode 0x10 then report_arrivals s (report_of bytes) else [])) e
+    ∙ by (has_bit t.mode 0x10)
   where
-    by : (b : Bool) → map unplaced (if b then report_arrivals s (report_of bytes) else []) ≡ map unplaced (if b then report_arrivals t (report_of bytes) else [])
+    by : (b : Bool) → map unplaced (if b then report_arrivals s (report_of bytes) else []) ≡ map unplaced
+        (if b then report_arrivals t (report_of bytes) else [])
     by true = report_unplaced s t (report_of bytes) e
     by false = refl
 
@@ -239,7 +250,8 @@ unplaced_agrees = record { arrives = arrives; goes = goes }
     goes : (s t : State) (p : Piece) → input s ≡ input t → input (piece_taken s p) ≡ input (piece_taken t p)
     goes s t p e = ap (λ (x : Both). x.0) (piece_both s p) ∙ ap (λ (i : Input). input_after i p) e ∙ sym (ap (λ (x : Both). x.0) (piece_both t p))
 
-cut_at : (s : State) (a h : List ℕ) → (let p : Split Piece = split_after piece_grammar s.held a in input (record (behind s a) { held = h }) ≡ input (fold piece_taken (record s { held = h }) p.items))
+cut_at : (s : State) (a h : List ℕ) → (let p : Split Piece = split_after piece_grammar s.held a in input (record (behind s a) { held = h }) ≡ input
+    (fold piece_taken (record s { held = h }) p.items))
 cut_at s a h =
     let p : Split Piece = split_after piece_grammar s.held a in
     ap (λ (x : Both). x.0) (behind_both s a ∙ fed_both s a) ∙ sym (ap (λ (x : Both). x.0) (pieces_both (record s { held = h }) p.items))
@@ -293,7 +305,8 @@ settled_unseen s e =
     record { noted = k.noted; buffers = k.buffers }
 
 hung_unseen : (s : State) → s.noted ≡ [] → Unseen s (hung_up s)
-hung_unseen s e = or_unseen s s.closed s (record s { closed = true; procs = signalled s.procs 2 0; reads = all_closed s.reads }) (unseen s e) (record { noted = e; buffers = refl })
+hung_unseen s e = or_unseen s s.closed s (record s { closed = true; procs = signalled s.procs 2 0; reads = all_closed s.reads }) (unseen s e)
+    (record { noted = e; buffers = refl })
 
 closing_unseen : (s : State) → s.noted ≡ [] → Unseen s (closing s)
 unfolding closing
@@ -315,7 +328,8 @@ piece_unseen s (Ended bytes) e = or_unseen s (has_bit s.mode 0x10) (by_report s 
 
 pieces_unseen : (s : State) (ps : List Piece) → s.noted ≡ [] → Unseen s (fold piece_taken s ps)
 pieces_unseen s [] e = unseen s e
-pieces_unseen s (p ∷ ps) e = let k = piece_unseen s p e in then_unseen s (piece_taken s p) (fold piece_taken (piece_taken s p) ps) k (pieces_unseen (piece_taken s p) ps k.noted)
+pieces_unseen s (p ∷ ps) e = let k = piece_unseen s p e in then_unseen s (piece_taken s p) (fold piece_taken (piece_taken s p) ps) k
+    (pieces_unseen (piece_taken s p) ps k.noted)
 
 behind_unseen : (s : State) (bytes : List ℕ) → s.noted ≡ [] → Unseen s (behind s bytes)
 unfolding fed
@@ -378,7 +392,8 @@ cut_places s a b e =
     ∙ cut_arrivals itself InOneWindow placed_agrees s a b (λ h k. record { input' = refl; buffers = refl; first = e; second = e }) at
     ∙ each_itself (arrived s (in_one a b))
   where
-    at : (h : List ℕ) → (let p : Split Piece = split_after piece_grammar s.held a in InOneWindow (record (behind s a) { held = h }) (fold piece_taken (record s { held = h }) p.items))
+    at : (h : List ℕ) → (let p : Split Piece = split_after piece_grammar s.held a in InOneWindow (record (behind s a) { held = h })
+        (fold piece_taken (record s { held = h }) p.items))
     at h =
         let p : Split Piece = split_after piece_grammar s.held a in
         let k = behind_unseen s a e in
@@ -392,7 +407,8 @@ aborted_done [] k d = tt
 aborted_done (o ∷ os) zero d = (refl, d.1)
 aborted_done (o ∷ os) (suc k) d = (d.0, aborted_done os k d.1)
 
-settled_is : (al : List AliasList) (os : List Open) (rs : List Record) (hs : LineHistories) → AreDone os → settled al os rs hs ≡ record { reads = os; records = rs; histories = hs; acts = [] }
+settled_is : (al : List AliasList) (os : List Open) (rs : List Record) (hs : LineHistories) → AreDone os
+    → settled al os rs hs ≡ record { reads = os; records = rs; histories = hs; acts = [] }
 unfolding settled
 settled_is al [] rs hs d = refl
 settled_is al (o ∷ os) rs hs d = rw d.0 (ap (λ (t : Settled). let u : Settled = record t { reads = o ∷ t.reads } in u) (settled_is al os rs hs d.1))
@@ -407,7 +423,8 @@ or_done false x y h k = k
 
 key_done : (s : State) (k : Key) → AreDone s.reads → AreDone (key_taken s k).reads
 key_done s k d = or_done (is_break s k) (signalled_to (settled_state s) 0 0) (record s { records = s.records ++ records_of s k })
-    (subst (λ (os : List Open). AreDone (line_aborted os)) (sym (ap (λ (t : State). t.reads) (rests s d))) (aborted_done s.reads (position_or_len is_open_line s.reads) d)) d
+    (subst (λ (os : List Open). AreDone (line_aborted os)) (sym (ap (λ (t : State). t.reads) (rests s d)))
+    (aborted_done s.reads (position_or_len is_open_line s.reads) d)) d
 
 report_done : (s : State) (r : Option Report) → AreDone s.reads → AreDone (by_report s r).reads
 report_done s None d = d

@@ -46,7 +46,8 @@ use Rattle.con_machine.specs.Step.{step, effect, is_outside, client_of, finished
 
 -- ---- what is at rest is served no more
 
-none_served : (p : ℕ) (al : List AliasList) (r : OpenRead) (hs : LineHistories) → is_done r ≡ false → served p al r [] hs ≡ record { read = r; records = []; histories = hs; acts = [] }
+none_served : (p : ℕ) (al : List AliasList) (r : OpenRead) (hs : LineHistories) → is_done r ≡ false
+    → served p al r [] hs ≡ record { read = r; records = []; histories = hs; acts = [] }
 unfolding served
 none_served p al (reads.Line line) hs d = refl
 none_served p al (reads.Units n) hs d = refl
@@ -61,13 +62,15 @@ both_true false b e = absurd (true≢false (sym e))
 abbrev Same : List AliasList → List Open → List Record → LineHistories → Type 0
 Same al os rs hs = settled al os rs hs ≡ record { reads = os; records = rs; histories = hs; acts = [] }
 
-started_same : (al : List AliasList) (p : ℕ) (b : Bool) (r : OpenRead) (os : List Open) (rs : List Record) (hs : LineHistories) → is_done r ≡ false → b ≡ true → is_none_left rs ≡ true
+started_same : (al : List AliasList) (p : ℕ) (b : Bool) (r : OpenRead) (os : List Open) (rs : List Record) (hs : LineHistories) → is_done r ≡ false → b ≡ true
+    → is_none_left rs ≡ true
     → (let o : Open = record { process = p; started = b; read = r } in Same al (o ∷ os) rs hs)
 unfolding settled
 started_same al p b r os [] hs d e none = rw (e, d, none_served p al r hs d, d) refl
 started_same al p b r os (x ∷ rs) hs d e none = absurd (true≢false (sym none))
 
-same_by : (al : List AliasList) (o : Open) (os : List Open) (rs : List Record) (hs : LineHistories) (b : Bool) → is_done o.read ≡ b → (is_at_rest os rs ≡ true → Same al os rs hs)
+same_by : (al : List AliasList) (o : Open) (os : List Open) (rs : List Record) (hs : LineHistories) (b : Bool) → is_done o.read ≡ b
+    → (is_at_rest os rs ≡ true → Same al os rs hs)
     → (if b then is_at_rest os rs else (o.started && is_none_left rs)) ≡ true → Same al (o ∷ os) rs hs
 unfolding settled
 same_by al o os rs hs true d ih h = rw d (ap (λ (t : Settled). let u : Settled = record t { reads = o ∷ t.reads } in u) (ih h))
@@ -87,21 +90,26 @@ rests s e = ap (settled_from s) (rest_same s.aliases s.reads s.records s.histori
 
 -- ---- and what was served is at rest
 
-on_left : (p : ℕ) (al : List AliasList) (line line' : Cooked) (rs : List Record) (hs : LineHistories) (later : Served) (g : Progress) → (is_done later.read ≡ false → later.records ≡ [])
+on_left : (p : ℕ) (al : List AliasList) (line line' : Cooked) (rs : List Record) (hs : LineHistories) (later : Served) (g : Progress)
+    → (is_done later.read ≡ false → later.records ≡ [])
     → is_done (served_on p al line line' rs hs later g).read ≡ false → (served_on p al line line' rs hs later g).records ≡ []
 on_left p al line line' rs hs later (progress.Going echo) ih d = ih d
 on_left p al line line' rs hs later (progress.Done echo) ih d = absurd (true≢false d)
 on_left p al line line' rs hs later progress.Woken ih d = absurd (true≢false d)
 
-line_left : (p : ℕ) (al : List AliasList) (line : Cooked) (rs : List Record) (hs : LineHistories) → is_done (served_line p al line rs hs).read ≡ false → (served_line p al line rs hs).records ≡ []
+line_left : (p : ℕ) (al : List AliasList) (line : Cooked) (rs : List Record) (hs : LineHistories) → is_done (served_line p al line rs hs).read ≡ false
+    → (served_line p al line rs hs).records ≡ []
 line_left p al line [] hs d = refl
-line_left p al line (r ∷ rs) hs d = on_left p al line (line_after line r hs) rs hs (served_line p al (line_after line r hs) rs hs) (line_progress line r hs) (line_left p al (line_after line r hs) rs hs) d
+line_left p al line (r ∷ rs) hs d = on_left p al line (line_after line r hs) rs hs (served_line p al (line_after line r hs) rs hs) (line_progress line r hs)
+    (line_left p al (line_after line r hs) rs hs) d
 
-units_left : (p n : ℕ) (rs : List Record) (hs : LineHistories) (us : List ℕ) → is_done (took_units p n rs hs us).read ≡ false → (took_units p n rs hs us).records ≡ []
+units_left : (p n : ℕ) (rs : List Record) (hs : LineHistories) (us : List ℕ) → is_done (took_units p n rs hs us).read ≡ false
+    → (took_units p n rs hs us).records ≡ []
 units_left p n rs hs [] d = refl
 units_left p n rs hs (u ∷ us) d = absurd (true≢false d)
 
-none_left : (p : ℕ) (al : List AliasList) (r : OpenRead) (rs : List Record) (hs : LineHistories) → is_done r ≡ false → is_done (served p al r rs hs).read ≡ false → (served p al r rs hs).records ≡ []
+none_left : (p : ℕ) (al : List AliasList) (r : OpenRead) (rs : List Record) (hs : LineHistories) → is_done r ≡ false
+    → is_done (served p al r rs hs).read ≡ false → (served p al r rs hs).records ≡ []
 unfolding served
 none_left p al (reads.Line line) rs hs n d = line_left p al line rs hs d
 none_left p al (reads.Units n) [] hs m d = refl
@@ -113,7 +121,8 @@ none_left p al (reads.Done a) rs hs n d = absurd (true≢false n)
 abbrev Left : Settled → Type 0
 Left t = is_at_rest t.reads t.records ≡ true
 
-left_by : (al : List AliasList) (o : Open) (os : List Open) (rs : List Record) (hs : LineHistories) (a b : Bool) → is_done o.read ≡ a → is_done (served o.process al o.read rs hs).read ≡ b
+left_by : (al : List AliasList) (o : Open) (os : List Open) (rs : List Record) (hs : LineHistories) (a b : Bool) → is_done o.read ≡ a
+    → is_done (served o.process al o.read rs hs).read ≡ b
     → Left (settled al os rs hs) → (let s = served o.process al o.read rs hs in Left (settled al os s.records s.histories)) → Left (settled al (o ∷ os) rs hs)
 unfolding settled
 left_by al o os rs hs true b d e now later = rw (d, d) now
@@ -189,7 +198,8 @@ or_settled false x y h k = k
 
 pub step_settles : (s : State) (a : Actor) (e : Event) → IsSettled s → IsSettled (step s a e).after
 unfolding step
-step_settles s a e h = or_settled (is_outside s a e) (refused s code.BadHandle) (finished (effect s (client_of a) e)) h (after_both (effect s (client_of a) e).after)
+step_settles s a e h = or_settled (is_outside s a e) (refused s code.BadHandle) (finished (effect s (client_of a) e)) h
+    (after_both (effect s (client_of a) e).after)
 
 pub run_settles : (s : State) (h : List Entry) → IsSettled s → IsSettled (run s h)
 run_settles s [] k = k

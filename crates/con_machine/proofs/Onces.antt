@@ -24,11 +24,14 @@ use Rattle.con_machine.proofs.Idling.{peek_leaves, begins_settled}
 pub record Laws : Type 0 where
   pub whole : (s : State) (h : List Entry) → s.records ++ arrived s h ≡ joined (pieces s h) ++ (run s h).records
   pub each : (s : State) (h : List Entry) (t : Taker) → fated s h t ≡ joined (done_for t (pieces s h))
-  pub records : (s : State) (h later : List Entry) (p : ℕ) (b : Begin) → last_begin s h p ≡ Some b → wants_records b.wanted ≡ true → is_attached (run s h).procs p ≡ true → has_done (run s h).reads p ≡ true
+  pub records : (s : State) (h later : List Entry) (p : ℕ) (b : Begin) → last_begin s h p ≡ Some b → wants_records b.wanted ≡ true
+      → is_attached (run s h).procs p ≡ true → has_done (run s h).reads p ≡ true
       → AnswersRecords (step (run s h) (actors.Client p) events.Collect).reply (fated s (h ++ collect p ∷ later) (Begun b.place))
-  pub texts : (s : State) (h later : List Entry) (p : ℕ) (b : Begin) (units : List ℕ) → s.noted ≡ [] → last_begin s h p ≡ Some b → is_attached (run s h).procs p ≡ true → has_done (run s h).reads p ≡ true
+  pub texts : (s : State) (h later : List Entry) (p : ℕ) (b : Begin) (units : List ℕ) → s.noted ≡ [] → last_begin s h p ≡ Some b
+      → is_attached (run s h).procs p ≡ true → has_done (run s h).reads p ≡ true
       → (let all = h ++ collect p ∷ later in (step (run s h) (actors.Client p) events.Collect).reply ≡ replies.Units units
-      → AnswersText (opens (console_before s all b.place) p b.wanted) (asked_for b.wanted) (done_for (Begun b.place) (pieces s all)) (fated s all (Begun b.place)) units)
+      → AnswersText (opens (console_before s all b.place) p b.wanted) (asked_for b.wanted) (done_for (Begun b.place) (pieces s all))
+      (fated s all (Begun b.place)) units)
   pub peeked : (s : State) (h : List Entry) (p hd n k : ℕ) → s.reads ≡ [] → fate s (h ++ peek p hd n ∷ []) k ≡ fate s h k
   pub stays : (s : State) (h later : List Entry) (k : ℕ) (t : Taker) → fate s h k ≡ Some t → fate s (h ++ later) k ≡ Some t
 
@@ -36,10 +39,12 @@ pub once : Laws → (s : State) (h : List Entry) → s.reads ≡ [] → s.noted 
 once laws s h none unnoted settled = record {
   pieces' = laws.whole s h;
   fates = laws.each s h;
-  answers = λ before later p b at wants. subst (λ (all : List Entry). AnswersRecords (step (run s before) (actors.Client p) events.Collect).reply (fated s all (Begun b.place))) (sym at.is)
+  answers = λ before later p b at wants. subst (λ (all : List Entry). AnswersRecords (step (run s before) (actors.Client p) events.Collect).reply
+      (fated s all (Begun b.place))) (sym at.is)
       (laws.records s before later p b at.last wants at.attached at.done);
   texts = λ before later p b units at told.
-      subst (λ (all : List Entry). AnswersText (opens (console_before s all b.place) p b.wanted) (asked_for b.wanted) (done_for (Begun b.place) (pieces s all)) (fated s all (Begun b.place)) units) (sym at.is)
+      subst (λ (all : List Entry). AnswersText (opens (console_before s all b.place) p b.wanted) (asked_for b.wanted)
+      (done_for (Begun b.place) (pieces s all)) (fated s all (Begun b.place)) units) (sym at.is)
       (laws.texts s before later p b units unnoted at.last at.attached at.done told);
   peeks = λ before later p hd n at. peek_leaves s before p hd n settled;
   peeked = λ before later p hd n k at. laws.peeked s before p hd n k none;

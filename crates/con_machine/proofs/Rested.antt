@@ -81,7 +81,8 @@ nothing false us e = refl
 
 -- ---- lists of rests
 
-own_by : (us : List ℕ) (r : Rest) (rs : List Rest) (p h : ℕ) (b : Bool) → is_rest_of p h r ≡ b → (is_empty (rest_in rs p h) ≡ false → rest_in (with_rest us rs p h) p h ≡ us)
+own_by : (us : List ℕ) (r : Rest) (rs : List Rest) (p h : ℕ) (b : Bool) → is_rest_of p h r ≡ b
+    → (is_empty (rest_in rs p h) ≡ false → rest_in (with_rest us rs p h) p h ≡ us)
     → is_empty (rest_in (r ∷ rs) p h) ≡ false → rest_in (with_rest us (r ∷ rs) p h) p h ≡ us
 own_by us r rs p h true e ih some = rw e (rw e refl)
 own_by us r rs p h false e ih some = rw e (rw e (ih (sym (ap is_empty (skipped r rs p h e)) ∙ some)))
@@ -118,7 +119,8 @@ is_other q h p hd r e is = by (is_rest_of q h r) refl
         let eh : (h == hd) ≡ true = eq-eqb h hd (sym (eqb-true r.handle h x.1) ∙ eqb-true r.handle hd y.1) in
         absurd (true≢false (sym (ap (λ (b : Bool). b && (h == hd)) ep ∙ eh) ∙ e))
 
-other_by : (us : List ℕ) (r : Rest) (rs : List Rest) (q h p hd : ℕ) (a b : Bool) → is_rest_of q h r ≡ a → is_rest_of p hd r ≡ b → (is_rest_of p hd r ≡ true → is_rest_of q h r ≡ false)
+other_by : (us : List ℕ) (r : Rest) (rs : List Rest) (q h p hd : ℕ) (a b : Bool) → is_rest_of q h r ≡ a → is_rest_of p hd r ≡ b
+    → (is_rest_of p hd r ≡ true → is_rest_of q h r ≡ false)
     → rest_in (with_rest us rs q h) p hd ≡ rest_in rs p hd → rest_in (with_rest us (r ∷ rs) q h) p hd ≡ rest_in (r ∷ rs) p hd
 other_by us r rs q h p hd true true ea eb apart ih = absurd (true≢false (sym ea ∙ apart eb))
 other_by us r rs q h p hd true false ea eb apart ih = rw ea (rw eb refl)
@@ -127,7 +129,8 @@ other_by us r rs q h p hd false false ea eb apart ih = rw ea (rw eb ih)
 
 other_set : (us : List ℕ) (rs : List Rest) (q h p hd : ℕ) → ((q == p) && (h == hd)) ≡ false → rest_in (with_rest us rs q h) p hd ≡ rest_in rs p hd
 other_set us [] q h p hd e = refl
-other_set us (r ∷ rs) q h p hd e = other_by us r rs q h p hd (is_rest_of q h r) (is_rest_of p hd r) refl refl (is_other q h p hd r e) (other_set us rs q h p hd e)
+other_set us (r ∷ rs) q h p hd e = other_by us r rs q h p hd (is_rest_of q h r) (is_rest_of p hd r) refl refl (is_other q h p hd r e)
+    (other_set us rs q h p hd e)
 
 closed_own : (rs : List Rest) (p h : ℕ) → rest_in (without_rest rs p h) p h ≡ []
 closed_own rs p h = go (λ r. not (is_rest_of p h r)) rs p h (λ r is. ap not is)
@@ -139,7 +142,8 @@ left_own : (rs : List Rest) (p hd : ℕ) → rest_in (without_rests rs p) p hd �
 left_own rs p hd = go (λ r. not (is_rest_by p r)) rs p hd (λ r is. ap not (and_parts_of (r.process == p) (r.handle == hd) is).0)
 
 left_other : (rs : List Rest) (q p hd : ℕ) → (q == p) ≡ false → rest_in (without_rests rs q) p hd ≡ rest_in rs p hd
-left_other rs q p hd e = stay (λ r. not (is_rest_by q r)) rs p hd (λ r is. ap not (by r (is_rest_by q r) refl (and_parts_of (r.process == p) (r.handle == hd) is).0))
+left_other rs q p hd e = stay (λ r. not (is_rest_by q r)) rs p hd
+    (λ r is. ap not (by r (is_rest_by q r) refl (and_parts_of (r.process == p) (r.handle == hd) is).0))
   where
     by : (r : Rest) (b : Bool) → is_rest_by q r ≡ b → (r.process == p) ≡ true → is_rest_by q r ≡ false
     by r false one is = one
@@ -157,13 +161,16 @@ abbrev Going : State → ℕ → ℕ → ℕ → Event → Outcome → Type 0
 Going s c p hd e o = (rest_in o.after.rests p hd ≡ []) ⊎ (Stays s c p hd e o ⊎ Comes s c p hd e o)
 
 -- a handle is closed
-close_done : (s : State) (c p hd h : ℕ) (o : Object) (b : Bool) → ((c == p) && (h == hd)) ≡ b → Going s c p hd (events.Call (calls.Close h)) (done (handle_closed s c h o))
+close_done : (s : State) (c p hd h : ℕ) (o : Object) (b : Bool) → ((c == p) && (h == hd)) ≡ b
+    → Going s c p hd (events.Call (calls.Close h)) (done (handle_closed s c h o))
 close_done s c p hd h o true e =
     let parts = and_parts_of (c == p) (h == hd) e in
-    inl (ap (λ (q : ℕ). rest_in (without_rest s.rests c h) q hd) (sym (eqb-true c p parts.0)) ∙ ap (λ (k : ℕ). rest_in (without_rest s.rests c h) c k) (sym (eqb-true h hd parts.1)) ∙ closed_own s.rests c h)
+    inl (ap (λ (q : ℕ). rest_in (without_rest s.rests c h) q hd) (sym (eqb-true c p parts.0))
+    ∙ ap (λ (k : ℕ). rest_in (without_rest s.rests c h) c k) (sym (eqb-true h hd parts.1)) ∙ closed_own s.rests c h)
 close_done s c p hd h o false e = inr (inl (sym (closed_other s.rests c h p hd e), not_both (c == p) (h == hd) e))
 
-close_going : (s : State) (c p hd h : ℕ) (g : Result Object Code) → Going s c p hd (events.Call (calls.Close h)) (with_object s g (λ o. done (handle_closed s c h o)))
+close_going : (s : State) (c p hd h : ℕ) (g : Result Object Code)
+    → Going s c p hd (events.Call (calls.Close h)) (with_object s g (λ o. done (handle_closed s c h o)))
 close_going s c p hd h (Err why) = inr (inl (refl, never (c == p) (h == hd)))
 close_going s c p hd h (Ok o) = close_done s c p hd h o ((c == p) && (h == hd)) refl
 
@@ -173,12 +180,19 @@ call_going s c p hd (calls.Close h) = close_going s c p hd h (object_owned s c h
 call_going s c p hd x = inr (inl (ap (λ (rs : List Rest). rest_in rs p hd) (sym ((call_walk s c x).rests refl)), refl))
 
 -- a Begin
-begin_same : (s : State) (c p hd : ℕ) (w : Wanted) (t : State) → rest_in t.rests p hd ≡ rest_in s.rests p hd → at_once (opens s c w) ≡ [] → Going s c p hd (events.Begin w) (done t)
+begin_same : (s : State) (c p hd : ℕ) (w : Wanted) (t : State) → rest_in t.rests p hd ≡ rest_in s.rests p hd → at_once (opens s c w) ≡ []
+    → Going s c p hd (events.Begin w) (done t)
 begin_same s c p hd w t e none =
-    inr (inl (sym (ap (λ (us : List ℕ). us ++ rest_in t.rests p hd) (nothing ((c == p) && ((handle_of w == hd) && true)) (at_once (opens s c w)) none) ∙ e), refl))
+    inr (inl (
+      sym (ap (λ (us : List ℕ). us ++ rest_in t.rests p hd) (nothing ((c == p) && ((handle_of w == hd) && true)) (at_once (opens s c w)) none)
+          ∙ e),
+      refl,
+    ))
 
-rest_taken : (s : State) (c p hd h n : ℕ) (w : Wanted) (t : State) (b : Bool) → handle_of w ≡ h → opens s c w ≡ reads.Done (answers.Units (front_of n (rest_in s.rests c h)))
-    → t.rests ≡ with_rest (back_of n (rest_in s.rests c h)) s.rests c h → is_empty (rest_in s.rests c h) ≡ false → ((c == p) && (h == hd)) ≡ b → Going s c p hd (events.Begin w) (done t)
+rest_taken : (s : State) (c p hd h n : ℕ) (w : Wanted) (t : State) (b : Bool) → handle_of w ≡ h
+    → opens s c w ≡ reads.Done (answers.Units (front_of n (rest_in s.rests c h)))
+    → t.rests ≡ with_rest (back_of n (rest_in s.rests c h)) s.rests c h → is_empty (rest_in s.rests c h) ≡ false → ((c == p) && (h == hd)) ≡ b
+    → Going s c p hd (events.Begin w) (done t)
 rest_taken s c p hd h n w t true handle opened now some e =
     let parts = and_parts_of (c == p) (h == hd) e in
     let ep : c ≡ p = eqb-true c p parts.0 in
@@ -189,23 +203,30 @@ rest_taken s c p hd h n w t true handle opened now some e =
     ap (λ (rs : List Rest). rest_in rs p hd) now ∙ ap (λ (q : ℕ). rest_in (with_rest (back_of n text) s.rests c h) q hd) (sym ep)
     ∙ ap (λ (k : ℕ). rest_in (with_rest (back_of n text) s.rests c h) c k) (sym eh) ∙ own_set (back_of n text) s.rests c h some in
     let test : ((c == p) && ((handle_of w == hd) && true)) ≡ true = ap (λ (k : ℕ). (c == p) && ((k == hd) && true)) handle ∙ are_both (c == p) (h == hd) e in
-    let took : takes s c p hd (events.Begin w) replies.Done ≡ front_of n text = chosen ((c == p) && ((handle_of w == hd) && true)) (at_once (opens s c w)) [] test ∙ ap at_once opened in
+    let took : takes s c p hd (events.Begin w) replies.Done ≡ front_of n text = chosen ((c == p) && ((handle_of w == hd) && true))
+    (at_once (opens s c w)) [] test ∙ ap at_once opened in
     inr (inl (
-      old ∙ sym (take-append-drop (line_front n text) text) ∙ sym (ap (λ (us : List ℕ). us ++ rest_in t.rests p hd) took ∙ ap (λ (us : List ℕ). front_of n text ++ us) new),
+      old ∙ sym (take-append-drop (line_front n text) text)
+          ∙ sym (ap (λ (us : List ℕ). us ++ rest_in t.rests p hd) took ∙ ap (λ (us : List ℕ). front_of n text ++ us) new),
       refl,
     ))
 rest_taken s c p hd h n w t false handle opened now some e =
-    let same : rest_in t.rests p hd ≡ rest_in s.rests p hd = ap (λ (rs : List Rest). rest_in rs p hd) now ∙ other_set (back_of n (rest_in s.rests c h)) s.rests c h p hd e in
+    let same : rest_in t.rests p hd ≡ rest_in s.rests p hd = ap (λ (rs : List Rest). rest_in rs p hd) now
+    ∙ other_set (back_of n (rest_in s.rests c h)) s.rests c h p hd e in
     let test : ((c == p) && ((handle_of w == hd) && true)) ≡ false = ap (λ (k : ℕ). (c == p) && ((k == hd) && true)) handle ∙ not_both (c == p) (h == hd) e in
     let took : takes s c p hd (events.Begin w) replies.Done ≡ [] = other_one ((c == p) && ((handle_of w == hd) && true)) (at_once (opens s c w)) [] test in
     inr (inl (sym (ap (λ (us : List ℕ). us ++ rest_in t.rests p hd) took ∙ same), refl))
 
 line_by : (s : State) (c p hd h n : ℕ) (w : Wanted) (initial : List ℕ) (mask : ℕ) (m b : Bool) → handle_of w ≡ h → is_empty (rest_in s.rests c h) ≡ b
-    → opens s c w ≡ (if m then reads.Done (answers.Units []) else if b then line_opened s c initial mask else reads.Done (answers.Units (front_of n (rest_in s.rests c h))))
-    → Going s c p hd (events.Begin w) (done (if m then answered_with (history_used s c) c [] else if b then line_begun (history_used s c) c h n initial mask else rest_answered (history_used s c) c h n (rest_in s.rests c h)))
+    → opens s c w ≡ (if m then reads.Done (answers.Units []) else if b then line_opened s c initial mask else reads.Done
+    (answers.Units (front_of n (rest_in s.rests c h))))
+    → Going s c p hd (events.Begin w) (done (if m then answered_with (history_used s c) c [] else if b then line_begun
+    (history_used s c) c h n initial mask else rest_answered (history_used s c) c h n (rest_in s.rests c h)))
 line_by s c p hd h n w initial mask true b handle some opened = begin_same s c p hd w (answered_with (history_used s c) c []) refl (ap at_once opened)
-line_by s c p hd h n w initial mask false true handle some opened = begin_same s c p hd w (line_begun (history_used s c) c h n initial mask) (begun_same s.rests c h p hd) (ap at_once opened)
-line_by s c p hd h n w initial mask false false handle some opened = rest_taken s c p hd h n w (rest_answered (history_used s c) c h n (rest_in s.rests c h)) ((c == p) && (h == hd)) handle opened refl some refl
+line_by s c p hd h n w initial mask false true handle some opened = begin_same s c p hd w (line_begun (history_used s c) c h n initial mask)
+    (begun_same s.rests c h p hd) (ap at_once opened)
+line_by s c p hd h n w initial mask false false handle some opened = rest_taken s c p hd h n w (rest_answered (history_used s c) c h n (rest_in s.rests c h))
+    ((c == p) && (h == hd)) handle opened refl some refl
 
 units_by : (s : State) (c p hd n : ℕ) (w : Wanted) (m : Bool) → opens s c w ≡ (if m then reads.Done (answers.Units []) else reads.Units n)
     → Going s c p hd (events.Begin w) (done (if m then answered_with s c [] else with_read s c (reads.Units n)))
@@ -218,19 +239,28 @@ text_by : (s : State) (c p hd h n : ℕ) (w : Wanted) (initial : List ℕ) (mask
 text_by s c p hd h n w initial mask true handle opened = line_by s c p hd h n w initial mask (n == 0) (is_empty (rest_in s.rests c h)) handle refl opened
 text_by s c p hd h n w initial mask false handle opened = units_by s c p hd n w (n == 0) opened
 
-by_read_answer : (s : State) (c p hd : ℕ) (w : Wanted) (r : Result (Unit {0}) Code) (t : State) → Going s c p hd (events.Begin w) (done t) → Going s c p hd (events.Begin w) (by_answer s r t)
+by_read_answer : (s : State) (c p hd : ℕ) (w : Wanted) (r : Result (Unit {0}) Code) (t : State) → Going s c p hd (events.Begin w) (done t)
+    → Going s c p hd (events.Begin w) (by_answer s r t)
 by_read_answer s c p hd w (Err why) t h =
-    inr (inl (sym (ap (λ (us : List ℕ). us ++ rest_in s.rests p hd) (other_one ((c == p) && ((handle_of w == hd) && false)) (at_once (opens s c w)) [] (never (c == p) (handle_of w == hd)))), refl))
+    inr (inl (
+      sym (ap (λ (us : List ℕ). us ++ rest_in s.rests p hd)
+          (other_one ((c == p) && ((handle_of w == hd) && false)) (at_once (opens s c w)) [] (never (c == p) (handle_of w == hd)))),
+      refl,
+    ))
 by_read_answer s c p hd w (Ok u) t h = h
 
 begin_going : (s : State) (c p hd : ℕ) (w : Wanted) → Going s c p hd (events.Begin w) (read_began s c w)
 unfolding read_began opens
-begin_going s c p hd (wanted.Read h n) = by_read_answer s c p hd (wanted.Read h n) (read_answer s c h n []) _ (text_by s c p hd h n (wanted.Read h n) [] 0 (has_bit s.mode 2) refl refl)
-begin_going s c p hd (wanted.ReadWith h n initial mask) = by_read_answer s c p hd (wanted.ReadWith h n initial mask) (read_answer s c h n initial) _ (text_by s c p hd h n (wanted.ReadWith h n initial mask) initial mask (has_bit s.mode 2) refl refl)
-begin_going s c p hd (wanted.ReadInput h n) = by_read_answer s c p hd (wanted.ReadInput h n) (records_answer s c h n) _ (begin_same s c p hd (wanted.ReadInput h n) (with_read s c (reads.Records n)) refl refl)
+begin_going s c p hd (wanted.Read h n) = by_read_answer s c p hd (wanted.Read h n)
+    (read_answer s c h n []) _ (text_by s c p hd h n (wanted.Read h n) [] 0 (has_bit s.mode 2) refl refl)
+begin_going s c p hd (wanted.ReadWith h n initial mask) = by_read_answer s c p hd (wanted.ReadWith h n initial mask)
+    (read_answer s c h n initial) _ (text_by s c p hd h n (wanted.ReadWith h n initial mask) initial mask (has_bit s.mode 2) refl refl)
+begin_going s c p hd (wanted.ReadInput h n) = by_read_answer s c p hd (wanted.ReadInput h n)
+    (records_answer s c h n) _ (begin_same s c p hd (wanted.ReadInput h n) (with_read s c (reads.Records n)) refl refl)
 
 -- a Collect
-cut_going : (s : State) (c p hd : ℕ) (n : Noted) (text : List ℕ) (u : State) (b : Bool) → noted_of s.noted c ≡ Some n → answer_in (slice_get s.reads (place_of s.reads c)) ≡ answers.Units text
+cut_going : (s : State) (c p hd : ℕ) (n : Noted) (text : List ℕ) (u : State) (b : Bool) → noted_of s.noted c ≡ Some n
+    → answer_in (slice_get s.reads (place_of s.reads c)) ≡ answers.Units text
     → u.rests ≡ s.rests → ((c == p) && (n.handle == hd)) ≡ b → Going s c p hd events.Collect (line_cut u n text)
 cut_going s c p hd n text u true noted answer same e =
     let parts = and_parts_of (c == p) (n.handle == hd) e in
@@ -265,17 +295,25 @@ cut_going s c p hd n text u false noted answer same e =
       ap (λ (m : Option Noted). (c == p) && (is_line_of hd m && true)) noted ∙ not_both (c == p) (n.handle == hd) e,
     ))
 
-collect_by : (s : State) (c p hd : ℕ) (u : State) → u.rests ≡ s.rests → (n : Option Noted) (a : Answer) → noted_of s.noted c ≡ n → answer_in (slice_get s.reads (place_of s.reads c)) ≡ a
+collect_by : (s : State) (c p hd : ℕ) (u : State) → u.rests ≡ s.rests → (n : Option Noted) (a : Answer) → noted_of s.noted c ≡ n
+    → answer_in (slice_get s.reads (place_of s.reads c)) ≡ a
     → Going s c p hd events.Collect (answer_told u n a)
 collect_by s c p hd u same None (answers.Units text) noted answer =
-    inr (inl (ap (λ (rs : List Rest). rest_in rs p hd) (sym same), ap (λ (m : Option Noted). (c == p) && (is_line_of hd m && true)) noted ∙ not_first (c == p) true))
+    inr (inl (
+      ap (λ (rs : List Rest). rest_in rs p hd) (sym same),
+      ap (λ (m : Option Noted). (c == p) && (is_line_of hd m && true)) noted
+          ∙ not_first (c == p) true,
+    ))
 collect_by s c p hd u same (Some n) (answers.Units text) noted answer = cut_going s c p hd n text u ((c == p) && (n.handle == hd)) noted answer same refl
-collect_by s c p hd u same n (answers.Records rs) noted answer = inr (inl (ap (λ (rs : List Rest). rest_in rs p hd) (sym same), never (c == p) (is_line_of hd (noted_of s.noted c))))
-collect_by s c p hd u same n (answers.Fail why) noted answer = inr (inl (ap (λ (rs : List Rest). rest_in rs p hd) (sym same), never (c == p) (is_line_of hd (noted_of s.noted c))))
+collect_by s c p hd u same n (answers.Records rs) noted answer = inr
+    (inl (ap (λ (rs : List Rest). rest_in rs p hd) (sym same), never (c == p) (is_line_of hd (noted_of s.noted c))))
+collect_by s c p hd u same n (answers.Fail why) noted answer = inr
+    (inl (ap (λ (rs : List Rest). rest_in rs p hd) (sym same), never (c == p) (is_line_of hd (noted_of s.noted c))))
 
 collect_going : (s : State) (c p hd : ℕ) → Going s c p hd events.Collect (collected s c)
 unfolding collected
-collect_going s c p hd = collect_by s c p hd (record s { reads = without s.reads c; noted = without_noted s.noted c }) refl (noted_of s.noted c) (answer_in (slice_get s.reads (place_of s.reads c))) refl refl
+collect_going s c p hd = collect_by s c p hd (record s { reads = without s.reads c; noted = without_noted s.noted c }) refl (noted_of s.noted c)
+    (answer_in (slice_get s.reads (place_of s.reads c))) refl refl
 
 -- an Exit
 exit_going : (s : State) (c p hd status : ℕ) (b : Bool) → (c == p) ≡ b → Going s c p hd (events.Exit status) (done (left s c status))
@@ -284,7 +322,8 @@ exit_going s c p hd status true e = inl (ap (λ (q : ℕ). rest_in (without_rest
 exit_going s c p hd status false e = inr (inl (sym (left_other s.rests c p hd e), rw e refl))
 
 -- what leaves all of them
-walks : (s : State) (c p hd : ℕ) (e : Event) (o : Outcome) → takes s c p hd e o.reply ≡ [] → ends s c p hd e o.reply ≡ false → o.after.rests ≡ s.rests → Going s c p hd e o
+walks : (s : State) (c p hd : ℕ) (e : Event) (o : Outcome) → takes s c p hd e o.reply ≡ [] → ends s c p hd e o.reply ≡ false → o.after.rests ≡ s.rests
+    → Going s c p hd e o
 walks s c p hd e o none stays same =
     inr (inl (sym (ap (λ (us : List ℕ). us ++ rest_in o.after.rests p hd) none ∙ ap (λ (rs : List Rest). rest_in rs p hd) same), stays))
 
@@ -297,7 +336,8 @@ event_going s c p hd events.TakeCtrl = walks s c p hd events.TakeCtrl (took_ctrl
 event_going s c p hd (events.Exit status) = exit_going s c p hd status (c == p) refl
 event_going s c p hd (events.Feed bytes) = walks s c p hd (events.Feed bytes) (done (fed s bytes)) refl refl (fed_walk s bytes).rests
 event_going s c p hd events.Quiet = walks s c p hd events.Quiet (done (quiet s)) refl refl (quiet_walk s).rests
-event_going s c p hd (events.Resize size) = walks s c p hd (events.Resize size) (done (resized s size)) refl refl (ap (λ (x : Core). x.rests) (size_core (record s { buffers = all_resized s.buffers size; resized = true })))
+event_going s c p hd (events.Resize size) = walks s c p hd (events.Resize size) (done (resized s size)) refl refl
+    (ap (λ (x : Core). x.rests) (size_core (record s { buffers = all_resized s.buffers size; resized = true })))
 event_going s c p hd events.Ask = inr (inl (refl, refl))
 event_going s c p hd events.Hangup = walks s c p hd events.Hangup (done (hung_up s)) refl refl (hung_walk s).rests
 event_going s c p hd events.Drained = inr (inl (refl, refl))
@@ -308,7 +348,8 @@ finish_going : (s : State) (c p hd : ℕ) (e : Event) (o : Outcome) → Going s 
 finish_going s c p hd e o h = subst Ended (sym (finished_walk o).rests) h
   where
     Ended : List Rest → Type 0
-    Ended rs = (rest_in rs p hd ≡ []) ⊎ (((rest_in s.rests p hd ≡ takes s c p hd e o.reply ++ rest_in rs p hd) × (ends s c p hd e o.reply ≡ false)) ⊎ ((c ≡ p) × ((e ≡ events.Collect) × LineLeaves s p hd o.reply (rest_in rs p hd))))
+    Ended rs = (rest_in rs p hd ≡ []) ⊎ (((rest_in s.rests p hd ≡ takes s c p hd e o.reply ++ rest_in rs p hd) × (ends s c p hd e o.reply ≡ false))
+        ⊎ ((c ≡ p) × ((e ≡ events.Collect) × LineLeaves s p hd o.reply (rest_in rs p hd))))
 
 -- a client that is not attached
 refused_takes : (s : State) (c p hd : ℕ) (e : Event) → takes s c p hd e (replies.Fail code.BadHandle) ≡ []
@@ -325,11 +366,14 @@ refused_ends s c p hd events.Collect = never (c == p) (is_line_of hd (noted_of s
 refused_ends s c p hd (events.Exit status) = and_no (c == p)
 refused_ends s c p hd e = refl
 
-entry_going : (s : State) (x : Entry) (p hd : ℕ) (b : Bool) → is_outside s x.actor x.event ≡ b → Going s (client_of x.actor) p hd x.event (step s x.actor x.event)
+entry_going : (s : State) (x : Entry) (p hd : ℕ) (b : Bool) → is_outside s x.actor x.event ≡ b
+    → Going s (client_of x.actor) p hd x.event (step s x.actor x.event)
 unfolding step
 entry_going s x p hd true out =
-    rw out (walks s (client_of x.actor) p hd x.event (refused s code.BadHandle) (refused_takes s (client_of x.actor) p hd x.event) (refused_ends s (client_of x.actor) p hd x.event) refl)
-entry_going s x p hd false out = rw out (finish_going s (client_of x.actor) p hd x.event (effect s (client_of x.actor) x.event) (event_going s (client_of x.actor) p hd x.event))
+    rw out (walks s (client_of x.actor) p hd x.event (refused s code.BadHandle) (refused_takes s (client_of x.actor) p hd x.event)
+    (refused_ends s (client_of x.actor) p hd x.event) refl)
+entry_going s x p hd false out = rw out (finish_going s (client_of x.actor) p hd x.event (effect s (client_of x.actor) x.event)
+    (event_going s (client_of x.actor) p hd x.event))
 
 -- ---- a history
 
@@ -357,7 +401,8 @@ later_left s x xs p hd rest l = record {
   once = l.once;
 }
 
-origin_by : (s : State) (x : Entry) (xs : List Entry) (p hd : ℕ) (rest : List ℕ) → Going s (client_of x.actor) p hd x.event (step s x.actor x.event) → Since (moved s x) xs p hd rest → Origin s (x ∷ xs) p hd rest
+origin_by : (s : State) (x : Entry) (xs : List Entry) (p hd : ℕ) (rest : List ℕ) → Going s (client_of x.actor) p hd x.event (step s x.actor x.event)
+    → Since (moved s x) xs p hd rest → Origin s (x ∷ xs) p hd rest
 origin_by s x xs p hd rest (inl gone) k = inl (none_behind (takes_in (moved s x) p hd xs) rest (sym gone ∙ k.0))
 origin_by s x xs p hd rest (inr (inl m)) k =
     let now : List ℕ = takes s (client_of x.actor) p hd x.event (step s x.actor x.event).reply in

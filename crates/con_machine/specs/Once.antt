@@ -43,7 +43,8 @@ pub record TakenOnce (s : State) (h : List Entry) : Type 0 where
   -- they come from what was left of a line, and then it took no record
   pub texts : (before later : List Entry) (p : ℕ) (b : Begin) (units : List ℕ) → Collects s h before later p b
       → (step (run s before) (actors.Client p) events.Collect).reply ≡ replies.Units units
-      → AnswersText (opens (console_before s h b.place) p b.wanted) (asked_for b.wanted) (done_for (Begun b.place) (pieces s h)) (fated s h (Begun b.place)) units
+      → AnswersText (opens (console_before s h b.place) p b.wanted) (asked_for b.wanted) (done_for (Begun b.place) (pieces s h))
+      (fated s h (Begun b.place)) units
   -- a peek leaves all of the console as it is, and each record its fate
   pub peeks : (before later : List Entry) (p hd n : ℕ) → Peeks h before later p hd n → run s (before ++ peek p hd n ∷ []) ≡ run s before
   pub peeked : (before later : List Entry) (p hd n k : ℕ) → Peeks h before later p hd n → fate s (before ++ peek p hd n ∷ []) k ≡ fate s before k

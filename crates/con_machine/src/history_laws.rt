@@ -66,16 +66,24 @@ pub fn what_is_asked_for_is_due()
 /// One entry more stands behind a history exactly where it is ready, its actor is one of the session's, and it is what its actor may
 /// do next: both ways, for what a client's entries follow, the terminal's side, and what was asked for.
 pub fn an_entry_more_may_stand()
-    ensures ready { (s : State) (h : List Entry) (x : Entry) → is_legal s h ≡ true → is_legal s (h ++ x ∷ []) ≡ true → is_ready (run s h) x.actor x.event ≡ true }
-    ensures legal { (s : State) (h : List Entry) (x : Entry) → is_legal s h ≡ true → is_ready (run s h) x.actor x.event ≡ true → is_legal s (h ++ x ∷ []) ≡ true }
+    ensures ready { (s : State) (h : List Entry) (x : Entry) → is_legal s h ≡ true → is_legal s (h ++ x ∷ []) ≡ true
+        → is_ready (run s h) x.actor x.event ≡ true }
+    ensures legal { (s : State) (h : List Entry) (x : Entry) → is_legal s h ≡ true → is_ready (run s h) x.actor x.event ≡ true
+        → is_legal s (h ++ x ∷ []) ≡ true }
     ensures actor { (n : ℕ) (h : List Entry) (x : Entry) → are_of_session n (h ++ x ∷ []) ≡ true → is_one_of n x.actor ≡ true }
     ensures of_session { (n : ℕ) (h : List Entry) (x : Entry) → are_of_session n h ≡ true → is_one_of n x.actor ≡ true → are_of_session n (h ++ x ∷ []) ≡ true }
-    ensures may_client { (s : State) (steps : List Step) (kinds : List ℕ) (h : List Entry) (x : Entry) (p : ℕ) → is_client p x.actor ≡ true → FollowsScript steps kinds (turns s p (h ++ x ∷ [])) → May (client_after steps kinds (turns s p h)) (turn_of (run s h) p x) }
-    ensures client { (s : State) (steps : List Step) (kinds : List ℕ) (h : List Entry) (x : Entry) (p : ℕ) → is_client p x.actor ≡ true → FollowsScript steps kinds (turns s p h) → May (client_after steps kinds (turns s p h)) (turn_of (run s h) p x) → FollowsScript steps kinds (turns s p (h ++ x ∷ [])) }
-    ensures may_send { (cut : Bool) (frames : List Frame) (h : List Entry) (x : Entry) → is_terminal x.actor ≡ true → FollowsLink cut frames (sent (h ++ x ∷ [])) → MaySend cut (after sent_one (all_coming frames) (sent h)) x.event }
-    ensures link { (cut : Bool) (frames : List Frame) (h : List Entry) (x : Entry) → is_terminal x.actor ≡ true → FollowsLink cut frames (sent h) → MaySend cut (after sent_one (all_coming frames) (sent h)) x.event → FollowsLink cut frames (sent (h ++ x ∷ [])) }
+    ensures may_client { (s : State) (steps : List Step) (kinds : List ℕ) (h : List Entry) (x : Entry) (p : ℕ) → is_client p x.actor ≡ true
+        → FollowsScript steps kinds (turns s p (h ++ x ∷ [])) → May (client_after steps kinds (turns s p h)) (turn_of (run s h) p x) }
+    ensures client { (s : State) (steps : List Step) (kinds : List ℕ) (h : List Entry) (x : Entry) (p : ℕ) → is_client p x.actor ≡ true
+        → FollowsScript steps kinds (turns s p h) → May (client_after steps kinds (turns s p h)) (turn_of (run s h) p x)
+        → FollowsScript steps kinds (turns s p (h ++ x ∷ [])) }
+    ensures may_send { (cut : Bool) (frames : List Frame) (h : List Entry) (x : Entry) → is_terminal x.actor ≡ true
+        → FollowsLink cut frames (sent (h ++ x ∷ [])) → MaySend cut (after sent_one (all_coming frames) (sent h)) x.event }
+    ensures link { (cut : Bool) (frames : List Frame) (h : List Entry) (x : Entry) → is_terminal x.actor ≡ true → FollowsLink cut frames (sent h)
+        → MaySend cut (after sent_one (all_coming frames) (sent h)) x.event → FollowsLink cut frames (sent (h ++ x ∷ [])) }
     ensures may_act { (lost : Bool) (h : List Entry) (x : Entry) → AreAnswered lost (h ++ x ∷ []) → MayAct lost (after asks false h) x.actor }
-    ensures answered { (lost : Bool) (h : List Entry) (x : Entry) → AreAnswered lost h → MayAct lost (after asks false h) x.actor → AreAnswered lost (h ++ x ∷ []) }
+    ensures answered { (lost : Bool) (h : List Entry) (x : Entry) → AreAnswered lost h → MayAct lost (after asks false h) x.actor
+        → AreAnswered lost (h ++ x ∷ []) }
 {}
 
 /// An Ask is the terminal's, and whether one is asked for and not painted is told by the history.

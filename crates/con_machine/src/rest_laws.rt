@@ -20,5 +20,6 @@ pub fn what_is_left_is_answered_once()
 /// also where a line read that began before was collected after.
 pub fn a_closed_handle_leaves_nothing()
     ensures { (s : State) (h later : List Entry) (a : Actor) (x : Call) (p hd : ℕ) → closes_it (run s h) p hd a x ≡ true
-        → (let one : Entry = record { actor = a; event = events.Call x } in begins_in (moved (run s h) one) p hd later ≡ false → rest_in (run s (h ++ one ∷ later)).rests p hd ≡ []) }
+        → (let one : Entry = record { actor = a; event = events.Call x } in begins_in (moved (run s h) one) p hd later ≡ false
+        → rest_in (run s (h ++ one ∷ later)).rests p hd ≡ []) }
 {}
