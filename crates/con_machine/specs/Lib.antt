@@ -73,3 +73,4 @@ pub mod Cut
 pub mod Settled
 pub mod Once
 pub mod Rested
+pub mod Unstamped

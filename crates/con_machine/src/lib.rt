@@ -62,6 +62,7 @@ pub mod settled_laws;
 mod showing;
 mod shown;
 mod sizing;
+pub mod stamp_laws;
 mod starting;
 mod terminal;
 mod terminal_events;
