@@ -1,15 +1,14 @@
 -- Nor does what is done to buffers.
-use Rattle.std.proofs.Common.{◌≡◌, ℕ, Bool, true, false, cond, List, [], ◌∷◌, map, length, Option, None, Some, refl, sym, ap, ◌∙◌}
-use Rattle.std.specs.Prelude.{fold, is_none, nat_le, ◌-◌, ◌+◌, ◌==◌, slice_set, slice_index_or}
-use Rattle.std.specs.List.{position, position_or_len}
+use Rattle.std.proofs.Common.{◌≡◌, ℕ, Bool, true, false, cond, List, [], ◌∷◌, map, Option, None, Some, refl, sym, ap, ◌∙◌}
+use Rattle.std.specs.Prelude.{fold, is_none, nat_le, ◌-◌, ◌+◌, ◌==◌}
+use Rattle.std.specs.List.{position_or_len}
 use Rattle.std.specs.Option.{option_map, option_map_or}
 use Rattle.std.proofs.Math.ListN.{get_or-map}
 use Rattle.std.proofs.lemmas.List.{map-set, length-map}
 use Rattle.con_units.specs.Glyph.{Glyph}
 use Rattle.con_units.specs.declared.place.Size.{Size}
-use Rattle.con_grid.specs.Picture.{Picture}
 use Rattle.con_screen.specs.Echo.{changed, drawn_by, Echoed, echoed, ended, cursor_at, origin_in}
-use Rattle.con_screen.specs.Fit.{refitted, moved_in}
+use Rattle.con_screen.specs.Fit.{refitted}
 use Rattle.con_screen.specs.Page.{Page, down_in, shown}
 use Rattle.con_screen.specs.Screen.{Screen}
 use Rattle.con_screen.specs.Told.{Told}
@@ -21,7 +20,7 @@ use Rattle.con_screens.specs.Lending.{with_shown, screen_left}
 use Rattle.con_screens.specs.Resize.{target, screen_resized, buffer_resized, all_resized}
 use Rattle.con_screens.specs.declared.buffer.Buffer.{Buffer}
 use Rattle.con_machine.specs.ScreenCalls.{page_at, page_left}
-use Rattle.con_machine.specs.Unstamped.{unstamped_grid, unstamped_page, unstamped_screen, unstamped_buffer, unstamped_buffers}
+use Rattle.con_machine.specs.Unstamped.{unstamped_page, unstamped_screen, unstamped_buffer, unstamped_buffers}
 use Rattle.con_machine.proofs.PageStamps.{down_in_same, shown_same, unstamped_stage, written_same, switches_same}
 
 -- ---- echoes and sizes of a page

@@ -1,13 +1,12 @@
 -- Nor does what a call does, or answers.
-use Rattle.std.proofs.Common.{◌≡◌, ℕ, ℤ, Bool, true, false, not, ◌&&◌, List, [], ◌∷◌, ◌++◌, map, length, Option, Some, None, Result, Ok, Err, refl, sym, ap, ◌∙◌}
-use Rattle.std.specs.Prelude.{if◌then◌else◌, ◌==◌, ◌||◌, nat_lt, nat_le, zero, suc, ◌+◌, ◌-◌, pos, min}
+use Rattle.std.proofs.Common.{◌≡◌, ℕ, Bool, true, false, not, ◌&&◌, List, ◌++◌, length, Option, Some, None, Result, Ok, Err, refl, sym, ap, ◌∙◌}
+use Rattle.std.specs.Prelude.{if◌then◌else◌, ◌==◌, ◌||◌, nat_lt, nat_le, zero, suc, ◌+◌, ◌-◌}
 use Rattle.con_units.specs.Attr.{plain}
 use Rattle.con_units.specs.Glyph.{Glyph, cell_of}
 use Rattle.con_units.specs.Natural.{natural}
 use Rattle.con_units.specs.View.{row_part}
 use Rattle.con_units.specs.declared.code.Code.{Code}
 use Rattle.con_units.specs.declared.code.Code.TheVariants as code
-use Rattle.con_units.specs.declared.place.Coord.{Coord}
 use Rattle.con_units.specs.declared.place.Rect.{Rect}
 use Rattle.con_alias.specs.Aliases as alias
 use Rattle.con_alias.specs.Aliases.{Entry, alias_at, added, removed}
@@ -25,7 +24,7 @@ use Rattle.con_procs.specs.Procs.{add_answer, handler_added, remove_answer, hand
 use Rattle.con_rects.specs.Area.{area_in, rows_of}
 use Rattle.con_rects.specs.declared.area.Area.{Area}
 use Rattle.con_rects.specs.Rules.{redrawn, rows_part, rect_cells, rect_written, as_read}
-use Rattle.con_rects.specs.Runs.{run_cells, run_count, units_written, words_written, unit_filled, word_filled}
+use Rattle.con_rects.specs.Runs.{run_count, units_written, words_written, unit_filled, word_filled}
 use Rattle.con_rects.specs.Scroll.{scrolled}
 use Rattle.con_screen.specs.ModeSet.{mode_set}
 use Rattle.con_screen.specs.Mode.{number_of}
@@ -33,20 +32,20 @@ use Rattle.con_screen.specs.Page.{Page, shown}
 use Rattle.con_screen.specs.Screen.{Screen}
 use Rattle.con_screen.specs.Setters.{info_of, cursor_set, origin_set, pen_of_word}
 use Rattle.con_screen.specs.Told.{Told, nothing_told}
-use Rattle.con_screen.specs.Fit.{refitted, moved_in}
+use Rattle.con_screen.specs.Fit.{refitted}
 use Rattle.con_screens.specs.Buffer.{buffer_written, told_on}
 use Rattle.con_screens.specs.Buffers.{Buffers, buffer_at, screen_at, free_id, with_buffer}
 use Rattle.con_machine.specs.State.{State}
 use Rattle.con_machine.specs.Outcome.{Outcome, refused, answered, done, by_answer, by_result, checked, while_open, guard, with_object, on_buffer, on_input, buffer_of, are_rights}
 use Rattle.con_machine.specs.HandleCalls.{retained, released, handle_with, opened, opened_at, buffer_made, handle_closed, owned}
 use Rattle.con_machine.specs.ScreenCalls.{page_at, page_of, page_left, with_page, with_screen, mode_in, mode_changed, is_input_mode, numbers_of, is_size, refitted_at, is_place, cursor_numbers, is_origin, told_by, written_to}
-use Rattle.con_machine.specs.CellCalls.{cells_of, rect_told, used_of, is_over, used_in, rect_answer, run_told, run_answer, at_place, cells_for, sides_of, are_cells}
+use Rattle.con_machine.specs.CellCalls.{rect_told, used_of, is_over, used_in, rect_answer, run_told, run_answer, at_place, cells_for, sides_of, are_cells}
 use Rattle.con_machine.specs.LineCalls.{told_alias_in}
 use Rattle.con_machine.specs.ProcessCalls.{is_no_signal, on_place}
 use Rattle.con_machine.specs.Signals.{signalled_to}
 use Rattle.con_machine.specs.Call.{called}
 use Rattle.con_machine.specs.Unstamped.{unstamped_grid, unstamped_page, unstamped_screen, unstamped_buffers, unstamped}
-use Rattle.con_machine.proofs.BufferStamps.{buffer_same, screen_same, page_same, text_same, told_on_same, left_same, page_left_same, alternate_same, retained_one, released_one, created_same, free_same, refitted_same}
+use Rattle.con_machine.proofs.BufferStamps.{screen_same, page_same, text_same, told_on_same, left_same, page_left_same, alternate_same, retained_one, released_one, created_same, free_same, refitted_same}
 
 -- an outcome without stamps
 abbrev pub out : Outcome → Outcome

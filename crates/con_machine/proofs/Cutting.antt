@@ -1,10 +1,10 @@
 -- However the terminal's bytes are cut, the same comes in.
 use Rattle.std.proofs.Common.{◌≡◌, ℕ, zero, suc, Bool, true, false, ◌&&◌, List, [], ◌∷◌, ◌++◌, map, Option, None, Some, refl, sym, ap, subst, ◌∙◌, append_assoc, append-nil}
-use Rattle.std.specs.Prelude.{fold, if◌then◌else◌, ◌==◌}
+use Rattle.std.specs.Prelude.{fold, if◌then◌else◌}
 use Rattle.std.specs.List.{position_or_len}
 use Rattle.std.proofs.lemmas.List.{map-append}
 use Rattle.std.proofs.lemmas.List.Sums.{fold-append}
-use Rattle.con_units.specs.Split.{Split, split_after, with_items}
+use Rattle.con_units.specs.Split.{Split, split_after}
 use Rattle.con_units.specs.SplitLaws.{split_after-append}
 use Rattle.con_units.specs.declared.code.Code.TheVariants as code
 use Rattle.con_alias.specs.Aliases.{AliasList}
@@ -17,7 +17,6 @@ use Rattle.con_mouse.specs.declared.report.Report.{Report}
 use Rattle.con_procs.specs.Procs.{ids_of, signalled}
 use Rattle.con_readers.specs.Act.{Act, began, typed, passed, ended, woke}
 use Rattle.con_readers.specs.Reads.{Settled, settled, all_closed, line_aborted, changed_at, failed, is_open_line}
-use Rattle.con_readers.specs.Serving.{is_done}
 use Rattle.con_readers.specs.declared.open.Open.{Open}
 use Rattle.con_records.specs.declared.record.Key.{Key}
 use Rattle.con_records.specs.declared.record.Mouse.{Mouse}

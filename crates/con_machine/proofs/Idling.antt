@@ -1,6 +1,6 @@
 -- After every event nothing is left to do, so an event without an effect leaves the console as it is.
-use Rattle.std.proofs.Common.{◌≡◌, ℕ, Bool, true, false, ◌&&◌, List, [], ◌∷◌, ◌++◌, map, Option, None, Some, Result, Ok, Err, refl, sym, ap, subst, ◌∙◌, true≢false}
-use Rattle.std.specs.Prelude.{if◌then◌else◌, ◌==◌, fold}
+use Rattle.std.proofs.Common.{◌≡◌, ℕ, Bool, true, false, ◌&&◌, List, [], ◌∷◌, ◌++◌, Option, None, Some, Result, Ok, Err, refl, sym, ap, ◌∙◌, true≢false}
+use Rattle.std.specs.Prelude.{if◌then◌else◌}
 use Rattle.con_units.specs.declared.code.Code.{Code}
 use Rattle.con_units.specs.declared.code.Code.TheVariants as code
 use Rattle.con_alias.specs.Aliases.{AliasList, Entry as Alias, alias_at}
@@ -16,13 +16,12 @@ use Rattle.con_events.specs.declared.entry.Entry.{Entry}
 use Rattle.con_events.specs.declared.event.Event.{Event}
 use Rattle.con_events.specs.declared.event.Event.TheVariants as events
 use Rattle.con_events.specs.declared.reply.Reply.{Reply}
-use Rattle.con_events.specs.declared.reply.Reply.TheVariants as replies
 use Rattle.con_handles.specs.declared.handle.Kind.TheVariants as kind
 use Rattle.con_handles.specs.declared.handle.Object.{Object}
 use Rattle.con_history.specs.Histories.{LineHistories}
 use Rattle.con_procs.specs.Procs.{ids_of, signalled}
 use Rattle.con_readers.specs.Lines.{line_after, line_progress}
-use Rattle.con_readers.specs.Reads.{Settled, settled, is_at_rest, is_none_left, closed_one, all_closed, failed}
+use Rattle.con_readers.specs.Reads.{Settled, settled, is_at_rest, is_none_left, all_closed, failed}
 use Rattle.con_readers.specs.Serving.{Served, is_done, served, served_line, served_on, took_units}
 use Rattle.con_readers.specs.Wants.{units_of}
 use Rattle.con_readers.specs.declared.open.Open.{Open}
@@ -30,18 +29,16 @@ use Rattle.con_readers.specs.declared.open.OpenRead.{OpenRead}
 use Rattle.con_readers.specs.declared.open.OpenRead.TheVariants as reads
 use Rattle.con_records.specs.declared.record.Record.{Record}
 use Rattle.con_machine.specs.State.{State}
-use Rattle.con_machine.specs.Outcome.{Outcome, refused, answered, guard, with_object, buffer_of, while_open}
+use Rattle.con_machine.specs.Outcome.{Outcome, refused, answered, guard, with_object}
 use Rattle.con_machine.specs.Call.{called}
-use Rattle.con_machine.specs.CellCalls.{cells_of, rect_told, run_told, at_place}
 use Rattle.con_machine.specs.Closing.{closing, hung_up, all_wait}
 use Rattle.con_machine.specs.EventLaws.{served_first, settled_shows}
 use Rattle.con_machine.specs.Follows.{begun}
 use Rattle.con_machine.specs.History.{run}
 use Rattle.con_machine.specs.HistoryLaws.{run-append}
-use Rattle.con_machine.specs.InputCalls.{peek_told}
 use Rattle.con_machine.specs.LineCalls.{told_alias_in}
 use Rattle.con_machine.specs.Serving.{settled_from, settled_state}
-use Rattle.con_machine.specs.Settled.{IsSettled, only_tells, by_call, peek}
+use Rattle.con_machine.specs.Settled.{IsSettled, only_tells, peek}
 use Rattle.con_machine.specs.Step.{step, effect, is_outside, client_of, finished}
 
 -- ---- what is at rest is served no more

@@ -12,7 +12,6 @@ use Rattle.con_handles.specs.declared.handle.Object.{Object}
 use Rattle.con_readers.specs.Reads.{answer_in, without, place_of}
 use Rattle.con_readers.specs.declared.answer.Answer.{Answer}
 use Rattle.con_readers.specs.declared.answer.Answer.TheVariants as answers
-use Rattle.con_vtin.specs.Pieces.{Ended}
 use Rattle.con_machine.specs.State.{State, noted_of, without_noted}
 use Rattle.con_machine.specs.Outcome.{Outcome, done, by_answer, with_object, has_bit}
 use Rattle.con_machine.specs.HandleCalls.{opened, owned as object_owned}

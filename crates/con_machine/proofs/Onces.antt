@@ -1,6 +1,5 @@
 -- The laws of fates, of one history.
 use Rattle.std.proofs.Common.{◌≡◌, ℕ, true, List, [], ◌∷◌, ◌++◌, Some, refl, sym, subst}
-use Rattle.std.specs.Prelude.{Option}
 use Rattle.con_events.specs.Session.{Clients}
 use Rattle.con_events.specs.declared.actor.Actor.TheVariants as actors
 use Rattle.con_events.specs.declared.entry.Entry.{Entry}

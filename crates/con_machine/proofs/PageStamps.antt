@@ -1,5 +1,5 @@
 -- No effect on a page depends on the stamps of its rows.
-use Rattle.std.proofs.Common.{◌≡◌, ℕ, Bool, true, false, cond, List, [], ◌∷◌, Option, None, Some, refl, sym, ap, ◌∙◌}
+use Rattle.std.proofs.Common.{◌≡◌, ℕ, Bool, true, false, cond, List, [], ◌∷◌, Option, None, Some, refl, ap, ◌∙◌}
 use Rattle.std.specs.Prelude.{fold, nat_lt, ◌-◌, ◌==◌}
 use Rattle.con_vtgram.specs.declared.item.Csi.{Csi}
 use Rattle.con_vtgram.specs.declared.item.Item.{Item}

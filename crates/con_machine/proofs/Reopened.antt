@@ -19,11 +19,10 @@ use Rattle.con_readers.specs.declared.answer.Answer.{Answer}
 use Rattle.con_readers.specs.declared.answer.Answer.TheVariants as answers
 use Rattle.con_readers.specs.declared.open.OpenRead.TheVariants as reads
 use Rattle.con_screens.specs.Resize.{all_resized}
-use Rattle.con_machine.specs.State.{State, noted_of, without_noted, is_rest_of, is_rest_by, rest_in, with_rest, has_rest, rest_begun, without_rest, without_rests}
-use Rattle.con_machine.specs.Outcome.{Outcome, refused, done, by_answer, with_object, has_bit}
+use Rattle.con_machine.specs.State.{State, noted_of, without_noted, is_rest_of, is_rest_by, rest_in, with_rest, has_rest, rest_begun, without_rest}
+use Rattle.con_machine.specs.Outcome.{refused, done, by_answer, with_object, has_bit}
 use Rattle.con_machine.specs.HandleCalls.{owned as object_owned, handle_closed}
 use Rattle.con_machine.specs.Call.{called}
-use Rattle.con_machine.specs.Client.{is_fail}
 use Rattle.con_machine.specs.Closing.{hung_up}
 use Rattle.con_machine.specs.EventLaws.{Core, call_walk, fed_walk, quiet_walk, hung_walk, size_core, finished_walk}
 use Rattle.con_machine.specs.History.{run}

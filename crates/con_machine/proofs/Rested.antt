@@ -1,11 +1,10 @@
 -- What is left for a handle is of the last line read of it, and each unit of it is answered once.
-use Rattle.std.proofs.Common.{◌≡◌, ℕ, Bool, true, false, not, ◌&&◌, ◌⊎◌, inl, inr, List, [], ◌∷◌, ◌++◌, drop, Option, Some, None, Result, Ok, Err, refl, sym, ap, subst, ◌∙◌, true≢false, append_assoc}
+use Rattle.std.proofs.Common.{◌≡◌, ℕ, Bool, true, false, not, ◌&&◌, ◌⊎◌, inl, inr, List, [], ◌∷◌, ◌++◌, Option, Some, None, Result, Ok, Err, refl, sym, ap, subst, ◌∙◌, true≢false, append_assoc}
 use Rattle.std.specs.Prelude.{◌==◌, ◌||◌, slice_get, if◌then◌else◌}
 use Rattle.std.proofs.lemmas.Bool.{eqb-true, eq-eqb}
 use Rattle.std.proofs.lemmas.List.{take-append-drop}
 use Rattle.con_units.specs.declared.code.Code.{Code}
 use Rattle.con_units.specs.declared.code.Code.TheVariants as code
-use Rattle.con_events.specs.declared.actor.Actor.{Actor}
 use Rattle.con_events.specs.declared.call.Call.{Call}
 use Rattle.con_events.specs.declared.call.Call.TheVariants as calls
 use Rattle.con_events.specs.declared.entry.Entry.{Entry}
@@ -13,13 +12,11 @@ use Rattle.con_events.specs.declared.event.Event.{Event}
 use Rattle.con_events.specs.declared.event.Event.TheVariants as events
 use Rattle.con_events.specs.declared.event.Wanted.{Wanted}
 use Rattle.con_events.specs.declared.event.Wanted.TheVariants as wanted
-use Rattle.con_events.specs.declared.reply.Reply.{Reply}
 use Rattle.con_events.specs.declared.reply.Reply.TheVariants as replies
 use Rattle.con_handles.specs.declared.handle.Object.{Object}
 use Rattle.con_readers.specs.Reads.{answer_in, without, place_of}
 use Rattle.con_readers.specs.declared.answer.Answer.{Answer}
 use Rattle.con_readers.specs.declared.answer.Answer.TheVariants as answers
-use Rattle.con_readers.specs.declared.open.OpenRead.{OpenRead}
 use Rattle.con_readers.specs.declared.open.OpenRead.TheVariants as reads
 use Rattle.con_screens.specs.Resize.{all_resized}
 use Rattle.con_machine.specs.State.{State, noted_of, without_noted, is_rest_of, is_rest_by, rest_in, with_rest, without_rest, without_rests}
@@ -27,14 +24,13 @@ use Rattle.con_machine.specs.Outcome.{Outcome, refused, done, by_answer, with_ob
 use Rattle.con_machine.specs.HandleCalls.{owned as object_owned, handle_closed}
 use Rattle.con_machine.specs.Answers.{opens, opens_line, opens_units, line_opened}
 use Rattle.con_machine.specs.Call.{called}
-use Rattle.con_machine.specs.Client.{is_fail}
 use Rattle.con_machine.specs.Closing.{hung_up}
 use Rattle.con_machine.specs.EventLaws.{Core, call_walk, fed_walk, quiet_walk, hung_walk, size_core, finished_walk}
 use Rattle.con_machine.specs.History.{run}
 use Rattle.con_machine.specs.Left.{LineLeaves, handle_of}
 use Rattle.con_machine.specs.Painting.{painted}
 use Rattle.con_machine.specs.Reads.{began as read_began, began_line, began_units, collected, took_ctrl, left, answer_told, line_cut, part_told, part_left, line_front, front_of, back_of, answered_with, with_read, rest_answered, line_begun, history_used, read_answer, records_answer, is_empty}
-use Rattle.con_machine.specs.Rested.{takes, takes_in, at_once, ends, ends_in, closes, is_line_of, has_units, IsLeft}
+use Rattle.con_machine.specs.Rested.{takes, takes_in, at_once, ends, ends_in, closes, is_line_of, IsLeft}
 use Rattle.con_machine.specs.Step.{step, effect, finished, is_outside, client_of}
 use Rattle.con_machine.specs.Terminal.{fed, quiet, resized}
 use Rattle.con_machine.specs.Turns.{moved}

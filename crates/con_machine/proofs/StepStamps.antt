@@ -1,5 +1,5 @@
 -- Nor does any event.
-use Rattle.std.proofs.Common.{◌≡◌, ℕ, zero, suc, Bool, true, false, not, ◌&&◌, List, [], ◌∷◌, ◌++◌, map, Option, Some, None, Result, Ok, Err, refl, sym, ap, ◌∙◌}
+use Rattle.std.proofs.Common.{◌≡◌, ℕ, Bool, true, false, ◌&&◌, List, [], ◌∷◌, ◌++◌, map, Option, Some, None, Result, Ok, Err, refl, sym, ap, ◌∙◌}
 use Rattle.std.specs.Prelude.{if◌then◌else◌, ◌==◌, ◌||◌, nat_lt, fold, filter, length, slice_get}
 use Rattle.std.specs.Option.{option_map, option_map_or}
 use Rattle.con_units.specs.Split.{split_after}
@@ -10,7 +10,6 @@ use Rattle.con_units.specs.declared.view.View.{View}
 use Rattle.con_cooked.specs.Cooked.{line_of}
 use Rattle.con_cooked.specs.declared.cooked.Cooked.{Cooked}
 use Rattle.con_events.specs.declared.actor.Actor.{Actor}
-use Rattle.con_events.specs.declared.actor.Actor.TheVariants as actors
 use Rattle.con_events.specs.declared.call.Call.{Call}
 use Rattle.con_events.specs.declared.call.Call.TheVariants as calls
 use Rattle.con_events.specs.declared.entry.Entry.{Entry}
@@ -20,7 +19,6 @@ use Rattle.con_events.specs.declared.event.Wanted.{Wanted}
 use Rattle.con_events.specs.declared.event.Wanted.TheVariants as wanted
 use Rattle.con_events.specs.declared.reply.Reply.{Reply}
 use Rattle.con_events.specs.declared.reply.Reply.TheVariants as replies
-use Rattle.con_grid.specs.Picture.{raised}
 use Rattle.con_handles.specs.Handles.{is_owned}
 use Rattle.con_handles.specs.declared.handle.Handle.{Handle}
 use Rattle.con_handles.specs.declared.handle.Kind.TheVariants as kind
@@ -28,10 +26,10 @@ use Rattle.con_handles.specs.declared.handle.Object.{Object}
 use Rattle.con_mouse.specs.Presses.{held_after, record_of}
 use Rattle.con_mouse.specs.Reports.{report_of}
 use Rattle.con_mouse.specs.declared.report.Report.{Report}
-use Rattle.con_procs.specs.Procs.{ids_of, signalled}
+use Rattle.con_procs.specs.Procs.{ids_of}
 use Rattle.con_readers.specs.Act.{Act, began as started, typed, passed, ended, woke}
 use Rattle.con_readers.specs.Lines.{line_text}
-use Rattle.con_readers.specs.Reads.{settled, all_closed, without, place_of, answer_in}
+use Rattle.con_readers.specs.Reads.{settled, without, place_of, answer_in}
 use Rattle.con_readers.specs.declared.answer.Answer.{Answer}
 use Rattle.con_readers.specs.declared.answer.Answer.TheVariants as answers
 use Rattle.con_readers.specs.declared.open.OpenRead.TheVariants as reads
@@ -52,24 +50,24 @@ use Rattle.con_screens.specs.declared.buffer.Buffer.{Buffer}
 use Rattle.con_vtin.specs.Keys.{quieted}
 use Rattle.con_vtin.specs.Pieces.{Piece, Typed, Ended, piece_grammar}
 use Rattle.con_machine.specs.State.{State, noted_of, without_noted, id_of, rest_in}
-use Rattle.con_machine.specs.Outcome.{Outcome, refused, answered, done, by_answer, guard, buffer_of, has_bit}
+use Rattle.con_machine.specs.Outcome.{Outcome, refused, done, guard, buffer_of, has_bit}
 use Rattle.con_machine.specs.HandleCalls.{released}
 use Rattle.con_machine.specs.ScreenCalls.{page_at, page_of, with_page, reported}
 use Rattle.con_machine.specs.Call.{called}
 use Rattle.con_machine.specs.Closing.{closing, hung_up, all_wait}
 use Rattle.con_machine.specs.EventLaws.{served_first}
 use Rattle.con_machine.specs.Fates.{reports_written, call_arrivals, key_arrivals, keys_arrivals, report_arrivals, bytes_arrivals, all_bytes_arrivals, fed_arrivals, size_arrivals, effect_arrivals, step_arrivals, arrived}
-use Rattle.con_machine.specs.History.{run, replies_of, is_legal}
-use Rattle.con_machine.specs.Painting.{view_now, stamped, painted, next_number, differs, same_view}
+use Rattle.con_machine.specs.History.{replies_of, is_legal}
+use Rattle.con_machine.specs.Painting.{view_now, stamped, painted, next_number, differs}
 use Rattle.con_machine.specs.Reads.{began as read_began, began_line, began_units, collected, took_ctrl, left, answer_told, released_all, answered_with, with_read, line_begun, rest_answered, history_used, read_answer, records_answer, is_empty}
-use Rattle.con_machine.specs.Serving.{followed, settled_from, settled_state, line_shown, line_finished, shows_line, is_born, birth_of, started_on, note_changed, origin_before, with_echo}
+use Rattle.con_machine.specs.Serving.{followed, settled_state, line_shown, line_finished, shows_line, is_born, birth_of, started_on, note_changed, origin_before, with_echo}
 use Rattle.con_machine.specs.Signals.{signalled_to}
 use Rattle.con_machine.specs.Step.{step, effect, is_actors, is_outside, is_due, is_ready, client_of, finished}
 use Rattle.con_machine.specs.Terminal.{is_break, key_taken, records_of, mouse_records, by_report, piece_taken, fed, quiet, resized, size_told, size_record}
 use Rattle.con_machine.specs.Unstamped.{unstamped_page, unstamped_screen, unstamped_buffer, unstamped_buffers, unstamped, AreSame, ActAlike, RunAlike}
 use Rattle.con_machine.specs.declared.noted.Noted.{Noted}
 use Rattle.con_machine.proofs.BufferStamps.{buffer_same, told_on_same, screen_same, page_same, left_same, echoed_same, ended_same, unstamped_echo, all_resized_same}
-use Rattle.con_machine.proofs.CallStamps.{out, page_is, page_changed, released_same, either, states, if_answer, call_same, signals}
+use Rattle.con_machine.proofs.CallStamps.{out, page_is, page_changed, released_same, states, if_answer, call_same, signals}
 
 -- ---- serving
 

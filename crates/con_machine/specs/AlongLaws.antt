@@ -1,5 +1,5 @@
 -- One item more, or an entry more, behind what stands as it may.
-use Rattle.std.proofs.Common.{◌≡◌, ℕ, Bool, true, false, ◌&&◌, List, [], ◌∷◌, ◌++◌, length, refl, sym, subst, ◌∙◌}
+use Rattle.std.proofs.Common.{◌≡◌, ℕ, Bool, true, false, ◌&&◌, List, [], ◌∷◌, ◌++◌, refl, sym, subst, ◌∙◌}
 use Rattle.con_units.specs.declared.view.Frame.{Frame}
 use Rattle.con_events.specs.declared.entry.Entry.{Entry}
 use Rattle.con_events.specs.declared.script.Step.{Step}
@@ -7,7 +7,7 @@ use Rattle.con_machine.specs.State.{State}
 use Rattle.con_machine.specs.Step.{is_ready}
 use Rattle.con_machine.specs.Along.{after, Along}
 use Rattle.con_machine.specs.History.{run, is_legal}
-use Rattle.con_machine.specs.HistoryLaws.{legal-append, legal-one, along-one, turns-own, sent-own}
+use Rattle.con_machine.specs.HistoryLaws.{legal-append, along-one, turns-own, sent-own}
 use Rattle.con_machine.specs.Turns.{turns, turn_of, sent, is_client, is_terminal}
 use Rattle.con_machine.specs.Client.{May, moved_on, starting, FollowsScript, client_after}
 use Rattle.con_machine.specs.Follows.{is_one_of, are_of_session, Sender, MaySend, sent_one, FollowsLink, MayAct, asks, AreAnswered}

@@ -13,7 +13,6 @@ use Rattle.con_events.specs.declared.event.Event.TheVariants as events
 use Rattle.con_events.specs.declared.script.Script.{Script}
 use Rattle.con_procs.specs.Procs.{is_attached, is_live, live_in, ids_from, ids_of, signalled}
 use Rattle.con_procs.specs.declared.proc.Proc.{Proc}
-use Rattle.con_readers.specs.Act.{began, ended}
 use Rattle.con_readers.specs.Reads.{all_closed, is_of, place_of, done_in, undone_in, is_open, has_done, has_undone}
 use Rattle.con_readers.specs.declared.open.Open.{Open}
 use Rattle.con_machine.specs.State.{State, behind_first, procs_of}

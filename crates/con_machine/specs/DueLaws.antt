@@ -1,6 +1,6 @@
 -- Where a history shows all and nothing is asked for, no Paint is due.
 use Rattle.std.proofs.Common.{◌≡◌, Bool, true, false, ◌||◌, List, [], ◌∷◌, refl, sym, ap, ◌∙◌}
-use Rattle.std.specs.Prelude.{Option, Some, not}
+use Rattle.std.specs.Prelude.{Option, Some}
 use Rattle.con_units.specs.declared.view.View.{View}
 use Rattle.con_events.specs.declared.actor.Actor.{Actor}
 use Rattle.con_events.specs.declared.actor.Actor.TheVariants as actors

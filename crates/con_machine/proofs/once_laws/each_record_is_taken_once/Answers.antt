@@ -1,4 +1,4 @@
-use Rattle.con_machine.proofs.Onces.{Laws, once, session_once}
+use Rattle.con_machine.proofs.Onces.{once, session_once}
 use Rattle.con_machine.proofs.once_laws.each_record_is_taken_once.Goals as goal
 
 pub returns-clause-console : goal.returns-clause-console
