@@ -9,7 +9,7 @@ use Rattle.con_procs.specs.Procs.{is_attached}
 use Rattle.con_readers.specs.Pieces.{joined}
 use Rattle.con_readers.specs.Reads.{has_done}
 use Rattle.con_machine.specs.State.{State}
-use Rattle.con_machine.specs.Answers.{opens, console_before}
+use Rattle.con_machine.specs.Answers.{opens, console_before, was_interrupted, was_cut_off, is_aborted, is_closed}
 use Rattle.con_machine.specs.Fates.{Taker, Begun, Begin, AnswersRecords, arrived, pieces, done_for, fate, fated, last_begin, wants_records}
 use Rattle.con_machine.specs.Follows.{begun}
 use Rattle.con_machine.specs.History.{run}
@@ -18,6 +18,7 @@ use Rattle.con_machine.specs.Settled.{IsSettled, peek}
 use Rattle.con_machine.specs.Step.{step}
 use Rattle.con_machine.specs.Texts.{AnswersText, asked_for}
 use Rattle.con_machine.proofs.Idling.{peek_leaves, begins_settled}
+use Rattle.con_machine.proofs.Rested.{left_once}
 
 -- what the laws of fates say of every console and history
 pub record Laws : Type 0 where
@@ -31,11 +32,15 @@ pub record Laws : Type 0 where
       → (let all = h ++ collect p ∷ later in (step (run s h) (actors.Client p) events.Collect).reply ≡ replies.Units units
       → AnswersText (opens (console_before s all b.place) p b.wanted) (asked_for b.wanted) (done_for (Begun b.place) (pieces s all))
       (fated s all (Begun b.place)) units)
+  pub aborted : (s : State) (h : List Entry) (p : ℕ) (b : Begin) → last_begin s h p ≡ Some b → is_attached (run s h).procs p ≡ true
+      → has_done (run s h).reads p ≡ true → is_aborted (step (run s h) (actors.Client p) events.Collect).reply ≡ was_interrupted (Begun b.place) (pieces s h)
+  pub closed : (s : State) (h : List Entry) (p : ℕ) (b : Begin) → last_begin s h p ≡ Some b → is_attached (run s h).procs p ≡ true
+      → has_done (run s h).reads p ≡ true → is_closed (step (run s h) (actors.Client p) events.Collect).reply ≡ was_cut_off (Begun b.place) (pieces s h)
   pub peeked : (s : State) (h : List Entry) (p hd n k : ℕ) → s.reads ≡ [] → fate s (h ++ peek p hd n ∷ []) k ≡ fate s h k
   pub stays : (s : State) (h later : List Entry) (k : ℕ) (t : Taker) → fate s h k ≡ Some t → fate s (h ++ later) k ≡ Some t
 
-pub once : Laws → (s : State) (h : List Entry) → s.reads ≡ [] → s.noted ≡ [] → IsSettled s → TakenOnce s h
-once laws s h none unnoted settled = record {
+pub once : Laws → (s : State) (h : List Entry) → s.reads ≡ [] → s.noted ≡ [] → s.rests ≡ [] → IsSettled s → TakenOnce s h
+once laws s h none unnoted unrested settled = record {
   pieces' = laws.whole s h;
   fates = laws.each s h;
   answers = λ before later p b at wants. subst (λ (all : List Entry). AnswersRecords (step (run s before) (actors.Client p) events.Collect).reply
@@ -45,10 +50,13 @@ once laws s h none unnoted settled = record {
       subst (λ (all : List Entry). AnswersText (opens (console_before s all b.place) p b.wanted) (asked_for b.wanted)
       (done_for (Begun b.place) (pieces s all)) (fated s all (Begun b.place)) units) (sym at.is)
       (laws.texts s before later p b units unnoted at.last at.attached at.done told);
+  aborted = λ before later p b at. laws.aborted s before p b at.last at.attached at.done;
+  closed = λ before later p b at. laws.closed s before p b at.last at.attached at.done;
+  rests = λ before later p hd is. left_once s before p hd unrested;
   peeks = λ before later p hd n at. peek_leaves s before p hd n settled;
   peeked = λ before later p hd n k at. laws.peeked s before p hd n k none;
   keeps = λ before later k t is e. subst (λ (all : List Entry). fate s all k ≡ Some t) (sym is) (laws.stays s before later k t e);
 }
 
 pub session_once : Laws → (session : Clients) (racks : List (List ℕ)) (h : List Entry) → TakenOnce (begun session racks) h
-session_once laws session racks h = once laws (begun session racks) h refl refl (begins_settled session racks)
+session_once laws session racks h = once laws (begun session racks) h refl refl refl (begins_settled session racks)

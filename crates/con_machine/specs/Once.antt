@@ -1,5 +1,5 @@
 -- Each record of the input goes to at most one read that removes it, and what each read answers is of the records that went to it.
-use Rattle.std.specs.Prelude.{◌≡◌, ℕ, true, List, [], ◌∷◌, ◌++◌, Some}
+use Rattle.std.specs.Prelude.{◌≡◌, ◌⊎◌, ℕ, true, List, [], ◌∷◌, ◌++◌, Some}
 use Rattle.con_events.specs.declared.actor.Actor.TheVariants as actors
 use Rattle.con_events.specs.declared.entry.Entry.{Entry}
 use Rattle.con_events.specs.declared.event.Event.TheVariants as events
@@ -7,11 +7,12 @@ use Rattle.con_events.specs.declared.reply.Reply.TheVariants as replies
 use Rattle.con_procs.specs.Procs.{is_attached}
 use Rattle.con_readers.specs.Pieces.{joined}
 use Rattle.con_readers.specs.Reads.{has_done}
-use Rattle.con_machine.specs.State.{State}
+use Rattle.con_machine.specs.State.{State, rest_in}
 use Rattle.con_machine.specs.History.{run}
 use Rattle.con_machine.specs.Step.{step}
 use Rattle.con_machine.specs.Settled.{peek}
-use Rattle.con_machine.specs.Answers.{opens, console_before}
+use Rattle.con_machine.specs.Answers.{opens, console_before, was_interrupted, was_cut_off, is_aborted, is_closed}
+use Rattle.con_machine.specs.Rested.{IsLeft}
 use Rattle.con_machine.specs.Texts.{AnswersText, asked_for}
 use Rattle.con_machine.specs.Fates.{Taker, Begun, Begin, AnswersRecords, arrived, pieces, done_for, fate, fated, last_begin, wants_records}
 
@@ -45,6 +46,15 @@ pub record TakenOnce (s : State) (h : List Entry) : Type 0 where
       → (step (run s before) (actors.Client p) events.Collect).reply ≡ replies.Units units
       → AnswersText (opens (console_before s h b.place) p b.wanted) (asked_for b.wanted) (done_for (Begun b.place) (pieces s h))
       (fated s h (Begun b.place)) units
+  -- a read answers that ctrl+C ended it exactly where ctrl+C was signalled to all while it was the first line read that was not done, and
+  -- that the console closed exactly where it closed while the read was not done
+  pub aborted : (before later : List Entry) (p : ℕ) (b : Begin) → Collects s h before later p b
+      → is_aborted (step (run s before) (actors.Client p) events.Collect).reply ≡ was_interrupted (Begun b.place) (pieces s before)
+  pub closed : (before later : List Entry) (p : ℕ) (b : Begin) → Collects s h before later p b
+      → is_closed (step (run s before) (actors.Client p) events.Collect).reply ≡ was_cut_off (Begun b.place) (pieces s before)
+  -- what is left of a line for a handle is of the last line read of that handle, and each of its units is answered once
+  pub rests : (before later : List Entry) (p hd : ℕ) → h ≡ before ++ later
+      → (rest_in (run s before).rests p hd ≡ []) ⊎ IsLeft s before p hd (rest_in (run s before).rests p hd)
   -- a peek leaves all of the console as it is, and each record its fate
   pub peeks : (before later : List Entry) (p hd n : ℕ) → Peeks h before later p hd n → run s (before ++ peek p hd n ∷ []) ≡ run s before
   pub peeked : (before later : List Entry) (p hd n k : ℕ) → Peeks h before later p hd n → fate s (before ++ peek p hd n ∷ []) k ≡ fate s before k

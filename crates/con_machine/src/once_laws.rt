@@ -8,18 +8,20 @@ ghost use Rattle.con_machine.specs.Once.{TakenOnce};
 ghost use Rattle.con_machine.specs.Settled.{IsSettled};
 
 use crate::fates::{
-    a_peek_changes_no_fate, a_read_answers_the_records_of_its_fate,
+    a_peek_changes_no_fate, a_read_answers_the_records_of_its_fate, a_read_fails_by_its_cause,
     a_text_is_of_the_records_of_its_fate, no_record_is_lost,
 };
 
 /// In each history of a session a record of the input goes to at most one read that removes it, each read answers what is of just the
-/// records that went to it, and a peek changes nothing. So it is from every console with no read and nothing left to do.
+/// records that went to it, or what was left of a line, or why it failed, and a peek changes nothing. So it is from every console with no
+/// read, nothing left of a line, and nothing left to do.
 pub fn each_record_is_taken_once()
-    ensures console { (s : State) (h : List Entry) → s.reads ≡ [] → s.noted ≡ [] → IsSettled s → TakenOnce s h }
+    ensures console { (s : State) (h : List Entry) → s.reads ≡ [] → s.noted ≡ [] → s.rests ≡ [] → IsSettled s → TakenOnce s h }
     ensures session { (session : Clients) (racks : List (List ℕ)) (h : List Entry) → TakenOnce (begun session racks) h }
 {
     no_record_is_lost();
     a_read_answers_the_records_of_its_fate();
     a_text_is_of_the_records_of_its_fate();
+    a_read_fails_by_its_cause();
     a_peek_changes_no_fate();
 }

@@ -7,6 +7,8 @@ returns-clause-console c = once (record {
   each = c.no_record_is_lost.ensures.fates;
   records = c.a_read_answers_the_records_of_its_fate.ensures;
   texts = c.a_text_is_of_the_records_of_its_fate.ensures;
+  aborted = c.a_read_fails_by_its_cause.ensures.aborted;
+  closed = c.a_read_fails_by_its_cause.ensures.closed;
   peeked = c.a_peek_changes_no_fate.ensures.peeked;
   stays = c.a_peek_changes_no_fate.ensures.stays;
 })
@@ -17,6 +19,8 @@ returns-clause-session c = session_once (record {
   each = c.no_record_is_lost.ensures.fates;
   records = c.a_read_answers_the_records_of_its_fate.ensures;
   texts = c.a_text_is_of_the_records_of_its_fate.ensures;
+  aborted = c.a_read_fails_by_its_cause.ensures.aborted;
+  closed = c.a_read_fails_by_its_cause.ensures.closed;
   peeked = c.a_peek_changes_no_fate.ensures.peeked;
   stays = c.a_peek_changes_no_fate.ensures.stays;
 })
