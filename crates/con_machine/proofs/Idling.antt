@@ -4,9 +4,6 @@ use Rattle.std.specs.Prelude.{if◌then◌else◌}
 use Rattle.con_units.specs.declared.code.Code.{Code}
 use Rattle.con_units.specs.declared.code.Code.TheVariants as code
 use Rattle.con_alias.specs.Aliases.{AliasList, Entry as Alias, alias_at}
-use Rattle.con_cooked.specs.declared.cooked.Cooked.{Cooked}
-use Rattle.con_cooked.specs.declared.progress.Progress.{Progress}
-use Rattle.con_cooked.specs.declared.progress.Progress.TheVariants as progress
 use Rattle.con_events.specs.Session.{Clients}
 use Rattle.con_events.specs.declared.actor.Actor.{Actor}
 use Rattle.con_events.specs.declared.actor.Actor.TheVariants as actors
@@ -20,10 +17,8 @@ use Rattle.con_handles.specs.declared.handle.Kind.TheVariants as kind
 use Rattle.con_handles.specs.declared.handle.Object.{Object}
 use Rattle.con_history.specs.Histories.{LineHistories}
 use Rattle.con_procs.specs.Procs.{ids_of, signalled}
-use Rattle.con_readers.specs.Lines.{line_after, line_progress}
 use Rattle.con_readers.specs.Reads.{Settled, settled, is_at_rest, is_none_left, all_closed, failed}
-use Rattle.con_readers.specs.Serving.{Served, is_done, served, served_line, served_on, took_units}
-use Rattle.con_readers.specs.Wants.{units_of}
+use Rattle.con_readers.specs.Serving.{is_done, served}
 use Rattle.con_readers.specs.declared.open.Open.{Open}
 use Rattle.con_readers.specs.declared.open.OpenRead.{OpenRead}
 use Rattle.con_readers.specs.declared.open.OpenRead.TheVariants as reads
@@ -40,6 +35,7 @@ use Rattle.con_machine.specs.LineCalls.{told_alias_in}
 use Rattle.con_machine.specs.Serving.{settled_from, settled_state}
 use Rattle.con_machine.specs.Settled.{IsSettled, only_tells, peek}
 use Rattle.con_machine.specs.Step.{step, effect, is_outside, client_of, finished}
+use Rattle.con_machine.proofs.Peeked.{none_left}
 
 -- ---- what is at rest is served no more
 
@@ -86,34 +82,6 @@ unfolding settled_state
 rests s e = ap (settled_from s) (rest_same s.aliases s.reads s.records s.histories e)
 
 -- ---- and what was served is at rest
-
-on_left : (p : ℕ) (al : List AliasList) (line line' : Cooked) (rs : List Record) (hs : LineHistories) (later : Served) (g : Progress)
-    → (is_done later.read ≡ false → later.records ≡ [])
-    → is_done (served_on p al line line' rs hs later g).read ≡ false → (served_on p al line line' rs hs later g).records ≡ []
-on_left p al line line' rs hs later (progress.Going echo) ih d = ih d
-on_left p al line line' rs hs later (progress.Done echo) ih d = absurd (true≢false d)
-on_left p al line line' rs hs later progress.Woken ih d = absurd (true≢false d)
-
-line_left : (p : ℕ) (al : List AliasList) (line : Cooked) (rs : List Record) (hs : LineHistories) → is_done (served_line p al line rs hs).read ≡ false
-    → (served_line p al line rs hs).records ≡ []
-line_left p al line [] hs d = refl
-line_left p al line (r ∷ rs) hs d = on_left p al line (line_after line r hs) rs hs (served_line p al (line_after line r hs) rs hs) (line_progress line r hs)
-    (line_left p al (line_after line r hs) rs hs) d
-
-units_left : (p n : ℕ) (rs : List Record) (hs : LineHistories) (us : List ℕ) → is_done (took_units p n rs hs us).read ≡ false
-    → (took_units p n rs hs us).records ≡ []
-units_left p n rs hs [] d = refl
-units_left p n rs hs (u ∷ us) d = absurd (true≢false d)
-
-none_left : (p : ℕ) (al : List AliasList) (r : OpenRead) (rs : List Record) (hs : LineHistories) → is_done r ≡ false
-    → is_done (served p al r rs hs).read ≡ false → (served p al r rs hs).records ≡ []
-unfolding served
-none_left p al (reads.Line line) rs hs n d = line_left p al line rs hs d
-none_left p al (reads.Units n) [] hs m d = refl
-none_left p al (reads.Units n) (r ∷ rs) hs m d = units_left p n (r ∷ rs) hs (units_of n (r ∷ rs)) d
-none_left p al (reads.Records n) [] hs m d = refl
-none_left p al (reads.Records n) (r ∷ rs) hs m d = absurd (true≢false d)
-none_left p al (reads.Done a) rs hs n d = absurd (true≢false n)
 
 abbrev Left : Settled → Type 0
 Left t = is_at_rest t.reads t.records ≡ true

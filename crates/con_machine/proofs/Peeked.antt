@@ -61,7 +61,7 @@ units_left p n rs hs [] d = refl
 units_left p n rs hs (u ∷ us) d = absurd (true≢false d)
 
 -- a read that is not done left no record
-none_left : (p : ℕ) (al : List AliasList) (read : OpenRead) (rs : List Record) (hs : LineHistories) → is_done read ≡ false → is_done (served p al read rs hs).read ≡ false → (served p al read rs hs).records ≡ []
+pub none_left : (p : ℕ) (al : List AliasList) (read : OpenRead) (rs : List Record) (hs : LineHistories) → is_done read ≡ false → is_done (served p al read rs hs).read ≡ false → (served p al read rs hs).records ≡ []
 unfolding served
 none_left p al (reads.Line line) rs hs n d = line_left p al line rs hs d
 none_left p al (reads.Units n) [] hs m d = refl
