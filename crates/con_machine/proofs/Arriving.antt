@@ -54,7 +54,7 @@ all_followed_held : (s : State) (h : List ℕ) (acts : List Act) → fold follow
 all_followed_held s h [] = refl
 all_followed_held s h (a ∷ rest) = ap (λ (t : State). fold followed t rest) (followed_held s h a) ∙ all_followed_held (followed s a) h rest
 
-settled_held : (s : State) (h : List ℕ) → settled_state (record s { held = h }) ≡ record (settled_state s) { held = h }
+pub settled_held : (s : State) (h : List ℕ) → settled_state (record s { held = h }) ≡ record (settled_state s) { held = h }
 unfolding settled_state
 settled_held s h =
     let t = settled s.aliases s.reads s.records s.histories in

@@ -35,9 +35,11 @@ use Rattle.con_machine.specs.Step.{step, effect}
 use Rattle.con_machine.specs.History.{run}
 use Rattle.con_machine.specs.EventLaws.{AreDone, Frame, served_first, settled_shows, fed_walk}
 use Rattle.con_machine.specs.Fates.{key_arrivals, report_arrivals, bytes_arrivals, all_bytes_arrivals, fed_arrivals, step_arrivals, arrived}
-use Rattle.con_machine.specs.Cut.{feed, in_two, in_one, unplaced, CutAnywhere}
+use Rattle.con_machine.specs.Cut.{feed, in_two, in_one, unplaced, AreLines, CutAnywhere}
 use Rattle.con_machine.specs.declared.noted.Noted.{Noted}
-use Rattle.con_machine.proofs.Arriving.{fed_by_bytes}
+use Rattle.con_machine.proofs.Arriving.{fed_by_bytes, settled_held}
+use Rattle.con_machine.proofs.Idling.{settled_again}
+use Rattle.con_machine.proofs.LineCuts.{pushed, pushed_settled, state_lines, aborted_lines}
 use Rattle.con_machine.specs.Feeding.{byte_taken}
 
 -- ---- before reads are served
@@ -456,6 +458,104 @@ cut_whole s a b d e =
     two_is s a b ∙ ap (λ (t : State). behind t b) (behind_whole s a d e)
     ∙ behind_is (fed s a) b ∙ ap (λ (t : State). closing (settled_state t)) (taken_cut s a b) ∙ sym (behind_is s (a ++ b)) ∙ sym (one_is s (a ++ b))
 
+-- ---- all of the console, where line reads alone wait, and no report of the mouse is asked for
+
+-- reads are done or of lines, and no report of the mouse is asked for
+record OnLines (s : State) : Type 0 where
+  lines : AreLines s.reads
+  off : has_bit s.mode 0x10 ≡ false
+
+same_mode : (s t : State) → both t ≡ both s → has_bit s.mode 0x10 ≡ false → has_bit t.mode 0x10 ≡ false
+same_mode s t e off = ap (λ (x : Both). has_bit x.0.mode 0x10) e ∙ off
+
+key_lines : (s : State) (k : Key) → AreLines s.reads → AreLines (key_taken s k).reads
+key_lines s k l = by (is_break s k)
+  where
+    by : (b : Bool) → AreLines (if b then signalled_to (settled_state s) 0 0 else record s { records = s.records ++ records_of s k }).reads
+    by true = aborted_lines (settled_state s).reads (state_lines s l)
+    by false = l
+
+key_on : (s : State) (k : Key) → OnLines s → OnLines (key_taken s k)
+key_on s k o = record { lines = key_lines s k o.lines; off = same_mode s (key_taken s k) (key_both s k) o.off }
+
+unasked : (s : State) (bytes : List ℕ) → has_bit s.mode 0x10 ≡ false → piece_taken s (Ended bytes) ≡ s
+unasked s bytes off = rw off refl
+
+piece_on : (s : State) (p : Piece) → OnLines s → OnLines (piece_taken s p)
+piece_on s (Typed k) o = key_on s k o
+piece_on s (Ended bytes) o = subst OnLines (sym (unasked s bytes o.off)) o
+
+pieces_on : (s : State) (ps : List Piece) → OnLines s → OnLines (fold piece_taken s ps)
+pieces_on s [] o = o
+pieces_on s (p ∷ ps) o = pieces_on (piece_taken s p) ps (piece_on s p o)
+
+fed_on : (s : State) (bytes : List ℕ) → OnLines s → OnLines (fed s bytes)
+unfolding fed
+fed_on s bytes o = let p : Split Piece = split_after piece_grammar s.held bytes in pieces_on (record s { held = p.tail }) p.items
+    (record { lines = o.lines; off = o.off })
+
+-- consoles that are the same once reads are served
+record ServedAlike (s t : State) : Type 0 where
+  settled' : settled_state s ≡ settled_state t
+  input' : both s ≡ both t
+  first : OnLines s
+  second : OnLines t
+
+push_alike : (s t : State) (rs : List Record) → ServedAlike s t → settled_state (pushed s rs) ≡ settled_state (pushed t rs)
+push_alike s t rs k =
+    sym (pushed_settled s rs k.first.lines) ∙ ap (λ (u : State). settled_state (pushed u rs)) k.settled' ∙ pushed_settled t rs k.second.lines
+
+key_alike : (s t : State) (k : Key) (b : Bool) → is_break s k ≡ b → ServedAlike s t → settled_state (key_taken s k) ≡ settled_state (key_taken t k)
+key_alike s t k b e a = by b e (sym (ap (λ (x : Both). is_break (record s { mode = x.0.mode }) k) a.input') ∙ e)
+  where
+    by : (b : Bool) → is_break s k ≡ b → is_break t k ≡ b → settled_state (key_taken s k) ≡ settled_state (key_taken t k)
+    by true e f = rw (e, f) (ap (λ (u : State). settled_state (signalled_to u 0 0)) a.settled')
+    by false e f =
+        rw (e, f) (push_alike s t (records_of s k) a ∙ ap (λ (x : Both). settled_state
+        (pushed t (records_of (record s { mode = x.0.mode; cursor_keys = x.0.keys }) k))) a.input')
+
+piece_alike : (s t : State) (p : Piece) → ServedAlike s t → ServedAlike (piece_taken s p) (piece_taken t p)
+piece_alike s t (Typed k) a = record {
+  settled' = key_alike s t k (is_break s k) refl a;
+  input' = key_both s k ∙ a.input' ∙ sym (key_both t k);
+  first = key_on s k a.first;
+  second = key_on t k a.second;
+}
+piece_alike s t (Ended bytes) a =
+    subst (λ (u : State). ServedAlike u (piece_taken t (Ended bytes))) (sym (unasked s bytes a.first.off))
+    (subst (λ (u : State). ServedAlike s u) (sym (unasked t bytes a.second.off)) a)
+
+pieces_alike : (s t : State) (ps : List Piece) → ServedAlike s t → ServedAlike (fold piece_taken s ps) (fold piece_taken t ps)
+pieces_alike s t [] a = a
+pieces_alike s t (p ∷ ps) a = pieces_alike (piece_taken s p) (piece_taken t p) ps (piece_alike s t p a)
+
+-- bytes that come once the others were served
+served_alike : (t : State) (h : List ℕ) → OnLines t → ServedAlike (record (settled_state t) { held = h }) (record t { held = h })
+served_alike t h o = record {
+  settled' = settled_held (settled_state t) h ∙ ap (λ (u : State). let v : State = record u { held = h } in v) (settled_again t) ∙ sym (settled_held t h);
+  input' = ap (λ (x : Both). let y : Both = (x.0, h) in y) (settled_both t);
+  first = record { lines = state_lines t o.lines; off = same_mode t (settled_state t) (settled_both t) o.off };
+  second = record { lines = o.lines; off = o.off };
+}
+
+later_alike : (t : State) (b : List ℕ) → OnLines t → settled_state (fed (settled_state t) b) ≡ settled_state (fed t b)
+unfolding fed
+later_alike t b o =
+    let p : Split Piece = split_after piece_grammar t.held b in
+    ap (λ (h : List ℕ). let q : Split Piece = split_after piece_grammar h b in settled_state
+    (fold piece_taken (record (settled_state t) { held = q.tail }) q.items)) (ap (λ (x : Both). x.1) (settled_both t))
+    ∙ (pieces_alike (record (settled_state t) { held = p.tail }) (record t { held = p.tail }) p.items (served_alike t p.tail o)).settled'
+
+cut_lines : (s : State) (a b : List ℕ) → AreLines s.reads → has_bit s.mode 0x10 ≡ false → s.drained ≡ false → run s (in_two a b) ≡ run s (in_one a b)
+cut_lines s a b l off e =
+    let t : State = fed s a in
+    let on : OnLines t = fed_on s a (record { lines = l; off = off }) in
+    let open' : (settled_state t).drained ≡ false = ap (λ (x : State). x.drained) (settled_shows t).is ∙ ap (λ (f : Frame). f.drained) (fed_walk s a).frame
+    ∙ e in
+    two_is s a b ∙ ap (λ (u : State). behind u b) (behind_is s a ∙ stays_open (settled_state t) open')
+    ∙ behind_is (settled_state t) b ∙ ap closing (later_alike t b on) ∙ ap (λ (u : State). closing (settled_state u)) (taken_cut s a b)
+    ∙ sym (behind_is s (a ++ b)) ∙ sym (one_is s (a ++ b))
+
 -- ---- all of it
 
 pub cut_anywhere : (s : State) (a b : List ℕ) → CutAnywhere s a b
@@ -466,4 +566,5 @@ cut_anywhere s a b = record {
   records = cut_records s a b;
   places = cut_places s a b;
   whole = cut_whole s a b;
+  lines = cut_lines s a b;
 }

@@ -109,6 +109,9 @@ served_rest s =
     let same : Waits (settled_state s) ≡ Waits (served_first s) = ap Waits (settled_shows s).is in
     ap (λ (x : List Open × List Record). is_at_rest x.0 x.1) same ∙ all_left s.aliases s.reads s.records s.histories
 
+pub settled_again : (s : State) → settled_state (settled_state s) ≡ settled_state s
+settled_again s = rests (settled_state s) (served_rest s)
+
 -- ---- closing
 
 closed_one_done : (o : Open) (b : Bool) → is_done o.read ≡ b → is_done (if b then o else failed code.Closed o).read ≡ true
