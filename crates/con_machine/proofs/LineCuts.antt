@@ -1,5 +1,5 @@
 -- Line reads are served alike in one go and in two.
-use Rattle.std.proofs.Common.{◌≡◌, ℕ, zero, suc, Bool, true, false, ◌&&◌, List, [], ◌∷◌, ◌++◌, Option, None, Some, refl, sym, ap, subst, ◌∙◌, append_assoc, true≢false}
+use Rattle.std.proofs.Common.{◌≡◌, ℕ, zero, suc, Bool, true, false, List, [], ◌∷◌, ◌++◌, Option, None, Some, refl, sym, ap, subst, ◌∙◌, append_assoc, true≢false}
 use Rattle.std.specs.Prelude.{fold, if◌then◌else◌}
 use Rattle.std.specs.List.{position_or_len}
 use Rattle.std.proofs.lemmas.List.Sums.{fold-append}
@@ -18,7 +18,7 @@ use Rattle.con_readers.specs.declared.open.OpenRead.{OpenRead}
 use Rattle.con_readers.specs.declared.open.OpenRead.TheVariants as reads
 use Rattle.con_records.specs.declared.record.Record.{Record}
 use Rattle.con_machine.specs.State.{State, noted_of}
-use Rattle.con_machine.specs.EventLaws.{served_first, settled_shows}
+use Rattle.con_machine.specs.EventLaws.{settled_shows}
 use Rattle.con_machine.specs.Serving.{followed, settled_from, settled_state, line_shown, line_finished, shows_line}
 use Rattle.con_machine.specs.Cut.{is_line_or_done, AreLines}
 use Rattle.con_machine.specs.declared.noted.Noted.{Noted}
