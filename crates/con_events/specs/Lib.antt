@@ -7,3 +7,5 @@ pub mod Reading
 -- What follows from them, and what types keep.
 pub mod TableLaws
 pub mod Fits
+-- The code's own words.
+pub mod Same

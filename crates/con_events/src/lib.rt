@@ -15,6 +15,8 @@
 //! report have one table, and what is told is what is read. Input records have a table too (`specs/RecordTable`), read by [`read_record`] and shown by
 //! [`tell_record`].
 //!
+//! [`same_event`], [`same_call`], [`same_wanted`] and [`same_reply`] tell whether two are the same.
+//!
 //! Nothing is promised here of what an event does.
 #![tactic(auto)]
 
@@ -40,6 +42,7 @@ pub mod history;
 pub mod reading;
 pub mod recording;
 pub mod reply;
+pub mod same;
 pub mod script;
 pub mod session;
 pub mod telling;
@@ -54,6 +57,7 @@ pub use history::{Ends, Entries, Replies};
 pub use reading::{read_call, whole_call};
 pub use recording::{read_record, record_name, tell_record, whole_record};
 pub use reply::{Lines, Numbers, Reply};
+pub use same::{same_call, same_event, same_reply, same_wanted};
 pub use script::{Script, Scripts, Step, Steps};
 pub use session::Session;
 pub use telling::{Shows, name, tell};
