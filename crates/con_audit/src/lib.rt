@@ -1,0 +1,23 @@
+//! What bytes tell of a terminal whose beginning is not known.
+//!
+//! - [`Partial`]: a terminal that begins with nothing known but its size. [`Partial::play_all`] plays bytes; [`Partial::knows`] tells
+//!   whether it is known, by these bytes alone, that the terminal shows a view. Contracts see the specified terminal of con_term and
+//!   what is known of it: of each cell, of the pen as a whole, of the visibility, and of the cursor with its pending wrap.
+//! - [`Watch`]: a partial terminal that plays a stream, a piece for each picture, and begins anew at each new size.
+//! - [`a_partial_terminal_stays_true`] is the law: what is known holds of every terminal.
+//! - `marking`, `playing`, `knowing`: an item, bytes, and a view.
+//!
+//! No effect of an item is said here: con_term's page does what it does to cells, once with the cells and once with a mark in the place
+//! of each. Nothing is promised of a terminal of another size, or of one that is amidst a sequence at the beginning.
+#![tactic(auto)]
+
+pub mod knowing;
+pub mod laws;
+pub mod marking;
+pub mod partial;
+pub mod playing;
+pub mod watch;
+
+pub use laws::a_partial_terminal_stays_true;
+pub use partial::Partial;
+pub use watch::Watch;
