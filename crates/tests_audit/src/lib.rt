@@ -1,0 +1,6 @@
+//! Tests of con_audit, and a caller that uses its promises.
+#![tactic(auto)]
+
+pub mod callers;
+#[cfg(test)]
+mod frames;
