@@ -1,6 +1,7 @@
 -- What a session leaves behind at its end.
 use Rattle.std.proofs.Common.{◌≡◌, ◌⊎◌, ℕ, ◌+◌, ◌<◌, Bool, true, false, List, [], ◌∷◌, ◌++◌, length, Option, Some, None, refl, sym, ap, ◌∙◌, subst, inl, inr, arith}
 use Rattle.std.specs.Prelude.{not, ◌&&◌, if◌then◌else◌}
+use Rattle.con_link.specs.Reading.{Reading}
 use Rattle.con_link.specs.declared.fault.LinkFault.{LinkFault}
 use Rattle.con_link.specs.declared.fault.LinkFault.TheVariants as faults
 use Rattle.con_events.specs.Session.{Clients}
@@ -20,15 +21,15 @@ use Rattle.con_machine.specs.State.{State}
 use Rattle.con_machine.specs.Step.{is_ready}
 use Rattle.con_machine.specs.Turns.{sent, has_ended, paints}
 use Rattle.con_machine.specs.Whole.{HaveAllLeft}
-use Rattle.con_session.specs.Outcome.{IsOutcome}
+use Rattle.con_session.specs.Outcome.{IsOutcomeBy}
 use Rattle.con_session.specs.Sender.{end_for, FailsBy}
 use Rattle.con_session.specs.Seats.{AllStand, AllFollow}
-use Rattle.con_session.specs.Solo.{Moment, Goes, AllIdle, Stops, begins, end_by}
+use Rattle.con_session.specs.Solo.{Moment, GoesBy, AllIdle, StopsBy, begins, end_by}
 use Rattle.con_session.specs.Standing.{ClientStands}
 use Rattle.con_session.proofs.Going.{failing, fails_now}
 use Rattle.con_session.proofs.Rounding.{AllRest, all_rest, broken_all, client_rests, nobody_none, painter_rests}
 use Rattle.con_session.specs.SenderLaws.{fails_false}
-use Rattle.con_session.specs.EndLaws.{waits_or_gone, left_by_waits, leaves_whole, leaves_stops, leaves_none}
+use Rattle.con_session.specs.EndLaws.{waits_or_gone, left_by_waits, leaves_whole_by, leaves_stops_by, leaves_none_by}
 use Rattle.con_session.specs.RanLaws.{append_none}
 
 -- ---- who has nothing to do
@@ -66,11 +67,12 @@ last_is true b h last are n = broken_all b h (all_order b) last are
 
 -- ---- the whole
 
-whole_outcome : (session : Clients) (racks : List (List ℕ)) (scripts : List Script) (before old : Option (List ℕ)) (m : Moment)
-    → Goes (begins session racks (failing m.failed (paints m.entries))) scripts before old m → AllIdle (begins session racks (failing m.failed (paints m.entries))) m.entries
+whole_outcome : (R : Reading) (M Then : List R.One → List Entry → Type 0) (session : Clients) (racks : List (List ℕ)) (scripts : List Script) (before old : Option (List ℕ)) (m : Moment)
+    → GoesBy R M (begins session racks (failing m.failed (paints m.entries))) scripts before old m → AllIdle (begins session racks (failing m.failed (paints m.entries))) m.entries
     → ((k : ℕ) → k < length session.scripts → ClientStands (begins session racks (failing m.failed (paints m.entries))) m.entries (k + 1))
-    → IsOutcome session racks m.entries m.replies m.ends (end_by m.failed m.side.end) before m.left old m.written
-whole_outcome session racks scripts before old m goes (last, are, nobody) stands =
+    → ((fs : List R.One) → M fs m.entries → Then fs m.entries)
+    → IsOutcomeBy R Then session racks m.entries m.replies m.ends (end_by m.failed m.side.end) before m.left old m.written
+whole_outcome R M Then session racks scripts before old m goes (last, are, nobody) stands then' =
     let n = paints m.entries in
     let f = failing m.failed n in
     let b = begins session racks f in
@@ -82,8 +84,9 @@ whole_outcome session racks scripts before old m goes (last, are, nobody) stands
     let end = end_by m.failed m.side.end in
     let A : List Entry → Type 0 = λ z. AreTurns false b z (all_order b) last in
     record {
-      leaves = leaves_whole session racks f scripts before old m k stands ended left
-          (λ g. unready (is_failed f n) (is_ready (run (begun session racks) m.entries) actors.Painter events.Paint) (fails_false m.failed f n g (fails_now m.failed n)) (painter_rests b m.entries 0 (length session.scripts) rest.1));
+      leaves = leaves_whole_by R M Then session racks f scripts before old m k stands ended left
+          (λ g. unready (is_failed f n) (is_ready (run (begun session racks) m.entries) actors.Painter events.Paint) (fails_false m.failed f n g (fails_now m.failed n)) (painter_rests b m.entries 0 (length session.scripts) rest.1))
+          then';
       rounds = record {
         failed = f;
         fails = fails_at_end m.failed m.side.end n k.some;
@@ -96,62 +99,64 @@ whole_outcome session racks scripts before old m goes (last, are, nobody) stands
     }
 
 -- nobody has anything left to do
-pub outcome_whole : (session : Clients) (racks : List (List ℕ)) (scripts : List Script) (before old : Option (List ℕ)) (m : Moment) (end : End) → end ≡ end_by m.failed m.side.end
-    → ((f : Option ℕ) → FailsBy m.failed f (paints m.entries) → Goes (begins session racks f) scripts before old m × AllIdle (begins session racks f) m.entries)
+pub outcome_whole : (R : Reading) (M Then : List R.One → List Entry → Type 0) (session : Clients) (racks : List (List ℕ)) (scripts : List Script) (before old : Option (List ℕ)) (m : Moment) (end : End) → end ≡ end_by m.failed m.side.end
+    → ((f : Option ℕ) → FailsBy m.failed f (paints m.entries) → GoesBy R M (begins session racks f) scripts before old m × AllIdle (begins session racks f) m.entries)
     → ((b : Begun) (s : State) (h : List Entry) → AllStand b s h scripts m.workers m.places m.memories m.slots → AllFollow b h (length scripts))
-    → IsOutcome session racks m.entries m.replies m.ends end before m.left old m.written
-outcome_whole session racks scripts before old m end e all follow =
+    → ((fs : List R.One) → M fs m.entries → Then fs m.entries)
+    → IsOutcomeBy R Then session racks m.entries m.replies m.ends end before m.left old m.written
+outcome_whole R M Then session racks scripts before old m end e all follow then' =
     let f = failing m.failed (paints m.entries) in
     let both = all f (fails_now m.failed (paints m.entries)) in
     let b = begins session racks f in
-    let P : End → Type 0 = λ z. IsOutcome session racks m.entries m.replies m.ends z before m.left old m.written in
+    let P : End → Type 0 = λ z. IsOutcomeBy R Then session racks m.entries m.replies m.ends z before m.left old m.written in
     let N : ℕ → Type 0 = λ z. AllFollow b m.entries z in
-    subst P (sym e) (whole_outcome session racks scripts before old m both.0 both.1 (subst N (ap (λ (z : List Script). length z) both.0.holds.scripts') (follow b m.state m.entries both.0.holds.clients)))
+    subst P (sym e) (whole_outcome R M Then session racks scripts before old m both.0 both.1 (subst N (ap (λ (z : List Script). length z) both.0.holds.scripts') (follow b m.state m.entries both.0.holds.clients)) then')
 
 -- there was no memory
-pub outcome_stops : (session : Clients) (racks : List (List ℕ)) (before old left written : Option (List ℕ)) (h : List Entry) (rs : List Reply) (es : List ℕ) (failed : Bool)
-    → ((f : Option ℕ) → FailsBy failed f (paints h) → Stops (begins session racks f) before old h rs es left written failed)
-    → IsOutcome session racks h rs es ends.Memory before left old written
-outcome_stops session racks before old left written h rs es failed all =
+pub outcome_stops : (R : Reading) (Then : List R.One → List Entry → Type 0) (session : Clients) (racks : List (List ℕ)) (before old left written : Option (List ℕ)) (h : List Entry) (rs : List Reply) (es : List ℕ) (failed : Bool)
+    → ((f : Option ℕ) → FailsBy failed f (paints h) → StopsBy R Then (begins session racks f) before old h rs es left written failed)
+    → IsOutcomeBy R Then session racks h rs es ends.Memory before left old written
+outcome_stops R Then session racks before old left written h rs es failed all =
     let n = paints h in
     let f = failing failed n in
     let b = begins session racks f in
     let k = all f (fails_now failed n) in
     let (rounds, last, whole_rounds, turns', parts) = k.rounds in
     record {
-      leaves = leaves_stops session racks f before old left written h rs es k.legal k.replies k.numbered k.clients k.link k.canvas;
+      leaves = leaves_stops_by R Then session racks f before old left written h rs es k.legal k.replies k.numbered k.clients k.link k.canvas;
       rounds = record { failed = f; fails = fails_lost failed n k.some; rounds = rounds; last = last; parts = parts; turns_are = whole_rounds; last_is = turns' };
     }
 
 -- there was none to begin with
-pub outcome_none : (session : Clients) (racks : List (List ℕ)) (before old : Option (List ℕ)) → IsOutcome session racks [] [] [] ends.Memory before before old old
-outcome_none session racks before old = record {
-  leaves = leaves_none session racks before old;
+pub outcome_none : (R : Reading) (Then : List R.One → List Entry → Type 0) (session : Clients) (racks : List (List ℕ)) (before old : Option (List ℕ)) → Then [] [] → IsOutcomeBy R Then session racks [] [] [] ends.Memory before before old old
+outcome_none R Then session racks before old more = record {
+  leaves = leaves_none_by R Then session racks before old more;
   rounds = record { failed = None; fails = tt; rounds = []; last = []; parts = refl; turns_are = tt; last_is = refl };
 }
 
 -- ---- as it is handed out
 
-handed : (session : Clients) (racks : List (List ℕ)) (before left old now : Option (List ℕ)) (h g : List Entry) (rs qs : List Reply) (es xs : List ℕ) (end other : End) → h ≡ g → rs ≡ qs → es ≡ xs → end ≡ other → IsOutcome session racks g qs xs other before left old now → IsOutcome session racks h rs es end before left old now
-handed session racks before left old now h g rs qs es xs end other eh er ee en k =
-    let P : List Entry → Type 0 = λ z. IsOutcome session racks z rs es end before left old now in
-    let Q : List Reply → Type 0 = λ z. IsOutcome session racks g z es end before left old now in
-    let R : List ℕ → Type 0 = λ z. IsOutcome session racks g qs z end before left old now in
-    let S : End → Type 0 = λ z. IsOutcome session racks g qs xs z before left old now in
-    subst P (sym eh) (subst Q (sym er) (subst R (sym ee) (subst S (sym en) k)))
+handed : (R : Reading) (Then : List R.One → List Entry → Type 0) (session : Clients) (racks : List (List ℕ)) (before left old now : Option (List ℕ)) (h g : List Entry) (rs qs : List Reply) (es xs : List ℕ) (end other : End) → h ≡ g → rs ≡ qs → es ≡ xs → end ≡ other → IsOutcomeBy R Then session racks g qs xs other before left old now → IsOutcomeBy R Then session racks h rs es end before left old now
+handed R Then session racks before left old now h g rs qs es xs end other eh er ee en k =
+    let P : List Entry → Type 0 = λ z. IsOutcomeBy R Then session racks z rs es end before left old now in
+    let Q : List Reply → Type 0 = λ z. IsOutcomeBy R Then session racks g z es end before left old now in
+    let E : List ℕ → Type 0 = λ z. IsOutcomeBy R Then session racks g qs z end before left old now in
+    let S : End → Type 0 = λ z. IsOutcomeBy R Then session racks g qs xs z before left old now in
+    subst P (sym eh) (subst Q (sym er) (subst E (sym ee) (subst S (sym en) k)))
 
-pub handed_none : (session : Clients) (racks : List (List ℕ)) (before old : Option (List ℕ)) (h : List Entry) (rs : List Reply) (es : List ℕ) (end : End) → h ≡ [] → rs ≡ [] → es ≡ [] → end ≡ ends.Memory → IsOutcome session racks h rs es end before before old old
-handed_none session racks before old h rs es end eh er ee en = handed session racks before before old old h [] rs [] es [] end ends.Memory eh er ee en (outcome_none session racks before old)
+pub handed_none : (R : Reading) (Then : List R.One → List Entry → Type 0) (session : Clients) (racks : List (List ℕ)) (before old : Option (List ℕ)) (h : List Entry) (rs : List Reply) (es : List ℕ) (end : End) → h ≡ [] → rs ≡ [] → es ≡ [] → end ≡ ends.Memory → Then [] [] → IsOutcomeBy R Then session racks h rs es end before before old old
+handed_none R Then session racks before old h rs es end eh er ee en more = handed R Then session racks before before old old h [] rs [] es [] end ends.Memory eh er ee en (outcome_none R Then session racks before old more)
 
-pub handed_whole : (session : Clients) (racks : List (List ℕ)) (scripts : List Script) (before old : Option (List ℕ)) (m : Moment) (h : List Entry) (rs : List Reply) (es : List ℕ) (end other : End)
-    → ((f : Option ℕ) → FailsBy m.failed f (paints m.entries) → Goes (begins session racks f) scripts before old m × AllIdle (begins session racks f) m.entries)
+pub handed_whole : (R : Reading) (M Then : List R.One → List Entry → Type 0) (session : Clients) (racks : List (List ℕ)) (scripts : List Script) (before old : Option (List ℕ)) (m : Moment) (h : List Entry) (rs : List Reply) (es : List ℕ) (end other : End)
+    → ((f : Option ℕ) → FailsBy m.failed f (paints m.entries) → GoesBy R M (begins session racks f) scripts before old m × AllIdle (begins session racks f) m.entries)
     → h ≡ m.entries → rs ≡ m.replies → es ≡ m.ends → end ≡ other → other ≡ end_by m.failed m.side.end → ((b : Begun) (s : State) (g : List Entry) → AllStand b s g scripts m.workers m.places m.memories m.slots → AllFollow b g (length scripts))
-    → IsOutcome session racks h rs es end before m.left old m.written
-handed_whole session racks scripts before old m h rs es end other all eh er ee en eo follow = handed session racks before m.left old m.written h m.entries rs m.replies es m.ends end other eh er ee en (outcome_whole session racks scripts before old m other eo all follow)
+    → ((fs : List R.One) → M fs m.entries → Then fs m.entries)
+    → IsOutcomeBy R Then session racks h rs es end before m.left old m.written
+handed_whole R M Then session racks scripts before old m h rs es end other all eh er ee en eo follow then' = handed R Then session racks before m.left old m.written h m.entries rs m.replies es m.ends end other eh er ee en (outcome_whole R M Then session racks scripts before old m other eo all follow then')
 
-pub handed_stops : (session : Clients) (racks : List (List ℕ)) (before old left written : Option (List ℕ)) (failed : Bool) (h g : List Entry) (rs qs : List Reply) (es xs : List ℕ) (end : End)
-    → ((f : Option ℕ) → FailsBy failed f (paints g) → Stops (begins session racks f) before old g qs xs left written failed) → h ≡ g → rs ≡ qs → es ≡ xs → end ≡ ends.Memory → IsOutcome session racks h rs es end before left old written
-handed_stops session racks before old left written failed h g rs qs es xs end all eh er ee en = handed session racks before left old written h g rs qs es xs end ends.Memory eh er ee en (outcome_stops session racks before old left written g qs xs failed all)
+pub handed_stops : (R : Reading) (Then : List R.One → List Entry → Type 0) (session : Clients) (racks : List (List ℕ)) (before old left written : Option (List ℕ)) (failed : Bool) (h g : List Entry) (rs qs : List Reply) (es xs : List ℕ) (end : End)
+    → ((f : Option ℕ) → FailsBy failed f (paints g) → StopsBy R Then (begins session racks f) before old g qs xs left written failed) → h ≡ g → rs ≡ qs → es ≡ xs → end ≡ ends.Memory → IsOutcomeBy R Then session racks h rs es end before left old written
+handed_stops R Then session racks before old left written failed h g rs qs es xs end all eh er ee en = handed R Then session racks before left old written h g rs qs es xs end ends.Memory eh er ee en (outcome_stops R Then session racks before old left written g qs xs failed all)
 
 -- a session ends with Term only where the terminal failed
 
@@ -161,14 +166,14 @@ not_term faults.TooLong e = cc
 not_term (faults.Bad place kind) e = cc
 not_term faults.OutOfMemory e = cc
 
-term_failed : (failed : Bool) (b : Begun) (scripts : List Script) (before old : Option (List ℕ)) (m : Moment) → Goes b scripts before old m → end_by failed m.side.end ≡ ends.Term → failed ≡ true
-term_failed true b scripts before old m k e = refl
-term_failed false b scripts before old m k e = let q = k.holds.link.fault (ap is_cut e) in absurd (not_term q.0 (sym e ∙ q.2))
+term_failed : (R : Reading) (M : List R.One → List Entry → Type 0) (failed : Bool) (b : Begun) (scripts : List Script) (before old : Option (List ℕ)) (m : Moment) → GoesBy R M b scripts before old m → end_by failed m.side.end ≡ ends.Term → failed ≡ true
+term_failed R M true b scripts before old m k e = refl
+term_failed R M false b scripts before old m k e = let q = k.holds.link.fault (ap is_cut e) in absurd (not_term q.0 (sym e ∙ q.2))
 
-pub term_by : (P : Type 0) (session : Clients) (racks : List (List ℕ)) (scripts : List Script) (before old : Option (List ℕ)) (m : Moment) (was : Bool) (end other : End)
-    → ((f : Option ℕ) → FailsBy m.failed f (paints m.entries) → Goes (begins session racks f) scripts before old m × AllIdle (begins session racks f) m.entries)
+pub term_by : (R : Reading) (M : List R.One → List Entry → Type 0) (P : Type 0) (session : Clients) (racks : List (List ℕ)) (scripts : List Script) (before old : Option (List ℕ)) (m : Moment) (was : Bool) (end other : End)
+    → ((f : Option ℕ) → FailsBy m.failed f (paints m.entries) → GoesBy R M (begins session racks f) scripts before old m × AllIdle (begins session racks f) m.entries)
     → was ≡ false → (m.failed ≡ true → (was ≡ true) ⊎ P) → end ≡ other → other ≡ end_by m.failed m.side.end → end ≡ ends.Term → P
-term_by P session racks scripts before old m was end other all w f e o t =
+term_by R M P session racks scripts before old m was end other all w f e o t =
     let g = failing m.failed (paints m.entries) in
     let k = all g (fails_now m.failed (paints m.entries)) in
-    elim (f (term_failed m.failed (begins session racks g) scripts before old m k.0 (sym o ∙ (sym e ∙ t)))) [ inl x ↦ absurd (let z = sym w ∙ x in cc) | inr p ↦ p ]
+    elim (f (term_failed R M m.failed (begins session racks g) scripts before old m k.0 (sym o ∙ (sym e ∙ t)))) [ inl x ↦ absurd (let z = sym w ∙ x in cc) | inr p ↦ p ]

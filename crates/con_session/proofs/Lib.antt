@@ -1,4 +1,5 @@
 pub mod SeatLaws
+pub mod Hearing
 pub mod Rounding
 pub mod Turning
 pub mod Going

@@ -5,6 +5,7 @@ use Rattle.std.proofs.lemmas.Bool.{and_parts}
 use Rattle.std.proofs.lemmas.Bool.Decides.{nat_tests}
 use Rattle.con_handlers.specs.Delivery.{Memory}
 use Rattle.con_units.specs.declared.place.Size.{Size}
+use Rattle.con_link.specs.Reading.{Reading}
 use Rattle.con_paint.specs.Painter.{Kept}
 use Rattle.con_events.specs.declared.actor.Actor.{Actor}
 use Rattle.con_events.specs.declared.actor.Actor.TheVariants as actors
@@ -25,12 +26,12 @@ use Rattle.con_machine.specs.Turns.{moved, paints, is_paint, is_terminal}
 use Rattle.con_session.specs.Desk.{Stands, entry}
 use Rattle.con_session.specs.Painting.{CanvasIs, PaintTurn, PainterFails, PainterActs}
 use Rattle.con_session.specs.Seats.{ClientsTurn, HaveTurns}
-use Rattle.con_session.specs.Sender.{LinkIs, SenderTurn}
-use Rattle.con_session.specs.Solo.{AsksStand, Holds, Moment}
+use Rattle.con_session.specs.Sender.{LinkBy, SenderTurn}
+use Rattle.con_session.specs.Solo.{AsksStand, HoldsBy, Moment}
 use Rattle.con_session.specs.declared.terminal.Side.{Side}
 use Rattle.con_session.specs.declared.worker.Worker.{Worker}
 use Rattle.con_session.specs.DeskLaws.{run_one, stands_one, stands_still}
-use Rattle.con_session.specs.LinkLaws.{link_other, link_failed}
+use Rattle.con_session.specs.LinkedLaws.{linked_other, linked_failed, linked_paint}
 use Rattle.con_session.specs.PaintCounts.{no_paint, paints_same, paints_next}
 use Rattle.con_session.specs.PaintingLaws.{painter_other}
 use Rattle.con_session.proofs.SeatLaws.{all_other, all_still}
@@ -104,10 +105,10 @@ some_on failed h g x e n k f = let P : ℕ → Type 0 = λ z. 0 < z in subst P (
 no_client_ready : (s : State) (ev : Event) → is_ready s actors.Terminal ev ≡ true → is_paint ev ≡ false
 no_client_ready s ev r = no_paint s actors.Terminal ev r (λ e. absurd (cc))
 
-pub sent_holds : (b : Begun) (scripts : List Script) (before old : Option (List ℕ)) (m : Moment) (t : State) (g : List Entry) (qs : List Reply) (side : Side) (taken : ℕ) (left : Option (List ℕ)) (sent' : Bool)
-    → (m.state.asked ≡ false) ⊎ (m.failed ≡ true) → SenderTurn (Ok sent') b m.state t m.entries g m.replies qs → LinkIs g side m.failed before left taken
-    → Holds b scripts before old m → Holds b scripts before old (record m { state = t; entries = g; replies = qs; side = side; taken = taken; left = left })
-sent_holds b scripts before old m t g qs side taken left true served x link k =
+pub sent_holds : (R : Reading) (M0 M1 : List R.One → List Entry → Type 0) (b : Begun) (scripts : List Script) (before old : Option (List ℕ)) (m : Moment) (t : State) (g : List Entry) (qs : List Reply) (side : Side) (taken : ℕ) (left : Option (List ℕ)) (sent' : Bool)
+    → (m.state.asked ≡ false) ⊎ (m.failed ≡ true) → SenderTurn (Ok sent') b m.state t m.entries g m.replies qs → LinkBy R M1 g side m.failed before left taken
+    → HoldsBy R M0 b scripts before old m → HoldsBy R M1 b scripts before old (record m { state = t; entries = g; replies = qs; side = side; taken = taken; left = left })
+sent_holds R M0 M1 b scripts before old m t g qs side taken left true served x link k =
     let n = x.enters in let q = no_client_ready m.state x.event x.ready in let y = entry actors.Terminal x.event in
     record {
       scripts' = k.scripts';
@@ -120,7 +121,7 @@ sent_holds b scripts before old m t g qs side taken left true served x link k =
       canvas = canvas_on b m.entries g y b.session.size m.kept k.pieces m.ends m.end old m.written m.failed n.entries q k.canvas;
       some = some_on m.failed m.entries g y n.entries q k.some;
     }
-sent_holds b scripts before old m t g qs side taken left false served (r, idle) link k =
+sent_holds R M0 M1 b scripts before old m t g qs side taken left false served (r, idle) link k =
     let A : List Entry → Type 0 = λ z. AsksStand b z m.failed in
     let C : List Entry → Type 0 = λ z. CanvasIs b z b.session.size m.kept k.pieces m.ends m.end old m.written m.failed in
     let S : List Entry → Type 0 = λ z. m.failed ≡ true → 0 < paints z in
@@ -176,10 +177,11 @@ clients_keep broken b s t h g rs qs n all P l st one had k =
     let r = entries_of (clients_from 0 n) had.turns in
     subst P (sym had.entries) (along_clients all b.state P one h r (subst Q had.entries (had.stands st).legal) (from_clients all 0 n had.turns (omega arith)) k)
 
-pub entered_holds : (b : Begun) (scripts : List Script) (before old : Option (List ℕ)) (m : Moment) (t : State) (g : List Entry) (qs : List Reply) (ws : List Worker) (places : List (List ℕ)) (ms : List (List Memory)) (slots : List (List ℕ)) (n : ℕ) (entered : Bool)
+pub entered_holds : (R : Reading) (M : List R.One → List Entry → Type 0) (b : Begun) (scripts : List Script) (before old : Option (List ℕ)) (m : Moment) (t : State) (g : List Entry) (qs : List Reply) (ws : List Worker) (places : List (List ℕ)) (ms : List (List Memory)) (slots : List (List ℕ)) (n : ℕ) (entered : Bool)
     → n ≡ length scripts → ClientsTurn (Ok entered) b m.state t m.entries g m.replies qs n scripts ws places ms slots
-    → Holds b scripts before old m → Holds b scripts before old (record m { state = t; entries = g; replies = qs; workers = ws; places = places; memories = ms; slots = slots })
-entered_holds b scripts before old m t g qs ws places ms slots n entered e (had, nobody, all) k =
+    → ((fs : List R.One) (h : List Entry) (x : Entry) → is_terminal x.actor ≡ false → is_paint x.event ≡ false → M fs h → M fs (h ++ x ∷ []))
+    → HoldsBy R M b scripts before old m → HoldsBy R M b scripts before old (record m { state = t; entries = g; replies = qs; workers = ws; places = places; memories = ms; slots = slots })
+entered_holds R M b scripts before old m t g qs ws places ms slots n entered e (had, nobody, all) closed k =
     let count = length b.session.scripts in
     let l : n ≤ count = omega (arith, e, ap (λ (z : List Script). length z) k.scripts') in
     let keep : (P : List Entry → Type 0) → ((h : List Entry) (x : Entry) → is_terminal x.actor ≡ false → is_one_of count x.actor ≡ true → is_paint x.event ≡ false → P h → P (h ++ x ∷ [])) → P m.entries → P g
@@ -189,7 +191,7 @@ entered_holds b scripts before old m t g qs ws places ms slots n entered e (had,
       stands = had.stands k.stands;
       numbered = keep (λ h. are_of_session count h ≡ true) (λ h x a c d i. numbered_on count h (h ++ x ∷ []) x refl i c) k.numbered;
       clients = all;
-      link = keep (λ h. LinkIs h m.side m.failed before m.left m.taken) (λ h x a c d i. link_other h (h ++ x ∷ []) x m.side m.failed before m.left m.taken refl a i) k.link;
+      link = keep (λ h. LinkBy R M h m.side m.failed before m.left m.taken) (λ h x a c d i. linked_other R M h (h ++ x ∷ []) x m.side m.failed before m.left m.taken refl a (λ fs q. closed fs h x a d q) i) k.link;
       asks = keep (λ h. AsksStand b h m.failed) (λ h x a c d i. asks_on b h (h ++ x ∷ []) x m.failed refl a i) k.asks;
       pieces = k.pieces;
       canvas = keep (λ h. CanvasIs b h b.session.size m.kept k.pieces m.ends m.end old m.written m.failed) (λ h x a c d i. canvas_on b h (h ++ x ∷ []) x b.session.size m.kept k.pieces m.ends m.end old m.written m.failed refl d i) k.canvas;
@@ -204,11 +206,12 @@ entered_paints broken b s t h g rs qs n st had = clients_keep broken b s t h g r
 failed_later : (was now : Bool) → was ≡ false → was ≡ true → now ≡ true
 failed_later was now e i = absurd (let z = sym e ∙ i in cc)
 
-pub painted_holds : (b : Begun) (scripts : List Script) (before old : Option (List ℕ)) (m : Moment) (t : State) (g : List Entry) (qs : List Reply) (kept : Kept) (es : List ℕ) (end : ℕ) (failed : Bool) (written : Option (List ℕ)) (painted : Bool)
+pub painted_holds : (R : Reading) (M1 M2 : List R.One → List Entry → Type 0) (b : Begun) (scripts : List Script) (before old : Option (List ℕ)) (m : Moment) (t : State) (g : List Entry) (qs : List Reply) (kept : Kept) (es : List ℕ) (end : ℕ) (failed : Bool) (written : Option (List ℕ)) (painted : Bool)
     → PainterFails (Ok painted) m.failed failed
     → ((ps : List (List ℕ)) → CanvasIs b m.entries b.session.size m.kept ps m.ends m.end old m.written m.failed → PaintTurn (Ok painted) b m.state t m.entries g m.replies qs b.session.size kept ps es end old written failed)
-    → Holds b scripts before old m → Holds b scripts before old (record m { state = t; entries = g; replies = qs; kept = kept; ends = es; end = end; failed = failed; written = written })
-painted_holds b scripts before old m t g qs kept es end failed written true f turn k =
+    → (m.state ≡ run b.state m.entries → (fs : List R.One) → M1 fs m.entries → M2 fs g)
+    → HoldsBy R M1 b scripts before old m → HoldsBy R M2 b scripts before old (record m { state = t; entries = g; replies = qs; kept = kept; ends = es; end = end; failed = failed; written = written })
+painted_holds R M1 M2 b scripts before old m t g qs kept es end failed written true f turn follow k =
     let (x, (p, c)) = turn k.pieces k.canvas in
     let n = x.enters in let y = entry actors.Painter events.Paint in
     record {
@@ -216,23 +219,23 @@ painted_holds b scripts before old m t g qs kept es end failed written true f tu
       stands = stands_one b.state m.state t m.entries g m.replies qs actors.Painter events.Paint n x.ready k.stands;
       numbered = numbered_on (length b.session.scripts) m.entries g y n.entries k.numbered refl;
       clients = all_other b m.state t m.entries g m.replies qs actors.Painter events.Paint scripts m.workers m.places m.memories m.slots refl n k.clients;
-      link = link_failed g m.side m.failed failed before m.left m.taken (failed_later m.failed failed f) (link_other m.entries g y m.side m.failed before m.left m.taken n.entries refl k.link);
+      link = linked_paint R M1 M2 m.entries g y m.side m.failed failed before m.left m.taken n.entries refl (failed_later m.failed failed f) (follow k.stands.state) k.link;
       asks = asks_lost b g m.failed failed (failed_later m.failed failed f) (asks_on b m.entries g y m.failed n.entries refl k.asks);
       pieces = k.pieces ++ p ∷ [];
       canvas = c;
       some = λ z. let e = paints_next m.entries g n.entries in omega arith;
     }
-painted_holds b scripts before old m t g qs kept es end failed written false f turn k =
+painted_holds R M1 M2 b scripts before old m t g qs kept es end failed written false f turn follow k =
     let (r, why, c) = turn k.pieces k.canvas in
     let A : List Entry → Type 0 = λ z. AsksStand b z failed in
-    let L : List Entry → Type 0 = λ z. LinkIs z m.side failed before m.left m.taken in
+    let L : List Entry → Type 0 = λ z. ((fs : List R.One) → M1 fs m.entries → M2 fs z) → LinkBy R M2 z m.side failed before m.left m.taken in
     let S : List Entry → Type 0 = λ z. failed ≡ true → 0 < paints z in
     record {
       scripts' = k.scripts';
       stands = stands_still b.state m.state t m.entries g m.replies qs r k.stands;
       numbered = ap (λ (z : List Entry). are_of_session (length b.session.scripts) z) r.entries ∙ k.numbered;
       clients = all_still b m.state t m.entries g m.replies qs scripts m.workers m.places m.memories m.slots r k.clients;
-      link = subst L (sym r.entries) (link_failed m.entries m.side m.failed failed before m.left m.taken (λ e. f ∙ e) k.link);
+      link = subst L (sym r.entries) (λ q. linked_failed R M1 M2 m.entries m.side m.failed failed before m.left m.taken (λ e. f ∙ e) q k.link) (follow k.stands.state);
       asks = subst A (sym r.entries) (asks_lost b m.entries m.failed failed (λ e. f ∙ e) k.asks);
       pieces = k.pieces;
       canvas = c;

@@ -8,7 +8,7 @@ use Rattle.con_units.specs.declared.view.Frame.{Frame}
 use Rattle.con_units.specs.declared.view.Sight.{Sight}
 use Rattle.con_units.specs.declared.view.Sight.TheVariants as sights
 use Rattle.con_outside.specs.Laws.{then_written-none, then_left-none}
-use Rattle.con_link.specs.Frames.{spelling, Answers, goes_on}
+use Rattle.con_link.specs.Reading.{Reading, plainly}
 use Rattle.con_link.specs.declared.fault.LinkFault.{LinkFault}
 use Rattle.con_link.specs.declared.fault.LinkFault.TheVariants as faults
 use Rattle.con_term.specs.Play.{play}
@@ -39,15 +39,15 @@ use Rattle.con_machine.specs.Step.{is_ready}
 use Rattle.con_machine.specs.Turns.{sent, has_ended, is_pending, paints}
 use Rattle.con_machine.specs.Whole.{HaveAllLeft}
 use Rattle.con_session.specs.Desk.{listed}
-use Rattle.con_session.specs.Outcome.{Leaves, IsCut, HasSent, end_of, last_end}
+use Rattle.con_session.specs.Outcome.{Leaves, LeavesBy, IsCutBy, HasSentBy, end_of, last_end}
 use Rattle.con_session.specs.Painting.{CanvasEnds}
 use Rattle.con_session.specs.Runs.{EachPiece, EachRun, Painted, ShowsView, PrintsFew, PrintsNewRows, joined, ends_from}
-use Rattle.con_session.specs.Sender.{LinkIs, LinkEnds, end_for, hung}
-use Rattle.con_session.specs.Solo.{Moment, Holds, begins, end_by}
+use Rattle.con_session.specs.Sender.{LinkBy, LinkEnds, LinkEndsBy, NoMore, all_go_on, end_for, hung}
+use Rattle.con_session.specs.Solo.{Moment, Holds, HoldsBy, begins, end_by}
 use Rattle.con_session.specs.Standing.{ClientStands, is_here}
 use Rattle.con_session.specs.declared.terminal.Side.{Side}
 use Rattle.con_session.specs.CanvasLaws.{painted_count}
-use Rattle.con_session.specs.LinkLaws.{link_going}
+use Rattle.con_session.specs.LinkedLaws.{linked_going}
 use Rattle.con_session.specs.StreamLaws.{run_by_pieces}
 use Rattle.con_session.specs.RanLaws.{append_none}
 
@@ -142,33 +142,33 @@ bad_at place kind faults.Failed e = absurd (cc)
 bad_at place kind faults.TooLong e = absurd (cc)
 bad_at place kind faults.OutOfMemory e = absurd (cc)
 
-pub sent_cut : (frames : List Frame) (es : List Event) (cut : Bool) → cut ≡ true → list_all goes_on frames ≡ true → es ≡ map sent_by frames ++ hung cut → IsCut frames es
-sent_cut frames es cut c g e = (g, e ∙ ap (λ (z : Bool). map sent_by frames ++ hung z) c)
+pub sent_cut : (R : Reading) (frames : List R.One) (es : List Event) (cut : Bool) → cut ≡ true → all_go_on R frames ≡ true → es ≡ map sent_by (R.plains frames) ++ hung cut → IsCutBy R frames es
+sent_cut R frames es cut c g e = (g, e ∙ ap (λ (z : Bool). map sent_by (R.plains frames) ++ hung z) c)
 
-pub answer_of : (f g : LinkFault) (n : ℕ) (text : List ℕ) (left : Option (List ℕ)) → f ≡ g → Answers (Err f) n text left → Answers (Err g) n text left
-answer_of f g n text left e a = let P : LinkFault → Type 0 = λ z. Answers (Err z) n text left in subst P e a
+pub answer_of : (R : Reading) (f g : LinkFault) (n : ℕ) (text : List ℕ) (left : Option (List ℕ)) → f ≡ g → R.answers (Err f) n text left → R.answers (Err g) n text left
+answer_of R f g n text left e a = let P : LinkFault → Type 0 = λ z. R.answers (Err z) n text left in subst P e a
 
 pub no_cut : (cut failed is : Bool) → (cut ≡ true → (failed ≡ true) ⊎ (is ≡ true)) → failed ≡ false → is ≡ false → cut ≡ false
 no_cut false failed is w f i = refl
 no_cut true failed is w f i = absurd (elim (w refl) [ inl e ↦ let z = sym e ∙ f in cc | inr e ↦ let z = sym e ∙ i in cc ])
 
-pub sent_by_end : (end : End) (h : List Entry) (side : Side) (failed : Bool) (before left : Option (List ℕ)) (taken : ℕ) (k : LinkIs h side failed before left taken) → side.end ≡ end → side.ended ≡ true → failed ≡ false → HasSent end k.frames k.extra left (sent h)
-sent_by_end ends.Done h side failed before left taken k i e f =
+pub sent_by_end : (R : Reading) (More : List R.One → List Entry → Type 0) (end : End) (h : List Entry) (side : Side) (failed : Bool) (before left : Option (List ℕ)) (taken : ℕ) (k : LinkBy R More h side failed before left taken) → side.end ≡ end → side.ended ≡ true → failed ≡ false → HasSentBy R end k.frames k.extra left (sent h)
+sent_by_end R More ends.Done h side failed before left taken k i e f =
     let c = no_cut k.cut failed (is_cut side.end) (λ x. (k.why x).1) f (ap is_cut i) in
     let w = k.whole c e in
-    (w.0, w.1, w.2, k.stands.all' ∙ (ap (λ (z : Bool). map sent_by k.frames ++ hung z) c ∙ append_none (map sent_by k.frames)))
-sent_by_end ends.Link h side failed before left taken k i e f =
-    let (g, c, j, a) = k.fault (ap is_cut i) in (sent_cut k.frames (sent h) k.cut c (k.why c).0 k.stands.all', answer_of g faults.Failed (length (flat_map spelling k.frames)) k.extra left (not_failed g (sym i ∙ j)) a)
-sent_by_end ends.TooLong h side failed before left taken k i e f =
-    let (g, c, j, a) = k.fault (ap is_cut i) in (sent_cut k.frames (sent h) k.cut c (k.why c).0 k.stands.all', answer_of g faults.TooLong (length (flat_map spelling k.frames)) k.extra left (too_long g (sym i ∙ j)) a)
-sent_by_end (ends.Bad place kind) h side failed before left taken k i e f =
-    let (g, c, j, a) = k.fault (ap is_cut i) in (sent_cut k.frames (sent h) k.cut c (k.why c).0 k.stands.all', answer_of g (faults.Bad place kind) (length (flat_map spelling k.frames)) k.extra left (bad_at place kind g (sym i ∙ j)) a)
-sent_by_end ends.Term h side failed before left taken k i e f = tt
-sent_by_end ends.Memory h side failed before left taken k i e f = tt
+    (w.0, w.1, w.2, k.stands.all' ∙ (ap (λ (z : Bool). map sent_by (R.plains k.frames) ++ hung z) c ∙ append_none (map sent_by (R.plains k.frames))))
+sent_by_end R More ends.Link h side failed before left taken k i e f =
+    let (g, c, j, a) = k.fault (ap is_cut i) in (sent_cut R k.frames (sent h) k.cut c (k.why c).0 k.stands.all', answer_of R g faults.Failed (length (flat_map R.spelling k.frames)) k.extra left (not_failed g (sym i ∙ j)) a)
+sent_by_end R More ends.TooLong h side failed before left taken k i e f =
+    let (g, c, j, a) = k.fault (ap is_cut i) in (sent_cut R k.frames (sent h) k.cut c (k.why c).0 k.stands.all', answer_of R g faults.TooLong (length (flat_map R.spelling k.frames)) k.extra left (too_long g (sym i ∙ j)) a)
+sent_by_end R More (ends.Bad place kind) h side failed before left taken k i e f =
+    let (g, c, j, a) = k.fault (ap is_cut i) in (sent_cut R k.frames (sent h) k.cut c (k.why c).0 k.stands.all', answer_of R g (faults.Bad place kind) (length (flat_map R.spelling k.frames)) k.extra left (bad_at place kind g (sym i ∙ j)) a)
+sent_by_end R More ends.Term h side failed before left taken k i e f = tt
+sent_by_end R More ends.Memory h side failed before left taken k i e f = tt
 
-pub link_sent : (failed : Bool) (h : List Entry) (side : Side) (before left : Option (List ℕ)) (taken : ℕ) (k : LinkIs h side failed before left taken) → side.ended ≡ true → HasSent (end_by failed side.end) k.frames k.extra left (sent h)
-link_sent true h side before left taken k e = tt
-link_sent false h side before left taken k e = sent_by_end side.end h side false before left taken k refl e refl
+pub link_sent : (R : Reading) (More : List R.One → List Entry → Type 0) (failed : Bool) (h : List Entry) (side : Side) (before left : Option (List ℕ)) (taken : ℕ) (k : LinkBy R More h side failed before left taken) → side.ended ≡ true → HasSentBy R (end_by failed side.end) k.frames k.extra left (sent h)
+link_sent R More true h side before left taken k e = tt
+link_sent R More false h side before left taken k e = sent_by_end R More side.end h side false before left taken k refl e refl
 
 pub cut_at_end : (cut failed : Bool) (end : End) → (cut ≡ true → (failed ≡ true) ⊎ (is_cut end ≡ true)) → cut ≡ true → is_cut (end_by failed end) ≡ true
 cut_at_end cut true end w c = refl
@@ -196,11 +196,12 @@ answered_lost out (x ∷ xs) = (may_lost out x.actor, answered_lost (asks out x)
 -- ---- the whole
 
 -- nobody has anything left to do
-pub leaves_whole : (session : Clients) (racks : List (List ℕ)) (f : Option ℕ) (scripts : List Script) (before old : Option (List ℕ)) (m : Moment) → Holds (begins session racks f) scripts before old m
+pub leaves_whole_by : (R : Reading) (More Then : List R.One → List Entry → Type 0) (session : Clients) (racks : List (List ℕ)) (f : Option ℕ) (scripts : List Script) (before old : Option (List ℕ)) (m : Moment) → HoldsBy R More (begins session racks f) scripts before old m
     → ((k : ℕ) → k < length session.scripts → ClientStands (begins session racks f) m.entries (k + 1)) → has_ended false (sent m.entries) ≡ true → HaveAllLeft (begun session racks) m.entries session racks
     → (m.failed ≡ false → is_ready (run (begun session racks) m.entries) actors.Painter events.Paint ≡ false)
-    → Leaves session racks m.entries m.replies m.ends (end_by m.failed m.side.end) before m.left old m.written
-leaves_whole session racks f scripts before old m k stands ended left idle =
+    → ((fs : List R.One) → More fs m.entries → Then fs m.entries)
+    → LeavesBy R Then session racks m.entries m.replies m.ends (end_by m.failed m.side.end) before m.left old m.written
+leaves_whole_by R More Then session racks f scripts before old m k stands ended left idle then' =
     let n = paints m.entries in
     let b = begins session racks f in
     let end = end_by m.failed m.side.end in
@@ -218,12 +219,13 @@ leaves_whole session racks f scripts before old m k stands ended left idle =
       text = k.link.extra;
       frames' = k.link.frames';
       taken = k.link.read;
-      going = link_going m.entries m.side m.failed before m.left m.taken k.link;
-      side = link_sent m.failed m.entries m.side before m.left m.taken k.link (sym k.link.stands.ended' ∙ ended);
+      going = linked_going R More m.entries m.side m.failed before m.left m.taken k.link;
+      side = link_sent R More m.failed m.entries m.side before m.left m.taken k.link (sym k.link.stands.ended' ∙ ended);
+      more = then' k.link.frames k.link.more;
       follows = record {
         actors = k.numbered;
         clients = λ p l i. (each_number session racks f m.entries stands p l i).follows;
-        link = subst F (append_none k.link.frames) (k.link.stands.follows (is_cut end) (cut_at_end k.link.cut m.failed m.side.end (λ c. (k.link.why c).1)) []);
+        link = subst F (append_none (R.plains k.link.frames)) (k.link.stands.follows (is_cut end) (cut_at_end k.link.cut m.failed m.side.end (λ c. (k.link.why c).1)) []);
         answered = k.asks.answered (is_lost end) (lost_at_end m.failed m.side.end);
       };
       stream = stream;
@@ -245,11 +247,11 @@ leaves_whole session racks f scripts before old m k stands ended left idle =
     }
 
 -- there was no memory
-pub leaves_stops : (session : Clients) (racks : List (List ℕ)) (f : Option ℕ) (before old left written : Option (List ℕ)) (h : List Entry) (rs : List Reply) (es : List ℕ)
+pub leaves_stops_by : (R : Reading) (More : List R.One → List Entry → Type 0) (session : Clients) (racks : List (List ℕ)) (f : Option ℕ) (before old left written : Option (List ℕ)) (h : List Entry) (rs : List Reply) (es : List ℕ)
     → is_legal (begun session racks) h ≡ true → rs ≡ map listed (replies_of (begun session racks) h) → are_of_session (length session.scripts) h ≡ true
-    → ((k : ℕ) → k < length session.scripts → ClientStands (begins session racks f) h (k + 1)) → LinkEnds h before left → CanvasEnds (begins session racks f) h session.size es old written
-    → Leaves session racks h rs es ends.Memory before left old written
-leaves_stops session racks f before old left written h rs es legal answers numbered stands link canvas =
+    → ((k : ℕ) → k < length session.scripts → ClientStands (begins session racks f) h (k + 1)) → LinkEndsBy R More h before left → CanvasEnds (begins session racks f) h session.size es old written
+    → LeavesBy R More session racks h rs es ends.Memory before left old written
+leaves_stops_by R More session racks f before old left written h rs es legal answers numbered stands link canvas =
     let w = canvas.written in
     let ps = canvas.pieces in
     let long = taken_length w.count (joined ps) w.most in
@@ -266,10 +268,11 @@ leaves_stops session racks f before old left written h rs es legal answers numbe
       taken = link.read;
       going = link.going;
       side = tt;
+      more = link.more;
       follows = record {
         actors = numbered;
         clients = λ p l i. (each_number session racks f h stands p l i).follows;
-        link = subst F (append_none link.frames) (link.stands.follows true (λ c. refl) []);
+        link = subst F (append_none (R.plains link.frames)) (link.stands.follows true (λ c. refl) []);
         answered = answered_lost false h;
       };
       stream = take w.count (joined ps);
@@ -287,8 +290,8 @@ leaves_stops session racks f before old left written h rs es legal answers numbe
     }
 
 -- there was none to begin with
-pub leaves_none : (session : Clients) (racks : List (List ℕ)) (before old : Option (List ℕ)) → Leaves session racks [] [] [] ends.Memory before before old old
-leaves_none session racks before old = record {
+pub leaves_none_by : (R : Reading) (More : List R.One → List Entry → Type 0) (session : Clients) (racks : List (List ℕ)) (before old : Option (List ℕ)) → More [] [] → LeavesBy R More session racks [] [] [] ends.Memory before before old old
+leaves_none_by R More session racks before old more = record {
   legal = refl;
   replies = refl;
   frames = [];
@@ -297,6 +300,7 @@ leaves_none session racks before old = record {
   taken = then_left-none before;
   going = inl refl;
   side = tt;
+  more = more;
   follows = record { actors = refl; clients = λ p l i. tt; link = tt; answered = tt };
   stream = [];
   written = then_written-none old;
@@ -311,3 +315,20 @@ leaves_none session racks before old = record {
   ended = λ i. absurd (cc);
   whole = λ i. absurd (cc);
 }
+
+-- ---- of a session with no second terminal
+
+pub leaves_whole : (session : Clients) (racks : List (List ℕ)) (f : Option ℕ) (scripts : List Script) (before old : Option (List ℕ)) (m : Moment) → Holds (begins session racks f) scripts before old m
+    → ((k : ℕ) → k < length session.scripts → ClientStands (begins session racks f) m.entries (k + 1)) → has_ended false (sent m.entries) ≡ true → HaveAllLeft (begun session racks) m.entries session racks
+    → (m.failed ≡ false → is_ready (run (begun session racks) m.entries) actors.Painter events.Paint ≡ false)
+    → Leaves session racks m.entries m.replies m.ends (end_by m.failed m.side.end) before m.left old m.written
+leaves_whole session racks f scripts before old m k stands ended left idle = leaves_whole_by plainly NoMore NoMore session racks f scripts before old m k stands ended left idle (λ fs x. tt)
+
+pub leaves_stops : (session : Clients) (racks : List (List ℕ)) (f : Option ℕ) (before old left written : Option (List ℕ)) (h : List Entry) (rs : List Reply) (es : List ℕ)
+    → is_legal (begun session racks) h ≡ true → rs ≡ map listed (replies_of (begun session racks) h) → are_of_session (length session.scripts) h ≡ true
+    → ((k : ℕ) → k < length session.scripts → ClientStands (begins session racks f) h (k + 1)) → LinkEnds h before left → CanvasEnds (begins session racks f) h session.size es old written
+    → Leaves session racks h rs es ends.Memory before left old written
+leaves_stops session racks f before old left written h rs es legal answers numbered stands link canvas = leaves_stops_by plainly NoMore session racks f before old left written h rs es legal answers numbered stands link canvas
+
+pub leaves_none : (session : Clients) (racks : List (List ℕ)) (before old : Option (List ℕ)) → Leaves session racks [] [] [] ends.Memory before before old old
+leaves_none session racks before old = leaves_none_by plainly NoMore session racks before old tt

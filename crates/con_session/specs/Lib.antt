@@ -27,6 +27,7 @@ pub mod HandlerTurns
 pub mod StandingLaws
 -- the terminal's side and its link,
 pub mod SenderLaws
+pub mod LinkedLaws
 pub mod LinkLaws
 -- the painter, its frames and the terminal,
 pub mod RunLaws

@@ -4,7 +4,9 @@ use Rattle.std.specs.Prelude.{◌-◌, ◌&&◌, nat_lt, nat_le, slice_get, opti
 use Rattle.std.proofs.lemmas.Bool.Decides.{nat_tests}
 use Rattle.con_handlers.specs.Delivery.{Memory}
 use Rattle.con_units.specs.declared.view.View.{View}
+use Rattle.con_units.specs.declared.view.Frame.{Frame}
 use Rattle.con_outside.specs.Laws.{then_left-none, then_written-none}
+use Rattle.con_link.specs.Reading.{Reading, plainly}
 use Rattle.con_term.specs.Terminal.{Terminal, IsTerminal}
 use Rattle.con_paint.specs.Painter.{Kept}
 use Rattle.con_events.specs.Session.{Clients}
@@ -23,8 +25,8 @@ use Rattle.con_machine.specs.Turns.{paints}
 use Rattle.con_session.specs.Opening.{AreFresh, fresh}
 use Rattle.con_session.specs.Painting.{CanvasIs, IsTied, KeepsView}
 use Rattle.con_session.specs.Seats.{AllStand, AllFollow, Seated}
-use Rattle.con_session.specs.Sender.{FailsBy, LinkIs}
-use Rattle.con_session.specs.Solo.{Goes, Moment, begins, fails_at}
+use Rattle.con_session.specs.Sender.{FailsBy, LinkBy, LinkIs, NoMore, SideStands}
+use Rattle.con_session.specs.Solo.{GoesBy, Moment, begins, fails_at}
 use Rattle.con_session.specs.Standing.{ClientStands}
 use Rattle.con_session.specs.Worker.{HandsStand, IsWorker}
 use Rattle.con_session.specs.declared.terminal.Side.{Side}
@@ -115,20 +117,26 @@ all_fresh worker places mems slots session racks f seats are = λ k script w xs 
     let q = fresh_at worker places mems slots racks 0 seats are k w xs m ys a b c d in
     seated_fresh session racks f k script w xs m ys (get_below session.scripts k script e) e q.0 q.1
 
+pub open_link_by : (R : Reading) (More : List R.One → List Entry → Type 0) (before : Option (List ℕ)) (failed : Bool) → More [] [] → LinkBy R More [] (record { ended = false; end = ends.Done }) failed before before 0
+open_link_by R More before failed more =
+    let P : List Frame → Type 0 = λ z. SideStands [] z false false in
+    record {
+      frames = [];
+      extra = [];
+      cut = false;
+      stands = subst P (sym R.none) (record { follows = λ c i rest. tt; after' = λ e rest. refl; ended' = refl; all' = refl });
+      frames' = refl;
+      read = then_left-none before;
+      open' = λ e. refl;
+      place = λ e. (refl, refl, refl, omega arith, refl);
+      why = λ e. absurd (cc);
+      fault = λ e. absurd (cc);
+      whole = λ c e. absurd (cc);
+      more = more;
+    }
+
 pub open_link : (before : Option (List ℕ)) (failed : Bool) → LinkIs [] (record { ended = false; end = ends.Done }) failed before before 0
-open_link before failed = record {
-  frames = [];
-  extra = [];
-  cut = false;
-  stands = record { follows = λ c i more. tt; after' = λ e more. refl; ended' = refl; all' = refl };
-  frames' = refl;
-  read = then_left-none before;
-  open' = λ e. refl;
-  place = λ e. (refl, refl, refl, omega arith, refl);
-  why = λ e. absurd (cc);
-  fault = λ e. absurd (cc);
-  whole = λ c e. absurd (cc);
-}
+open_link before failed = open_link_by plainly NoMore before failed tt
 
 pub open_canvas : (session : Clients) (racks : List (List ℕ)) (f : Option ℕ) (kept : Kept) (old : Option (List ℕ)) (failed : Bool) → CanvasIs (begins session racks f) [] session.size kept [] [] 0 old old failed
 open_canvas session racks f kept old failed =
@@ -154,9 +162,9 @@ open_canvas session racks f kept old failed =
     }
 
 -- a session begins
-pub opens_goes : {A : Type 0} (worker : A → Worker) (places : A → List ℕ) (mems : A → List Memory) (slots : A → List ℕ) (session : Clients) (racks : List (List ℕ)) (f : Option ℕ) (before old : Option (List ℕ)) (seats : List A) (kept : Kept) (s : State)
-    → s ≡ begun session racks → AreFresh worker places mems slots racks 0 seats
-    → Goes (begins session racks f) session.scripts before old (record {
+pub opens_goes : {A : Type 0} (R : Reading) (More : List R.One → List Entry → Type 0) (worker : A → Worker) (places : A → List ℕ) (mems : A → List Memory) (slots : A → List ℕ) (session : Clients) (racks : List (List ℕ)) (f : Option ℕ) (before old : Option (List ℕ)) (seats : List A) (kept : Kept) (s : State)
+    → s ≡ begun session racks → AreFresh worker places mems slots racks 0 seats → More [] []
+    → GoesBy R More (begins session racks f) session.scripts before old (record {
       state = s;
       entries = [];
       replies = [];
@@ -173,7 +181,7 @@ pub opens_goes : {A : Type 0} (worker : A → Worker) (places : A → List ℕ) 
       failed = false;
       written = old;
     })
-opens_goes worker places mems slots session racks f before old seats kept s e are =
+opens_goes R More worker places mems slots session racks f before old seats kept s e are more =
     let b = begins session racks f in
     let o = opens session racks in
     let A : State → Type 0 = λ z. AllStand b z [] session.scripts (map worker seats) (map places seats) (map mems seats) (map slots seats) in
@@ -183,7 +191,7 @@ opens_goes worker places mems slots session racks f before old seats kept s e ar
         stands = record { state = e; replies = refl; legal = refl };
         numbered = refl;
         clients = subst A (sym e) (all_fresh worker places mems slots session racks f seats are);
-        link = open_link before false;
+        link = open_link_by R More before false more;
         asks = record { answered = λ l i. tt; asked' = sym o.asked };
         pieces = [];
         canvas = open_canvas session racks f kept old false;
@@ -195,11 +203,11 @@ opens_goes worker places mems slots session racks f before old seats kept s e ar
 
 -- ---- what a round needs
 
-pub goes_taken : (b : Begun) (scripts : List Script) (before old : Option (List ℕ)) (m : Moment) → Goes b scripts before old m → m.side.ended ≡ false → m.taken ≤ 16777216
-goes_taken b scripts before old m k e = (k.holds.link.place e).3
+pub goes_taken : (R : Reading) (More : List R.One → List Entry → Type 0) (b : Begun) (scripts : List Script) (before old : Option (List ℕ)) (m : Moment) → GoesBy R More b scripts before old m → m.side.ended ≡ false → m.taken ≤ 16777216
+goes_taken R More b scripts before old m k e = (k.holds.link.place e).3
 
-pub goes_tied : (b : Begun) (scripts : List Script) (before old : Option (List ℕ)) (m : Moment) → Goes b scripts before old m → IsTied m.state m.kept
-goes_tied b scripts before old m k =
+pub goes_tied : (R : Reading) (More : List R.One → List Entry → Type 0) (b : Begun) (scripts : List Script) (before old : Option (List ℕ)) (m : Moment) → GoesBy R More b scripts before old m → IsTied m.state m.kept
+goes_tied R More b scripts before old m k =
     let i = k.holds.stands.state in
     let now : is_fresh m.state ≡ false → KeepsView (run b.state m.entries) m.kept = λ e. k.holds.canvas.stands.keeps (ap (λ (z : State). is_fresh z) (sym i) ∙ e) in
     record {
@@ -277,24 +285,24 @@ abbrev pub side_first : Side
 side_first = record { ended = false; end = ends.Done }
 
 -- a session begins, as its parts were made
-pub goes_open : {A : Type 0} (worker : A → Worker) (places : A → List ℕ) (mems : A → List Memory) (slots : A → List ℕ) (session : Clients) (racks : List (List ℕ)) (sizes : List ℕ) (before old : Option (List ℕ)) (seats slice : List A) (kept : Kept) (s : State) (h : List Entry) (rs : List Reply) (side : Side) (taken : ℕ) (es : List ℕ) (end : ℕ) (failed : Bool) (scripts : List Script)
-    → s ≡ opening session sizes → map (λ ys. length ys) racks ≡ sizes → (h ≡ []) × (rs ≡ []) → (side ≡ side_first) × (taken ≡ 0) → (es ≡ []) × (end ≡ 0) × (failed ≡ false) → AreFresh worker places mems slots racks 0 seats → slice ≡ seats → scripts ≡ session.scripts
-    → (f : Option ℕ) → Goes (begins session racks f) scripts before old (record { state = s; entries = h; replies = rs; workers = map worker slice; places = map places slice; memories = map mems slice; slots = map slots slice; side = side; taken = taken; left = before; kept = kept; ends = es; end = end; failed = failed; written = old })
-goes_open {A} worker places mems slots session racks sizes before old seats slice kept s h rs side taken es end failed scripts e z (eh, er) (ed, et) (es', en, ef) are el ec f =
-    let first = opens_goes worker places mems slots session racks f before old slice kept s (e ∙ ap (λ (ns : List ℕ). opening session ns) (sym z)) (fresh_as worker places mems slots racks seats slice el are) in
-    let P0 : List Entry → Type 0 = λ x. Goes (begins session racks f) session.scripts before old (record { state = s; entries = x; replies = []; workers = map worker slice; places = map places slice; memories = map mems slice; slots = map slots slice; side = side_first; taken = 0; left = before; kept = kept; ends = []; end = 0; failed = false; written = old }) in
-    let P1 : List Reply → Type 0 = λ x. Goes (begins session racks f) session.scripts before old (record { state = s; entries = h; replies = x; workers = map worker slice; places = map places slice; memories = map mems slice; slots = map slots slice; side = side_first; taken = 0; left = before; kept = kept; ends = []; end = 0; failed = false; written = old }) in
-    let P2 : Side → Type 0 = λ x. Goes (begins session racks f) session.scripts before old (record { state = s; entries = h; replies = rs; workers = map worker slice; places = map places slice; memories = map mems slice; slots = map slots slice; side = x; taken = 0; left = before; kept = kept; ends = []; end = 0; failed = false; written = old }) in
-    let P3 : ℕ → Type 0 = λ x. Goes (begins session racks f) session.scripts before old (record { state = s; entries = h; replies = rs; workers = map worker slice; places = map places slice; memories = map mems slice; slots = map slots slice; side = side; taken = x; left = before; kept = kept; ends = []; end = 0; failed = false; written = old }) in
-    let P4 : List ℕ → Type 0 = λ x. Goes (begins session racks f) session.scripts before old (record { state = s; entries = h; replies = rs; workers = map worker slice; places = map places slice; memories = map mems slice; slots = map slots slice; side = side; taken = taken; left = before; kept = kept; ends = x; end = 0; failed = false; written = old }) in
-    let P5 : ℕ → Type 0 = λ x. Goes (begins session racks f) session.scripts before old (record { state = s; entries = h; replies = rs; workers = map worker slice; places = map places slice; memories = map mems slice; slots = map slots slice; side = side; taken = taken; left = before; kept = kept; ends = es; end = x; failed = false; written = old }) in
-    let P6 : Bool → Type 0 = λ x. Goes (begins session racks f) session.scripts before old (record { state = s; entries = h; replies = rs; workers = map worker slice; places = map places slice; memories = map mems slice; slots = map slots slice; side = side; taken = taken; left = before; kept = kept; ends = es; end = end; failed = x; written = old }) in
-    let P7 : List Script → Type 0 = λ x. Goes (begins session racks f) x before old (record { state = s; entries = h; replies = rs; workers = map worker slice; places = map places slice; memories = map mems slice; slots = map slots slice; side = side; taken = taken; left = before; kept = kept; ends = es; end = end; failed = failed; written = old }) in
+pub goes_open : {A : Type 0} (R : Reading) (More : List R.One → List Entry → Type 0) (worker : A → Worker) (places : A → List ℕ) (mems : A → List Memory) (slots : A → List ℕ) (session : Clients) (racks : List (List ℕ)) (sizes : List ℕ) (before old : Option (List ℕ)) (seats slice : List A) (kept : Kept) (s : State) (h : List Entry) (rs : List Reply) (side : Side) (taken : ℕ) (es : List ℕ) (end : ℕ) (failed : Bool) (scripts : List Script)
+    → s ≡ opening session sizes → map (λ ys. length ys) racks ≡ sizes → (h ≡ []) × (rs ≡ []) → (side ≡ side_first) × (taken ≡ 0) → (es ≡ []) × (end ≡ 0) × (failed ≡ false) → AreFresh worker places mems slots racks 0 seats → slice ≡ seats → scripts ≡ session.scripts → More [] []
+    → (f : Option ℕ) → GoesBy R More (begins session racks f) scripts before old (record { state = s; entries = h; replies = rs; workers = map worker slice; places = map places slice; memories = map mems slice; slots = map slots slice; side = side; taken = taken; left = before; kept = kept; ends = es; end = end; failed = failed; written = old })
+goes_open {A} R More worker places mems slots session racks sizes before old seats slice kept s h rs side taken es end failed scripts e z (eh, er) (ed, et) (es', en, ef) are el ec more f =
+    let first = opens_goes R More worker places mems slots session racks f before old slice kept s (e ∙ ap (λ (ns : List ℕ). opening session ns) (sym z)) (fresh_as worker places mems slots racks seats slice el are) more in
+    let P0 : List Entry → Type 0 = λ x. GoesBy R More (begins session racks f) session.scripts before old (record { state = s; entries = x; replies = []; workers = map worker slice; places = map places slice; memories = map mems slice; slots = map slots slice; side = side_first; taken = 0; left = before; kept = kept; ends = []; end = 0; failed = false; written = old }) in
+    let P1 : List Reply → Type 0 = λ x. GoesBy R More (begins session racks f) session.scripts before old (record { state = s; entries = h; replies = x; workers = map worker slice; places = map places slice; memories = map mems slice; slots = map slots slice; side = side_first; taken = 0; left = before; kept = kept; ends = []; end = 0; failed = false; written = old }) in
+    let P2 : Side → Type 0 = λ x. GoesBy R More (begins session racks f) session.scripts before old (record { state = s; entries = h; replies = rs; workers = map worker slice; places = map places slice; memories = map mems slice; slots = map slots slice; side = x; taken = 0; left = before; kept = kept; ends = []; end = 0; failed = false; written = old }) in
+    let P3 : ℕ → Type 0 = λ x. GoesBy R More (begins session racks f) session.scripts before old (record { state = s; entries = h; replies = rs; workers = map worker slice; places = map places slice; memories = map mems slice; slots = map slots slice; side = side; taken = x; left = before; kept = kept; ends = []; end = 0; failed = false; written = old }) in
+    let P4 : List ℕ → Type 0 = λ x. GoesBy R More (begins session racks f) session.scripts before old (record { state = s; entries = h; replies = rs; workers = map worker slice; places = map places slice; memories = map mems slice; slots = map slots slice; side = side; taken = taken; left = before; kept = kept; ends = x; end = 0; failed = false; written = old }) in
+    let P5 : ℕ → Type 0 = λ x. GoesBy R More (begins session racks f) session.scripts before old (record { state = s; entries = h; replies = rs; workers = map worker slice; places = map places slice; memories = map mems slice; slots = map slots slice; side = side; taken = taken; left = before; kept = kept; ends = es; end = x; failed = false; written = old }) in
+    let P6 : Bool → Type 0 = λ x. GoesBy R More (begins session racks f) session.scripts before old (record { state = s; entries = h; replies = rs; workers = map worker slice; places = map places slice; memories = map mems slice; slots = map slots slice; side = side; taken = taken; left = before; kept = kept; ends = es; end = end; failed = x; written = old }) in
+    let P7 : List Script → Type 0 = λ x. GoesBy R More (begins session racks f) x before old (record { state = s; entries = h; replies = rs; workers = map worker slice; places = map places slice; memories = map mems slice; slots = map slots slice; side = side; taken = taken; left = before; kept = kept; ends = es; end = end; failed = failed; written = old }) in
     subst P7 (sym ec) (subst P6 (sym ef) (subst P5 (sym en) (subst P4 (sym es') (subst P3 (sym et) (subst P2 (sym ed) (subst P1 (sym er) (subst P0 (sym eh) first)))))))
 
-pub going_open : (session : Clients) (racks : List (List ℕ)) (before old : Option (List ℕ)) (scripts : List Script) (m : Moment)
-    → ((f : Option ℕ) → Goes (begins session racks f) scripts before old m) → (b : Begun) × (x : Option (List ℕ)) × (y : Option (List ℕ)) × ((f : Option ℕ) → FailsBy m.failed f (paints m.entries) → Goes (fails_at b f) scripts x y m)
-going_open session racks before old scripts m all = (begins session racks None, before, old, λ f k. all f)
+pub going_open : (R : Reading) (More : List R.One → List Entry → Type 0) (session : Clients) (racks : List (List ℕ)) (before old : Option (List ℕ)) (scripts : List Script) (m : Moment)
+    → ((f : Option ℕ) → GoesBy R More (begins session racks f) scripts before old m) → (b : Begun) × (x : Option (List ℕ)) × (y : Option (List ℕ)) × ((f : Option ℕ) → FailsBy m.failed f (paints m.entries) → GoesBy R More (fails_at b f) scripts x y m)
+going_open R More session racks before old scripts m all = (begins session racks None, before, old, λ f k. all f)
 
 pub count_of : {A B : Type 0} (scripts all : List B) (xs ys zs : List A) → scripts ≡ all → length xs ≡ length all → ys ≡ xs → length zs ≡ length ys → length scripts ≡ length zs
 count_of {A} {B} scripts all xs ys zs e c v n = ap (λ (z : List B). length z) e ∙ (sym c ∙ (sym (ap (λ (z : List A). length z) v) ∙ sym n))

@@ -3,7 +3,7 @@ use Rattle.std.specs.Prelude.{◌≡◌, ◌⊎◌, ℕ, ◌+◌, ◌≤◌, tru
 use Rattle.std.specs.List.{list_all}
 use Rattle.con_units.specs.declared.view.Frame.{Frame}
 use Rattle.con_outside.specs.Outside.{then_left, then_written}
-use Rattle.con_link.specs.Frames.{spelling, is_frame, goes_on, IsLink, Answers}
+use Rattle.con_link.specs.Reading.{Reading, plainly}
 use Rattle.con_link.specs.declared.fault.LinkFault.TheVariants as faults
 use Rattle.con_events.specs.Session.{Clients}
 use Rattle.con_events.specs.declared.end.End.{End}
@@ -20,23 +20,28 @@ use Rattle.con_machine.specs.Turns.{sent, has_ended, paints}
 use Rattle.con_machine.specs.Whole.{IsWhole, HaveAllLeft}
 use Rattle.con_session.specs.Desk.{listed}
 use Rattle.con_session.specs.Runs.{EachRun, ShowsView, PrintsFew, PrintsNewRows}
+use Rattle.con_session.specs.Sender.{IsLinkBy, NoMore, all_go_on}
 
 -- ---- the link
 
 -- the terminal's side sent all frames, and then a hangup that is none of them
-abbrev pub IsCut : List Frame → List Event → Type 0
-IsCut frames sent' = (list_all goes_on frames ≡ true) × (sent' ≡ map sent_by frames ++ events.Hangup ∷ [])
+abbrev pub IsCutBy : (R : Reading) → List R.One → List Event → Type 0
+IsCutBy R frames sent' = (all_go_on R frames ≡ true) × (sent' ≡ map sent_by (R.plains frames) ++ events.Hangup ∷ [])
 
 -- What the terminal's side made of the link, by the session's end: of these frames, the bytes taken behind them and what is left.
 -- At the end Done the frames are the link, to its end or to its X, and all were sent. Where the link failed, has too many bytes or no frame at a place,
 -- the frames are those before that, and all were sent.
+abbrev pub HasSentBy : (R : Reading) → End → List R.One → List ℕ → Option (List ℕ) → List Event → Type 0
+HasSentBy R ends.Done frames text left sent' = IsLinkBy R frames left × (text ≡ []) × (length (flat_map R.spelling frames) ≤ 16777216) × (sent' ≡ map sent_by (R.plains frames))
+HasSentBy R ends.Link frames text left sent' = IsCutBy R frames sent' × R.answers (Err faults.Failed) (length (flat_map R.spelling frames)) text left
+HasSentBy R ends.TooLong frames text left sent' = IsCutBy R frames sent' × R.answers (Err faults.TooLong) (length (flat_map R.spelling frames)) text left
+HasSentBy R (ends.Bad place kind) frames text left sent' = IsCutBy R frames sent' × R.answers (Err (faults.Bad place kind)) (length (flat_map R.spelling frames)) text left
+HasSentBy R ends.Term frames text left sent' = Unit {0}
+HasSentBy R ends.Memory frames text left sent' = Unit {0}
+
+-- of a link with no second terminal
 abbrev pub HasSent : End → List Frame → List ℕ → Option (List ℕ) → List Event → Type 0
-HasSent ends.Done frames text left sent' = IsLink frames left × (text ≡ []) × (length (flat_map spelling frames) ≤ 16777216) × (sent' ≡ map sent_by frames)
-HasSent ends.Link frames text left sent' = IsCut frames sent' × Answers (Err faults.Failed) (length (flat_map spelling frames)) text left
-HasSent ends.TooLong frames text left sent' = IsCut frames sent' × Answers (Err faults.TooLong) (length (flat_map spelling frames)) text left
-HasSent (ends.Bad place kind) frames text left sent' = IsCut frames sent' × Answers (Err (faults.Bad place kind)) (length (flat_map spelling frames)) text left
-HasSent ends.Term frames text left sent' = Unit {0}
-HasSent ends.Memory frames text left sent' = Unit {0}
+HasSent end frames text left sent' = HasSentBy plainly end frames text left sent'
 
 -- ---- the terminal
 
@@ -52,19 +57,21 @@ last_end es = end_of 0 es
 
 -- Of a session and the kinds of its racks' handlers (0 for one that was asked before, or that tells nothing): the history, its answers, the ends of the frames
 -- and the session's end, what the link had left before and after, and what was written to the terminal before and after.
-pub record Leaves (session : Clients) (racks : List (List ℕ)) (h : List Entry) (rs : List Reply) (es : List ℕ) (end : End) (before left old now : Option (List ℕ)) : Type 0 where
+-- Its link is read in this way, and this is known of its frames besides.
+pub record LeavesBy (R : Reading) (More : List R.One → List Entry → Type 0) (session : Clients) (racks : List (List ℕ)) (h : List Entry) (rs : List Reply) (es : List ℕ) (end : End) (before left old now : Option (List ℕ)) : Type 0 where
   -- each event is ready where it stands, and was answered as the one console answers it
   pub legal : is_legal (begun session racks) h ≡ true
   pub replies : rs ≡ map listed (replies_of (begun session racks) h)
   -- the frames that were read, and the bytes taken behind them
-  pub frames : List Frame
+  pub frames : List R.One
   pub text : List ℕ
-  pub frames' : list_all is_frame frames ≡ true
-  pub taken : before ≡ then_left (flat_map spelling frames ++ text) left
-  pub going : (list_all goes_on frames ≡ true) ⊎ IsLink frames left
-  pub side : HasSent end frames text left (sent h)
+  pub frames' : list_all R.is_one frames ≡ true
+  pub taken : before ≡ then_left (flat_map R.spelling frames ++ text) left
+  pub going : (all_go_on R frames ≡ true) ⊎ IsLinkBy R frames left
+  pub side : HasSentBy R end frames text left (sent h)
+  pub more : More frames h
   -- the history follows the session and these frames
-  pub follows : Follows (begun session racks) h session racks frames end
+  pub follows : Follows (begun session racks) h session racks (R.plains frames) end
   -- the bytes written: all of the stream, unless the terminal failed or there was no memory
   pub stream : List ℕ
   pub written : now ≡ then_written old stream
@@ -83,7 +90,14 @@ pub record Leaves (session : Clients) (racks : List (List ℕ)) (h : List Entry)
   -- and the terminal was shown all
   pub whole : is_lost end ≡ false → IsWhole (begun session racks) h session racks
 
+-- of a session with no second terminal
+abbrev pub Leaves : Clients → List (List ℕ) → List Entry → List Reply → List ℕ → End → Option (List ℕ) → Option (List ℕ) → Option (List ℕ) → Option (List ℕ) → Type 0
+Leaves session racks h rs es end before left old now = LeavesBy plainly NoMore session racks h rs es end before left old now
+
 -- of a session by turns, besides: its history is rounds of these turns
-pub record IsOutcome (session : Clients) (racks : List (List ℕ)) (h : List Entry) (rs : List Reply) (es : List ℕ) (end : End) (before left old now : Option (List ℕ)) : Type 0 where
-  pub leaves : Leaves session racks h rs es end before left old now
+pub record IsOutcomeBy (R : Reading) (More : List R.One → List Entry → Type 0) (session : Clients) (racks : List (List ℕ)) (h : List Entry) (rs : List Reply) (es : List ℕ) (end : End) (before left old now : Option (List ℕ)) : Type 0 where
+  pub leaves : LeavesBy R More session racks h rs es end before left old now
   pub rounds : Rounds (begun session racks) h session racks end
+
+abbrev pub IsOutcome : Clients → List (List ℕ) → List Entry → List Reply → List ℕ → End → Option (List ℕ) → Option (List ℕ) → Option (List ℕ) → Option (List ℕ) → Type 0
+IsOutcome session racks h rs es end before left old now = IsOutcomeBy plainly NoMore session racks h rs es end before left old now

@@ -2,6 +2,7 @@
 use Rattle.std.specs.Prelude.{◌≡◌, ◌⊎◌, ℕ, ◌+◌, ◌≤◌, Bool, true, false, List, [], ◌∷◌, ◌++◌, length, take, Option, Some, None, Result, Ok, Err, option_map}
 use Rattle.con_units.specs.declared.code.OutOfMemory.{OutOfMemory}
 use Rattle.con_units.specs.declared.place.Size.{Size}
+use Rattle.con_units.specs.View.{IsWhole}
 use Rattle.con_units.specs.declared.view.View.{View}
 use Rattle.con_outside.specs.Outside.{then_written}
 use Rattle.con_term.specs.Terminal.{Terminal, IsTerminal}
@@ -19,6 +20,7 @@ use Rattle.con_machine.specs.Step.{is_ready}
 use Rattle.con_machine.specs.Turns.{paints}
 use Rattle.con_session.specs.Desk.{Enters, Rests}
 use Rattle.con_session.specs.Runs.{Painted, Matched, EachPiece, Reaches, joined, ends_from}
+use Rattle.con_session.specs.declared.desk.Picture.{Picture}
 
 -- what the painter keeps is the view that was painted last; equations alone, so that a caller can hand it on
 pub record IsTied (s : State) (kept : Kept) : Type 0 where
@@ -66,6 +68,18 @@ pub record Pictures (v : View) (fresh : Bool) (s : State) : Type 0 where
   pub fresh' : fresh ≡ is_fresh s
   pub wide : v.size.w ≡ s.buffers.w
   pub high : v.size.h ≡ s.buffers.h
+
+-- What a turn of the painter painted: the console's view, whole, at a Paint that was entered; none where nothing was.
+abbrev pub Pictured : Result (Option Picture) OutOfMemory → State → State → List Entry → List Entry → List Reply → List Reply → Type 0
+Pictured (Ok (Some p)) s t h g rs qs = Pictures p.view p.fresh s × IsWhole p.view × EntersPaint s t h g rs qs
+Pictured (Ok None) s t h g rs qs = Rests s t h g rs qs
+Pictured (Err e) s t h g rs qs = Unit {0}
+
+-- whether it painted
+abbrev pub acted : Result (Option Picture) OutOfMemory → Result Bool OutOfMemory
+acted (Ok (Some p)) = Ok true
+acted (Ok None) = Ok false
+acted (Err e) = Err e
 
 -- the painter with what it wrote
 pub record CanvasIs (b : Begun) (h : List Entry) (size : Size) (kept : Kept) (ps : List (List ℕ)) (ends : List ℕ) (end : ℕ) (before now : Option (List ℕ)) (failed : Bool) : Type 0 where

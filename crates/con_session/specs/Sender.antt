@@ -4,7 +4,8 @@ use Rattle.std.specs.List.{list_all}
 use Rattle.con_units.specs.declared.code.OutOfMemory.{OutOfMemory}
 use Rattle.con_units.specs.declared.view.Frame.{Frame}
 use Rattle.con_outside.specs.Outside.{then_left}
-use Rattle.con_link.specs.Frames.{spelling, is_frame, goes_on, Answers, IsLink}
+use Rattle.con_link.specs.Frames.{goes_on, ends_link, IsEnd}
+use Rattle.con_link.specs.Reading.{Reading, plainly}
 use Rattle.con_link.specs.declared.fault.LinkFault.{LinkFault}
 use Rattle.con_link.specs.declared.fault.LinkFault.TheVariants as faults
 use Rattle.con_events.specs.declared.actor.Actor.TheVariants as actors
@@ -47,37 +48,72 @@ pub record SideStands (h : List Entry) (coming : List Frame) (cut ended : Bool) 
   pub ended' : has_ended false (sent h) ≡ ended
   pub all' : sent h ≡ map sent_by coming ++ hung cut
 
--- what was read of the link, and why no more is
-pub record LinkIs (h : List Entry) (side : Side) (failed : Bool) (before now : Option (List ℕ)) (taken : ℕ) : Type 0 where
-  pub frames : List Frame
+-- ---- the link, in either way of reading it
+
+abbrev pub all_go_on : (R : Reading) → List R.One → Bool
+all_go_on R fs = list_all (λ f. goes_on (R.plain f)) fs
+
+-- frames of which the last one, and it alone, ends the link, of which this is left
+abbrev pub IsLinkBy : (R : Reading) → List R.One → Option (List ℕ) → Type 0
+IsLinkBy R frames left = (front : List R.One) × (last : R.One) × (frames ≡ front ++ last ∷ []) × (all_go_on R front ≡ true) × (ends_link (R.plain last) ≡ true) × IsEnd (R.plain last) left
+
+-- what was read of the link, and why no more is; and what more is known of the frames that were read
+pub record LinkBy (R : Reading) (More : List R.One → List Entry → Type 0) (h : List Entry) (side : Side) (failed : Bool) (before now : Option (List ℕ)) (taken : ℕ) : Type 0 where
+  pub frames : List R.One
   pub extra : List ℕ
   pub cut : Bool
-  pub stands : SideStands h frames cut side.ended
-  pub frames' : list_all is_frame frames ≡ true
-  pub read : before ≡ then_left (flat_map spelling frames ++ extra) now
-  pub open' : side.ended ≡ false → list_all goes_on frames ≡ true
-  pub place : side.ended ≡ false → (extra ≡ []) × (taken ≡ length (flat_map spelling frames)) × (cut ≡ false) × (taken ≤ 16777216) × (is_cut side.end ≡ false)
-  pub why : cut ≡ true → (list_all goes_on frames ≡ true) × ((failed ≡ true) ⊎ (is_cut side.end ≡ true))
+  pub stands : SideStands h (R.plains frames) cut side.ended
+  pub frames' : list_all R.is_one frames ≡ true
+  pub read : before ≡ then_left (flat_map R.spelling frames ++ extra) now
+  pub open' : side.ended ≡ false → all_go_on R frames ≡ true
+  pub place : side.ended ≡ false → (extra ≡ []) × (taken ≡ length (flat_map R.spelling frames)) × (cut ≡ false) × (taken ≤ 16777216) × (is_cut side.end ≡ false)
+  pub why : cut ≡ true → (all_go_on R frames ≡ true) × ((failed ≡ true) ⊎ (is_cut side.end ≡ true))
   -- a fault that shows behind the frames
-  pub fault : is_cut side.end ≡ true → (f : LinkFault) × (cut ≡ true) × (side.end ≡ end_for f) × Answers (Err f) (length (flat_map spelling frames)) extra now
+  pub fault : is_cut side.end ≡ true → (f : LinkFault) × (cut ≡ true) × (side.end ≡ end_for f) × R.answers (Err f) (length (flat_map R.spelling frames)) extra now
   -- the last frame ends the link
-  pub whole : cut ≡ false → side.ended ≡ true → IsLink frames now × (extra ≡ []) × (length (flat_map spelling frames) ≤ 16777216)
+  pub whole : cut ≡ false → side.ended ≡ true → IsLinkBy R frames now × (extra ≡ []) × (length (flat_map R.spelling frames) ≤ 16777216)
+  pub more : More frames h
 
 -- what is known of it where there is no memory
-pub record LinkEnds (h : List Entry) (before now : Option (List ℕ)) : Type 0 where
-  pub frames : List Frame
+pub record LinkEndsBy (R : Reading) (More : List R.One → List Entry → Type 0) (h : List Entry) (before now : Option (List ℕ)) : Type 0 where
+  pub frames : List R.One
   pub extra : List ℕ
   pub cut : Bool
   pub ended : Bool
-  pub stands : SideStands h frames cut ended
-  pub frames' : list_all is_frame frames ≡ true
-  pub read : before ≡ then_left (flat_map spelling frames ++ extra) now
-  pub going : (list_all goes_on frames ≡ true) ⊎ IsLink frames now
+  pub stands : SideStands h (R.plains frames) cut ended
+  pub frames' : list_all R.is_one frames ≡ true
+  pub read : before ≡ then_left (flat_map R.spelling frames ++ extra) now
+  pub going : (all_go_on R frames ≡ true) ⊎ IsLinkBy R frames now
+  pub more : More frames h
+
+-- of the frames of a link with no second terminal nothing more is known
+abbrev pub NoMore : List Frame → List Entry → Type 0
+NoMore frames h = Unit {0}
+
+abbrev pub LinkIs : List Entry → Side → Bool → Option (List ℕ) → Option (List ℕ) → ℕ → Type 0
+LinkIs h side failed before now taken = LinkBy plainly NoMore h side failed before now taken
+
+abbrev pub LinkEnds : List Entry → Option (List ℕ) → Option (List ℕ) → Type 0
+LinkEnds h before now = LinkEndsBy plainly NoMore h before now
 
 -- what a turn of the terminal's side leaves of the link
+abbrev pub LinkTurnBy : (R : Reading) (More Then : List R.One → List Entry → Type 0) → Result Bool OutOfMemory → List Entry → Side → Bool → Option (List ℕ) → Option (List ℕ) → ℕ → Type 0
+LinkTurnBy R More Then (Ok acted) h side failed before now taken = LinkBy R More h side failed before now taken
+LinkTurnBy R More Then (Err e) h side failed before now taken = LinkEndsBy R Then h before now
+
 abbrev pub LinkTurn : Result Bool OutOfMemory → List Entry → Side → Bool → Option (List ℕ) → Option (List ℕ) → ℕ → Type 0
-LinkTurn (Ok acted) h side failed before now taken = LinkIs h side failed before now taken
-LinkTurn (Err e) h side failed before now taken = LinkEnds h before now
+LinkTurn result h side failed before now taken = LinkTurnBy plainly NoMore NoMore result h side failed before now taken
+
+-- what was read, as every link has it
+abbrev pub plain_of : (R : Reading) → Result R.One LinkFault → Result Frame LinkFault
+plain_of R (Ok f) = Ok (R.plain f)
+plain_of R (Err e) = Err e
+
+-- what the terminal's side enters for what was read of the link: the event of a frame, or a hangup where no frame was read; where there is no memory nothing
+abbrev pub Hears : Result Bool OutOfMemory → Result Frame LinkFault → Side → Side → State → State → List Entry → List Entry → List Reply → List Reply → Type 0
+Hears (Ok acted) (Ok frame) was side s t h g rs qs = (acted ≡ true) × Enters s t h g rs qs actors.Terminal (sent_by frame) × (side ≡ record { ended = ends_link frame; end = was.end })
+Hears (Ok acted) (Err fault) was side s t h g rs qs = (acted ≡ true) × Enters s t h g rs qs actors.Terminal events.Hangup × (side ≡ record { ended = true; end = end_for fault })
+Hears (Err e) read was side s t h g rs qs = Rests s t h g rs qs × (side ≡ was)
 
 -- an event of the terminal's side was entered
 pub record Sends (b : Begun) (s t : State) (h g : List Entry) (rs qs : List Reply) : Type 0 where

@@ -2,6 +2,7 @@
 use Rattle.std.specs.Prelude.{◌≡◌, ◌⊎◌, ℕ, ◌+◌, ◌<◌, Bool, true, false, List, [], ◌++◌, length, map, Option, Result, Ok, Err}
 use Rattle.con_handlers.specs.Delivery.{Memory}
 use Rattle.con_units.specs.declared.code.OutOfMemory.{OutOfMemory}
+use Rattle.con_link.specs.Reading.{Reading, plainly}
 use Rattle.con_paint.specs.Painter.{Kept}
 use Rattle.con_events.specs.Session.{Clients}
 use Rattle.con_events.specs.declared.end.End.{End}
@@ -19,7 +20,7 @@ use Rattle.con_machine.specs.Turns.{paints}
 use Rattle.con_session.specs.Desk.{Stands, listed}
 use Rattle.con_session.specs.Painting.{CanvasIs, CanvasEnds}
 use Rattle.con_session.specs.Seats.{AllStand}
-use Rattle.con_session.specs.Sender.{LinkIs, LinkEnds}
+use Rattle.con_session.specs.Sender.{LinkBy, LinkEndsBy, NoMore}
 use Rattle.con_session.specs.Standing.{ClientStands}
 use Rattle.con_session.specs.declared.terminal.Side.{Side}
 use Rattle.con_session.specs.declared.worker.Worker.{Worker}
@@ -48,16 +49,19 @@ pub record AsksStand (b : Begun) (h : List Entry) (lost : Bool) : Type 0 where
   pub asked' : after asks false h ≡ (run b.state h).asked
 
 -- what holds between two turns; of the link this was left at the beginning, and to the terminal this was written
-pub record Holds (b : Begun) (scripts : List Script) (before old : Option (List ℕ)) (m : Moment) : Type 0 where
+pub record HoldsBy (R : Reading) (More : List R.One → List Entry → Type 0) (b : Begun) (scripts : List Script) (before old : Option (List ℕ)) (m : Moment) : Type 0 where
   pub scripts' : scripts ≡ b.session.scripts
   pub stands : Stands b.state m.state m.entries m.replies
   pub numbered : are_of_session (length b.session.scripts) m.entries ≡ true
   pub clients : AllStand b m.state m.entries scripts m.workers m.places m.memories m.slots
-  pub link : LinkIs m.entries m.side m.failed before m.left m.taken
+  pub link : LinkBy R More m.entries m.side m.failed before m.left m.taken
   pub asks : AsksStand b m.entries m.failed
   pub pieces : List (List ℕ)
   pub canvas : CanvasIs b m.entries b.session.size m.kept pieces m.ends m.end old m.written m.failed
   pub some : m.failed ≡ true → 0 < paints m.entries
+
+abbrev pub Holds : Begun → List Script → Option (List ℕ) → Option (List ℕ) → Moment → Type 0
+Holds b scripts before old m = HoldsBy plainly NoMore b scripts before old m
 
 -- a session's beginning
 abbrev pub begins : Clients → List (List ℕ) → Option ℕ → Begun
@@ -72,10 +76,13 @@ abbrev pub HasRounds : Begun → List Entry → Type 0
 HasRounds b h = (rounds : List (List (Option Event))) × AreRounds b [] rounds × (h ≡ all_entries (all_order b) rounds)
 
 -- what holds between two rounds: besides, no Ask is out
-pub record Goes (b : Begun) (scripts : List Script) (before old : Option (List ℕ)) (m : Moment) : Type 0 where
-  pub holds : Holds b scripts before old m
+pub record GoesBy (R : Reading) (More : List R.One → List Entry → Type 0) (b : Begun) (scripts : List Script) (before old : Option (List ℕ)) (m : Moment) : Type 0 where
+  pub holds : HoldsBy R More b scripts before old m
   pub served : (m.state.asked ≡ false) ⊎ (m.failed ≡ true)
   pub rounds : HasRounds b m.entries
+
+abbrev pub Goes : Begun → List Script → Option (List ℕ) → Option (List ℕ) → Moment → Type 0
+Goes b scripts before old m = GoesBy plainly NoMore b scripts before old m
 
 -- nobody has anything to do
 abbrev pub AllIdle : Begun → List Entry → Type 0
@@ -87,26 +94,35 @@ BreaksOff b h = (rounds : List (List (Option Event))) × (last : List (Option Ev
     × (h ≡ all_entries (all_order b) rounds ++ entries_of (all_order b) last)
 
 -- what holds where there was no memory
-pub record Stops (b : Begun) (before old : Option (List ℕ)) (h : List Entry) (rs : List Reply) (ends : List ℕ) (left written : Option (List ℕ)) (failed : Bool) : Type 0 where
+pub record StopsBy (R : Reading) (More : List R.One → List Entry → Type 0) (b : Begun) (before old : Option (List ℕ)) (h : List Entry) (rs : List Reply) (ends : List ℕ) (left written : Option (List ℕ)) (failed : Bool) : Type 0 where
   pub legal : is_legal b.state h ≡ true
   pub replies : rs ≡ map listed (replies_of b.state h)
   pub numbered : are_of_session (length b.session.scripts) h ≡ true
   pub clients : (k : ℕ) → k < length b.session.scripts → ClientStands b h (k + 1)
-  pub link : LinkEnds h before left
+  pub link : LinkEndsBy R More h before left
   pub canvas : CanvasEnds b h b.session.size ends old written
   pub some : failed ≡ true → 0 < paints h
   pub rounds : BreaksOff b h
 
+abbrev pub Stops : Begun → Option (List ℕ) → Option (List ℕ) → List Entry → List Reply → List ℕ → Option (List ℕ) → Option (List ℕ) → Bool → Type 0
+Stops b before old h rs es left written failed = StopsBy plainly NoMore b before old h rs es left written failed
+
 -- a round after a history: false where nobody had anything to do
+abbrev pub RoundTurnBy : (R : Reading) (More Then : List R.One → List Entry → Type 0) → Result Bool OutOfMemory → Begun → List Script → Option (List ℕ) → Option (List ℕ) → List Entry → Moment → Type 0
+RoundTurnBy R More Then (Ok true) b scripts before old h m = GoesBy R More b scripts before old m × (length h < length m.entries)
+RoundTurnBy R More Then (Ok false) b scripts before old h m = GoesBy R More b scripts before old m × AllIdle b m.entries
+RoundTurnBy R More Then (Err e) b scripts before old h m = StopsBy R Then b before old m.entries m.replies m.ends m.left m.written m.failed
+
 abbrev pub RoundTurn : Result Bool OutOfMemory → Begun → List Script → Option (List ℕ) → Option (List ℕ) → List Entry → Moment → Type 0
-RoundTurn (Ok true) b scripts before old h m = Goes b scripts before old m × (length h < length m.entries)
-RoundTurn (Ok false) b scripts before old h m = Goes b scripts before old m × AllIdle b m.entries
-RoundTurn (Err e) b scripts before old h m = Stops b before old m.entries m.replies m.ends m.left m.written m.failed
+RoundTurn result b scripts before old h m = RoundTurnBy plainly NoMore NoMore result b scripts before old h m
 
 -- rounds until nobody has anything to do
+abbrev pub RoundsTurnBy : (R : Reading) (More Then : List R.One → List Entry → Type 0) → Result (Unit {0}) OutOfMemory → Begun → List Script → Option (List ℕ) → Option (List ℕ) → Moment → Type 0
+RoundsTurnBy R More Then (Ok done) b scripts before old m = GoesBy R More b scripts before old m × AllIdle b m.entries
+RoundsTurnBy R More Then (Err e) b scripts before old m = StopsBy R Then b before old m.entries m.replies m.ends m.left m.written m.failed
+
 abbrev pub RoundsTurn : Result (Unit {0}) OutOfMemory → Begun → List Script → Option (List ℕ) → Option (List ℕ) → Moment → Type 0
-RoundsTurn (Ok done) b scripts before old m = Goes b scripts before old m × AllIdle b m.entries
-RoundsTurn (Err e) b scripts before old m = Stops b before old m.entries m.replies m.ends m.left m.written m.failed
+RoundsTurn result b scripts before old m = RoundsTurnBy plainly NoMore NoMore result b scripts before old m
 
 -- a terminal that has failed ends the session before the link does
 abbrev pub end_by : Bool → End → End

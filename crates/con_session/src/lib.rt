@@ -34,11 +34,11 @@ mod worker;
 pub use copying::{copied_call, copied_wanted};
 pub use desk::{Brief, Desk, Picture, as_listed, brief_for};
 pub use hands::Hands;
-pub use painting::{Canvas, draw, end_after, frame_length, painter_turn};
+pub use painting::{Canvas, draw, end_after, frame_length, painted, painter_turn};
 pub use seat::{Seat, client_turn, clients_turn};
 pub use solo::{Outcome, nothing_left, run_solo};
 pub use stage::{Stage, begun};
-pub use terminal::{Side, end_by_fault, ends_the_link, event_for, terminal_turn};
+pub use terminal::{Side, end_by_fault, ends_the_link, event_for, heard, terminal_turn};
 pub use worker::{
     CTRL_EXIT, Worker, begin, call_add, call_plain, call_remove, collect, is_granted, leave,
     must_leave, next_step, take_ctrl,

@@ -9,7 +9,7 @@ ghost use Rattle.con_paint.specs.Painter.{Allows, IsShown, Paints, unpainted};
 ghost use Rattle.con_machine.specs.History.{run};
 ghost use Rattle.con_machine.specs.Rounds.{Begun};
 ghost use Rattle.con_machine.specs.Turns.{paints};
-ghost use Rattle.con_session.specs.Painting.{CanvasIs, IsTied, PainterActs, PainterFails, PaintTurn};
+ghost use Rattle.con_session.specs.Painting.{CanvasIs, IsTied, PainterActs, PainterFails, PaintTurn, Pictured, acted};
 ghost use Rattle.con_session.specs.Sender.{FailsBy};
 
 use crate::desk::{Desk, Picture};
@@ -81,7 +81,61 @@ pub fn end_after(end: u64, more: usize) -> Result<u64, OutOfMemory>
     }
 }
 
-/// A turn of the painter: a Paint with its frame, where one is ready and the terminal has not failed. False: none was entered.
+/// A turn of the painter: a Paint with its frame, where one is ready and the terminal has not failed. It answers what was painted,
+/// also where the terminal failed in it; none: no Paint was entered.
+pub fn painted<O: Sink>(
+    desk: &mut Desk,
+    canvas: &mut Canvas,
+    term: &mut O,
+) -> Result<Option<Picture>, OutOfMemory>
+    requires { IsTied desk.old.console.state canvas.old.painter }
+    ensures pictured { Pictured result desk.old.console.state desk.new.console.state desk.old.entries.items desk.new.entries.items desk.old.replies.items desk.new.replies.items }
+    ensures acts { (b : Begun) → desk.old.console.state ≡ run b.state desk.old.entries.items → FailsBy canvas.old.failed b.failed (paints desk.old.entries.items) → PainterActs (acted result) b desk.old.entries.items }
+    ensures served { IfOk result (λ _. (desk.new.console.state.asked ≡ false) ⊎ (canvas.new.failed ≡ true)) }
+    ensures tied { IfOk result (λ _. IsTied desk.new.console.state canvas.new.painter) }
+    ensures fails { PainterFails (acted result) canvas.old.failed canvas.new.failed }
+    ensures failed { canvas.new.failed ≡ true → (canvas.old.failed ≡ true) ⊎ Rose (O.faults term.old) (O.faults term.new) }
+    ensures never_falls { O.faults term.old ≤ O.faults term.new }
+    ensures turn { (b : Begun) (size : Size) (before : Option (List ℕ)) (ps : List (List ℕ)) → desk.old.console.state ≡ run b.state desk.old.entries.items
+        → CanvasIs b desk.old.entries.items size canvas.old.painter ps canvas.old.ends.items canvas.old.end before (O.written term.old) canvas.old.failed
+        → PaintTurn (acted result) b desk.old.console.state desk.new.console.state desk.old.entries.items desk.new.entries.items desk.old.replies.items desk.new.replies.items size canvas.new.painter ps canvas.new.ends.items canvas.new.end before (O.written term.new) canvas.new.failed }
+{
+    if canvas.failed {
+        return Ok(None);
+    }
+    if !desk.console.ready(Actor::Painter, &Event::Paint) {
+        return Ok(None);
+    }
+    if canvas.ends.reserve(1).is_err() {
+        return Err(OutOfMemory);
+    }
+    let picture = desk.paint()?;
+    draw(&mut canvas.painter, &mut canvas.out, &picture)?;
+    let end = end_after(canvas.end, frame_length(&canvas.out))?;
+    canvas.end = end;
+    canvas.ends.push_reserved(end);
+    match write_whole(term, canvas.out.as_slice()) {
+        Ok(()) => Ok(Some(picture)),
+        Err(Fault::Failed) => {
+            canvas.failed = true;
+            Ok(Some(picture))
+        }
+        Err(Fault::OutOfMemory) => Err(OutOfMemory),
+    }
+}
+
+// Whether a Paint was entered.
+fn has_painted(painted: Result<Option<Picture>, OutOfMemory>) -> Result<bool, OutOfMemory>
+    ensures { result ≡ acted painted }
+{
+    match painted {
+        Ok(Some(_)) => Ok(true),
+        Ok(None) => Ok(false),
+        Err(lack) => Err(lack),
+    }
+}
+
+/// The painter's turn. False: no Paint was entered.
 pub fn painter_turn<O: Sink>(
     desk: &mut Desk,
     canvas: &mut Canvas,
@@ -98,26 +152,5 @@ pub fn painter_turn<O: Sink>(
         → CanvasIs b desk.old.entries.items size canvas.old.painter ps canvas.old.ends.items canvas.old.end before (O.written term.old) canvas.old.failed
         → PaintTurn result b desk.old.console.state desk.new.console.state desk.old.entries.items desk.new.entries.items desk.old.replies.items desk.new.replies.items size canvas.new.painter ps canvas.new.ends.items canvas.new.end before (O.written term.new) canvas.new.failed }
 {
-    if canvas.failed {
-        return Ok(false);
-    }
-    if !desk.console.ready(Actor::Painter, &Event::Paint) {
-        return Ok(false);
-    }
-    if canvas.ends.reserve(1).is_err() {
-        return Err(OutOfMemory);
-    }
-    let picture = desk.paint()?;
-    draw(&mut canvas.painter, &mut canvas.out, &picture)?;
-    let end = end_after(canvas.end, frame_length(&canvas.out))?;
-    canvas.end = end;
-    canvas.ends.push_reserved(end);
-    match write_whole(term, canvas.out.as_slice()) {
-        Ok(()) => Ok(true),
-        Err(Fault::Failed) => {
-            canvas.failed = true;
-            Ok(true)
-        }
-        Err(Fault::OutOfMemory) => Err(OutOfMemory),
-    }
+    has_painted(painted(desk, canvas, term))
 }

@@ -1,12 +1,12 @@
 //! The terminal's side: one frame a turn.
 ghost use Rattle.std.specs.Prelude.{◌≡◌, ◌⊎◌, ℕ, Bool, true, false, List, ◌≤◌, Option, Err, IfOk, OnErr};
 ghost use Rattle.con_outside.specs.Outside.{Rose, then_left};
-ghost use Rattle.con_link.specs.Frames.{ends_link};
+ghost use Rattle.con_link.specs.Frames.{ends_link, is_frame};
 ghost use Rattle.con_machine.specs.Follows.{sent_by};
 ghost use Rattle.con_machine.specs.Rounds.{Begun};
 ghost use Rattle.con_machine.specs.Turns.{has_ended, paints, sent};
 ghost use Rattle.con_session.specs.Desk.{Ran};
-ghost use Rattle.con_session.specs.Sender.{end_for, FailsBy, LinkIs, LinkTurn, SenderTurn};
+ghost use Rattle.con_session.specs.Sender.{end_for, FailsBy, Hears, LinkIs, LinkTurn, SenderTurn};
 
 use crate::desk::Desk;
 use con_events::{Actor, End, Event};
@@ -54,6 +54,35 @@ pub fn end_by_fault(fault: LinkFault) -> End
     }
 }
 
+/// Enters what the terminal's side makes of what was read of the link: the event of a frame, or a hangup where no frame was read.
+/// Where there is no memory nothing was entered.
+pub fn heard(
+    desk: &mut Desk,
+    side: &mut Side,
+    read: Result<Frame, LinkFault>,
+) -> Result<bool, OutOfMemory>
+    requires frame { IfOk read (λ frame. is_frame frame ≡ true) }
+    requires answered { desk.old.console.state.asked ≡ false }
+    ensures ran { Ran desk.old.console.state desk.new.console.state desk.old.entries.items desk.new.entries.items }
+    ensures hears { Hears result read side.old side.new desk.old.console.state desk.new.console.state desk.old.entries.items desk.new.entries.items desk.old.replies.items desk.new.replies.items }
+{
+    match read {
+        Ok(frame) => {
+            let ends = ends_the_link(&frame);
+            desk.enter(Actor::Terminal, event_for(frame))?;
+            side.ended = ends;
+            Ok(true)
+        }
+        Err(LinkFault::OutOfMemory) => Err(OutOfMemory),
+        Err(fault) => {
+            desk.enter(Actor::Terminal, Event::Hangup)?;
+            side.ended = true;
+            side.end = end_by_fault(fault);
+            Ok(true)
+        }
+    }
+}
+
 /// One turn of the terminal's side: the event of a frame, or a hangup where the terminal has failed and where a frame is
 /// not read. False: it had ended.
 pub fn terminal_turn<I: Source>(
@@ -81,19 +110,6 @@ pub fn terminal_turn<I: Source>(
         side.ended = true;
         return Ok(true);
     }
-    match reader.next(link) {
-        Ok(frame) => {
-            let ends = ends_the_link(&frame);
-            desk.enter(Actor::Terminal, event_for(frame))?;
-            side.ended = ends;
-            Ok(true)
-        }
-        Err(LinkFault::OutOfMemory) => Err(OutOfMemory),
-        Err(fault) => {
-            desk.enter(Actor::Terminal, Event::Hangup)?;
-            side.ended = true;
-            side.end = end_by_fault(fault);
-            Ok(true)
-        }
-    }
+    let read = reader.next(link);
+    heard(desk, side, read)
 }

@@ -66,6 +66,7 @@ done_failed session racks h rs es side hung failed before left old now k =
       taken = s.taken;
       going = s.going;
       side = tt;
+      more = tt;
       follows = record { actors = s.follows.actors; clients = s.follows.clients; link = s.follows.link; answered = s.follows.answered };
       stream = s.stream;
       written = s.written;

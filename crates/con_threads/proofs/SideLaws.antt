@@ -69,6 +69,7 @@ ends_other h x before now n k = record {
   frames' = k.frames';
   read = k.read;
   going = k.going;
+  more = tt;
 }
 
 ends_on : (h r : List Entry) (before now : Option (List ℕ)) → are_others r ≡ true → LinkEnds h before now → LinkEnds (h ++ r) before now

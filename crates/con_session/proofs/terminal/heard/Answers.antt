@@ -1,0 +1,10 @@
+use Rattle.std.proofs.Common.{refl}
+use Rattle.con_session.specs.SenderLaws.{hangup_ready}
+use Rattle.con_session.proofs.Hearing.{event_ready}
+use Rattle.con_session.proofs.terminal.heard.Goals as goal
+
+pub enter-requires-clause-ready : goal.enter-requires-clause-ready
+enter-requires-clause-ready c = event_ready c.args.desk.now.console.state _ _ _ c.in-Ok.is c.event_for.ensures c.requires.frame c.requires.answered
+
+pub enter-requires-in-Err : goal.enter-requires-in-Err
+enter-requires-in-Err c = record { ready = hangup_ready c.args.desk.now.console.state; other = refl }
