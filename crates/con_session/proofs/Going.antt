@@ -113,28 +113,28 @@ comes R M0 M1 M2 b scripts before old m s1 h1 r1 side taken left s2 h2 r2 ws pla
       same = λ e. z.1 e ∙ same2;
     }
 
-turn_by : (R : Reading) (M Then : List R.One → List Entry → Type 0) (b : Begun) (scripts : List Script) (before old : Option (List ℕ)) (h : List Entry) (m : Moment) (acted painted : Bool) → HasRounds b h → (x : Comes R M b scripts before old h m acted painted) → (a : Bool) → is_nobody x.one ≡ not a → RoundTurnBy R M Then (Ok a) b scripts before old h m
-turn_by R M Then b scripts before old h m acted painted k x true n = (record { holds = x.holds; served = x.served; rounds = one_round b h m.entries x.one k x.are n x.entries }, round_longer b h m.entries (all_order b) x.one x.are n x.entries)
-turn_by R M Then b scripts before old h m acted painted k x false n =
+turn_by : (R : Reading) (M : List R.One → List Entry → Type 0) (b : Begun) (scripts : List Script) (before old : Option (List ℕ)) (h : List Entry) (m : Moment) (acted painted : Bool) → HasRounds b h → (x : Comes R M b scripts before old h m acted painted) → (a : Bool) → is_nobody x.one ≡ not a → RoundTurnBy R M M (Ok a) b scripts before old h m
+turn_by R M b scripts before old h m acted painted k x true n = (record { holds = x.holds; served = x.served; rounds = one_round b h m.entries x.one k x.are n x.entries }, round_longer b h m.entries (all_order b) x.one x.are n x.entries)
+turn_by R M b scripts before old h m acted painted k x false n =
     let e : m.entries ≡ h = x.entries ∙ (ap (λ (z : List Entry). h ++ z) (nobody_none (all_order b) x.one n) ∙ append_none h) in
     let A : List Entry → Type 0 = λ z. AreTurns false b z (all_order b) x.one in
     let W : List Entry → Type 0 = λ z. HasRounds b z in
     (record { holds = x.holds; served = x.served; rounds = subst W (sym e) k }, (x.one, subst A (sym e) x.are, n))
 
 -- a whole round
-pub round_ok : (R : Reading) (M0 M1 M2 Then : List R.One → List Entry → Type 0) (b : Begun) (scripts : List Script) (before old : Option (List ℕ)) (m : Moment) (s1 : State) (h1 : List Entry) (r1 : List Reply) (side : Side) (taken : ℕ) (left : Option (List ℕ)) (s2 : State) (h2 : List Entry) (r2 : List Reply)
+pub round_ok : (R : Reading) (M0 M1 M2 : List R.One → List Entry → Type 0) (b : Begun) (scripts : List Script) (before old : Option (List ℕ)) (m : Moment) (s1 : State) (h1 : List Entry) (r1 : List Reply) (side : Side) (taken : ℕ) (left : Option (List ℕ)) (s2 : State) (h2 : List Entry) (r2 : List Reply)
     (ws : List Worker) (places : List (List ℕ)) (ms : List (List Memory)) (slots : List (List ℕ)) (n : ℕ) (s3 : State) (h3 : List Entry) (r3 : List Reply) (kept : Kept) (es : List ℕ) (end : ℕ) (failed : Bool) (written : Option (List ℕ)) (sent' entered painted acted : Bool)
     → acted ≡ (sent' || (entered || painted))
     → Turned R M0 M1 M2 b.state scripts m s1 h1 r1 side taken left s2 h2 r2 ws places ms slots n s3 h3 r3 kept es end failed written sent' entered painted
     → ((f : Option ℕ) → FailsBy m.failed f (paints m.entries) → GoesBy R M0 (fails_at b f) scripts before old m) → (f : Option ℕ) → FailsBy failed f (paints h3)
-    → RoundTurnBy R M2 Then (Ok acted) (fails_at b f) scripts before old m.entries (record { state = s3; entries = h3; replies = r3; workers = ws; places = places; memories = ms; slots = slots; side = side; taken = taken; left = left; kept = kept; ends = es; end = end; failed = failed; written = written })
-round_ok R M0 M1 M2 Then b scripts before old m s1 h1 r1 side taken left s2 h2 r2 ws places ms slots n s3 h3 r3 kept es end failed written sent' entered painted acted a t all f k =
+    → RoundTurnBy R M2 M2 (Ok acted) (fails_at b f) scripts before old m.entries (record { state = s3; entries = h3; replies = r3; workers = ws; places = places; memories = ms; slots = slots; side = side; taken = taken; left = left; kept = kept; ends = es; end = end; failed = failed; written = written })
+round_ok R M0 M1 M2 b scripts before old m s1 h1 r1 side taken left s2 h2 r2 ws places ms slots n s3 h3 r3 kept es end failed written sent' entered painted acted a t all f k =
     let g = failing m.failed (paints m.entries) in
     let now = fails_now m.failed (paints m.entries) in
     let one = comes R M0 M1 M2 (fails_at b g) scripts before old m s1 h1 r1 side taken left s2 h2 r2 ws places ms slots n s3 h3 r3 kept es end failed written sent' entered painted t now (all g now) in
     let was = fails_before painted m.failed failed f (paints m.entries) (paints h3) t.fails one.more one.same k in
     let x = comes R M0 M1 M2 (fails_at b f) scripts before old m s1 h1 r1 side taken left s2 h2 r2 ws places ms slots n s3 h3 r3 kept es end failed written sent' entered painted t was (all f was) in
-    turn_by R M2 Then (fails_at b f) scripts before old m.entries (record { state = s3; entries = h3; replies = r3; workers = ws; places = places; memories = ms; slots = slots; side = side; taken = taken; left = left; kept = kept; ends = es; end = end; failed = failed; written = written })
+    turn_by R M2 (fails_at b f) scripts before old m.entries (record { state = s3; entries = h3; replies = r3; workers = ws; places = places; memories = ms; slots = slots; side = side; taken = taken; left = left; kept = kept; ends = es; end = end; failed = failed; written = written })
     (sent' || (entered || painted)) painted (all f was).rounds x acted (x.nobody ∙ ap not (sym a))
 
 -- ---- where there was no memory
@@ -347,17 +347,17 @@ round_err R M Then b scripts before old h m (Err x) i k = k
 
 -- one round more
 
-pub goes_on : (R : Reading) (M Then : List R.One → List Entry → Type 0) (b : Begun) (scripts : List Script) (before old : Option (List ℕ)) (h : List Entry) (m : Moment) (acted : Bool) → RoundTurnBy R M Then (Ok acted) b scripts before old h m → GoesBy R M b scripts before old m
-goes_on R M Then b scripts before old h m true k = k.0
-goes_on R M Then b scripts before old h m false k = k.0
+pub goes_on : (R : Reading) (M : List R.One → List Entry → Type 0) (b : Begun) (scripts : List Script) (before old : Option (List ℕ)) (h : List Entry) (m : Moment) (acted : Bool) → RoundTurnBy R M M (Ok acted) b scripts before old h m → GoesBy R M b scripts before old m
+goes_on R M b scripts before old h m true k = k.0
+goes_on R M b scripts before old h m false k = k.0
 
-pub goes_longer : (R : Reading) (M Then : List R.One → List Entry → Type 0) (b : Begun) (scripts : List Script) (before old : Option (List ℕ)) (h : List Entry) (m : Moment) (acted : Bool) → acted ≡ true → RoundTurnBy R M Then (Ok acted) b scripts before old h m → length h < length m.entries
-goes_longer R M Then b scripts before old h m true e k = k.1
-goes_longer R M Then b scripts before old h m false e k = absurd (cc)
+pub goes_longer : (R : Reading) (M : List R.One → List Entry → Type 0) (b : Begun) (scripts : List Script) (before old : Option (List ℕ)) (h : List Entry) (m : Moment) (acted : Bool) → acted ≡ true → RoundTurnBy R M M (Ok acted) b scripts before old h m → length h < length m.entries
+goes_longer R M b scripts before old h m true e k = k.1
+goes_longer R M b scripts before old h m false e k = absurd (cc)
 
-pub goes_idle : (R : Reading) (M Then : List R.One → List Entry → Type 0) (b : Begun) (scripts : List Script) (before old : Option (List ℕ)) (h : List Entry) (m : Moment) (acted : Bool) → acted ≡ false → RoundTurnBy R M Then (Ok acted) b scripts before old h m → GoesBy R M b scripts before old m × AllIdle b m.entries
-goes_idle R M Then b scripts before old h m false e k = k
-goes_idle R M Then b scripts before old h m true e k = absurd (cc)
+pub goes_idle : (R : Reading) (M : List R.One → List Entry → Type 0) (b : Begun) (scripts : List Script) (before old : Option (List ℕ)) (h : List Entry) (m : Moment) (acted : Bool) → acted ≡ false → RoundTurnBy R M M (Ok acted) b scripts before old h m → GoesBy R M b scripts before old m × AllIdle b m.entries
+goes_idle R M b scripts before old h m false e k = k
+goes_idle R M b scripts before old h m true e k = absurd (cc)
 
 pub rounds_err : (R : Reading) (M Then : List R.One → List Entry → Type 0) (b : Begun) (scripts : List Script) (before old : Option (List ℕ)) (m : Moment) (result : Result (Unit {0}) OutOfMemory) → IsErr result → StopsBy R Then b before old m.entries m.replies m.ends m.left m.written m.failed → RoundsTurnBy R M Then result b scripts before old m
 rounds_err R M Then b scripts before old m (Ok x) i k = absurd (cc)

@@ -6,7 +6,7 @@ use Rattle.con_units.specs.declared.code.OutOfMemory.{OutOfMemory}
 use Rattle.con_units.specs.declared.place.Size.{Size}
 use Rattle.con_units.specs.declared.view.Frame.{Frame}
 use Rattle.con_outside.specs.Outside.{then_left}
-use Rattle.con_link.specs.Frames.{Answers, ends_link, is_frame}
+use Rattle.con_link.specs.Frames.{ends_link, is_frame}
 use Rattle.con_link.specs.Reading.{Reading, plainly}
 use Rattle.con_link.specs.declared.fault.LinkFault.{LinkFault}
 use Rattle.con_link.specs.declared.fault.LinkFault.TheVariants as faults
@@ -24,7 +24,7 @@ use Rattle.con_machine.specs.State.{State}
 use Rattle.con_machine.specs.Step.{is_ready}
 use Rattle.con_machine.specs.Turns.{sent, has_ended, paints}
 use Rattle.con_session.specs.CanvasLaws.{ends_as}
-use Rattle.con_session.specs.Desk.{Rests, entry}
+use Rattle.con_session.specs.Desk.{Enters, Rests, entry}
 use Rattle.con_session.specs.LinkLaws.{failed_for}
 use Rattle.con_session.specs.LinkedLaws.{linked_frame, linked_fault, linked_stops}
 use Rattle.con_session.specs.Painting.{CanvasEnds, EntersPaint, PaintTurn, acted}
@@ -53,6 +53,22 @@ event_ready s (Ok g) f ev i e k a =
     let Q : Frame → Type 0 = λ x. is_frame x ≡ true in
     subst P (sym e) (frame_ready s f (subst Q q k) a)
 event_ready s (Err x) f ev i e k a = absurd (cc)
+
+-- what was entered is what was heard
+pub hears_frame : (read : Result Frame LinkFault) (f : Frame) (ev : Event) (ended : Bool) (was side : Side) (s t : State) (h g : List Entry) (rs qs : List Reply) → read ≡ Ok f → ev ≡ sent_by f → ended ≡ ends_link f → side ≡ record { ended = ended; end = was.end }
+    → Enters s t h g rs qs actors.Terminal ev → Hears (Ok true) read was side s t h g rs qs
+hears_frame (Ok x) f ev ended was side s t h g rs qs i e d q k =
+    let same : x ≡ f = cc in
+    let P : Event → Type 0 = λ z. Enters s t h g rs qs actors.Terminal z in
+    (refl, subst P (e ∙ ap sent_by (sym same)) k, q ∙ ap (λ (b : Bool). let z : Side = record { ended = b; end = was.end } in z) (d ∙ ap ends_link (sym same)))
+hears_frame (Err x) f ev ended was side s t h g rs qs i e d q k = absurd (cc)
+
+pub hears_fault : (read : Result Frame LinkFault) (f : LinkFault) (end : End) (was side : Side) (s t : State) (h g : List Entry) (rs qs : List Reply) → read ≡ Err f → end ≡ end_for f → side ≡ record { ended = true; end = end }
+    → Enters s t h g rs qs actors.Terminal events.Hangup → Hears (Ok true) read was side s t h g rs qs
+hears_fault (Ok x) f end was side s t h g rs qs i e q k = absurd (cc)
+hears_fault (Err x) f end was side s t h g rs qs i e q k =
+    let same : x ≡ f = cc in
+    (refl, k, q ∙ ap (λ (z : End). let y : Side = record { ended = true; end = z } in y) (e ∙ ap end_for (sym same)))
 
 -- ---- the turn
 

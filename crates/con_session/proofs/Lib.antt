@@ -4,3 +4,5 @@ pub mod Rounding
 pub mod Turning
 pub mod Going
 pub mod Ending
+pub mod Mirroring
+pub mod MirrorEnding

@@ -1,9 +1,7 @@
 -- What was written behind one more Paint.
-use Rattle.std.proofs.Common.{◌≡◌, ◌⊎◌, ℕ, ◌+◌, ◌≤◌, Bool, true, false, List, [], ◌∷◌, ◌++◌, length, take, Option, refl, sym, ap, ◌∙◌, subst, append_assoc, arith, length-append, zero-add, inl, inr, Result, Ok, Err}
+use Rattle.std.proofs.Common.{◌≡◌, ℕ, ◌+◌, ◌≤◌, Bool, true, false, List, [], ◌∷◌, ◌++◌, length, take, Option, refl, sym, ap, ◌∙◌, subst, append_assoc, arith, length-append, zero-add, inl, inr}
 use Rattle.std.specs.Prelude.{if◌then◌else◌}
-use Rattle.std.specs.Result.{IsErr}
 use Rattle.std.proofs.Math.Seq.{take-length, take-append-add}
-use Rattle.con_units.specs.declared.code.OutOfMemory.{OutOfMemory}
 use Rattle.con_units.specs.declared.place.Size.{Size}
 use Rattle.con_units.specs.declared.view.View.{View}
 use Rattle.con_units.specs.declared.view.Sight.{Sight}
@@ -25,7 +23,7 @@ use Rattle.con_machine.specs.Sights.{sights_of, sights_at}
 use Rattle.con_machine.specs.Turns.{moved, paints, is_paint}
 use Rattle.con_machine.specs.State.{State}
 use Rattle.con_session.specs.Desk.{Rests, entry}
-use Rattle.con_session.specs.Painting.{Written, EntersPaint, PainterStands, CanvasIs, CanvasEnds, PaintTurn, Pictures}
+use Rattle.con_session.specs.Painting.{Written, PainterStands, CanvasIs, CanvasEnds, Pictures}
 use Rattle.con_session.specs.Runs.{Matched, joined, ends_from}
 use Rattle.con_session.specs.PaintingLaws.{painter_paint, none_each, readied}
 
@@ -153,12 +151,6 @@ canvas_failed b size before now later kept after ps ends end upto v fresh was by
     let P : List ℕ → Type 0 = λ x. n ≤ length x in
     canvas_paint b size before now later kept after ps ends end upto v fresh true bytes n s h g i e tells paints shown sizes (subst P sl m)
     (l ∙ ap (λ (x : List ℕ). then_written now (take n x)) sl) (λ x. absurd (cc)) u (was_fine b h size kept ps ends end before now was w k))
-
--- an answer that is no value
-pub paint_err : (b : Begun) (s t : State) (h g : List Entry) (rs qs : List Reply) (size : Size) (kept : Kept) (ps : List (List ℕ)) (ends : List ℕ) (end : ℕ) (before now : Option (List ℕ)) (failed : Bool) (result : Result Bool OutOfMemory) → IsErr result
-    → (Rests s t h g rs qs ⊎ EntersPaint s t h g rs qs) → (old : List ℕ) → ends ≡ old → CanvasEnds b g size old before now → PaintTurn result b s t h g rs qs size kept ps ends end before now failed
-paint_err b s t h g rs qs size kept ps ends end before now failed (Ok x) i e old same k = absurd (cc)
-paint_err b s t h g rs qs size kept ps ends end before now failed (Err x) i e old same k = (e, let P : List ℕ → Type 0 = λ y. CanvasEnds b g size y before now in subst P (sym same) k)
 
 -- its end, where nothing was entered
 pub canvas_rests : (b : Begun) (s t : State) (h g : List Entry) (rs qs : List Reply) (size : Size) (kept : Kept) (ps : List (List ℕ)) (ends : List ℕ) (end : ℕ) (before now : Option (List ℕ)) (failed : Bool) → Rests s t h g rs qs → CanvasIs b h size kept ps ends end before now failed → CanvasEnds b g size ends before now

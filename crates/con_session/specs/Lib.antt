@@ -13,6 +13,9 @@ pub mod Painting
 pub mod Opening
 pub mod Solo
 pub mod Outcome
+-- A second terminal: what it is to show, and what an outcome has of it.
+pub mod Seconds
+pub mod Second
 -- Laws of these words, for the crates above: entries and runs,
 pub mod Replying
 pub mod DeskLaws
@@ -37,6 +40,9 @@ pub mod CanvasLaws
 pub mod PaintTurns
 pub mod PaintCounts
 pub mod TiedLaws
+-- a second terminal,
+pub mod SecondsLaws
+pub mod SecondLaws
 -- and a session's beginning and its end.
 pub mod OpeningLaws
 pub mod EndLaws

@@ -14,6 +14,9 @@
 //!
 //! [`run_solo`] runs a whole session by rounds of these turns, on one thread, and leaves an [`Outcome`].
 //!
+//! [`run_mirrored`] runs one of a link by whose frames a second terminal attaches and detaches. [`mirrored_turn`] is its terminal side's turn:
+//! the mirror attends to the frame ([`attend`]); [`follow`] writes the part of a Paint's view to the second terminal. It leaves a [`Mirrored`].
+//!
 //! A session that goes another way than by rounds begins by [`begun`], too, and finds the parts of a turn here: [`draw`] with
 //! [`frame_length`] and [`end_after`], [`event_for`] with [`ends_the_link`] and [`end_by_fault`], [`brief_for`] with [`is_granted`] and [`must_leave`].
 //! The laws of these turns stand beside their words.
@@ -24,8 +27,10 @@
 mod copying;
 mod desk;
 mod hands;
+mod mirrored;
 mod painting;
 mod seat;
+mod second;
 mod solo;
 mod stage;
 mod terminal;
@@ -34,8 +39,10 @@ mod worker;
 pub use copying::{copied_call, copied_wanted};
 pub use desk::{Brief, Desk, Picture, as_listed, brief_for};
 pub use hands::Hands;
+pub use mirrored::{Mirrored, run_mirrored};
 pub use painting::{Canvas, draw, end_after, frame_length, painted, painter_turn};
 pub use seat::{Seat, client_turn, clients_turn};
+pub use second::{Second, attend, follow, followed, mirrored_turn};
 pub use solo::{Outcome, nothing_left, run_solo};
 pub use stage::{Stage, begun};
 pub use terminal::{Side, end_by_fault, ends_the_link, event_for, heard, terminal_turn};

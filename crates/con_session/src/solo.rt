@@ -33,7 +33,8 @@ pub struct Outcome {
     pub end: End,
 }
 
-fn any_of(sent: bool, entered: bool, painted: bool) -> bool
+// Whether one of them acted.
+pub(crate) fn any_of(sent: bool, entered: bool, painted: bool) -> bool
     ensures { result ≡ (sent || (entered || painted)) }
 {
     sent || entered || painted
@@ -101,7 +102,7 @@ fn rounds<I: Source, O: Sink>(
 }
 
 // Why a session ended in which nobody has anything left to do.
-fn end_of(stage: &Stage) -> End
+pub(crate) fn end_of(stage: &Stage) -> End
     ensures { result ≡ end_by stage.now.canvas.failed stage.now.side.end }
 {
     if stage.canvas.failed {
@@ -112,7 +113,7 @@ fn end_of(stage: &Stage) -> End
 }
 
 // What a stage leaves behind.
-fn left_by(stage: Stage, end: End) -> Outcome
+pub(crate) fn left_by(stage: Stage, end: End) -> Outcome
     ensures entries { result.entries ≡ stage.desk.entries.items }
     ensures replies { result.replies ≡ stage.desk.replies.items }
     ensures ends { result.ends ≡ stage.canvas.ends.items }

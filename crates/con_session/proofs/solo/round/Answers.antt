@@ -23,7 +23,7 @@ returns-in_err-painted-clause-turn g c = λ b before old all f k. round_err plai
     c.in_err-painted.ensures.fails c.in_err-painted.ensures.acts c.in_err-painted.ensures.turn (λ d s h. all_follow _ _ _ _ _ c.clients_turn.new.seats (c.requires.scripts ∙ sym c.clients_turn.auto.seats) d s h) all f k)
 
 pub returns-clause-turn : goal.returns-clause-turn
-returns-clause-turn g c = λ b before old all f k. round_ok plainly NoMore NoMore NoMore NoMore b _ before old _ _ _ _ _ _ _ _ _ _ _ _ _ _ _ _ _ _ _ _ _ _ _ c.in_ok-sent.sent c.in_ok-entered.entered c.in_ok-painted.painted _ c.any_of.ensures
+returns-clause-turn g c = λ b before old all f k. round_ok plainly NoMore NoMore NoMore b _ before old _ _ _ _ _ _ _ _ _ _ _ _ _ _ _ _ _ _ _ _ _ _ _ c.in_ok-sent.sent c.in_ok-entered.entered c.in_ok-painted.painted _ c.any_of.ensures
     (record {
       count = sym c.requires.scripts;
       sends = c.in_ok-sent.ensures.turn;

@@ -1,4 +1,4 @@
-use Rattle.std.proofs.Common.{refl, inl, inr}
+use Rattle.std.proofs.Common.{refl}
 use Rattle.con_events.specs.declared.event.Event.TheVariants as events
 use Rattle.con_session.specs.RanLaws.{ran_same}
 use Rattle.con_session.specs.LinkLaws.{link_hung}
