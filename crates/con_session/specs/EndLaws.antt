@@ -1,12 +1,13 @@
 -- What is left at the end of a session, in whatever order its turns went: who has left, the bytes of the terminal, and the frames of the link.
-use Rattle.std.proofs.Common.{◌≡◌, ◌⊎◌, ℕ, zero, suc, ◌+◌, ◌<◌, ◌≤◌, Bool, true, false, List, [], ◌∷◌, ◌++◌, length, map, take, Option, Some, None, Err, refl, sym, ap, ◌∙◌, subst, inl, inr, arith, length-take, length-append}
+use Rattle.std.proofs.Common.{◌≡◌, ◌⊎◌, ℕ, zero, suc, ◌+◌, ◌<◌, ◌≤◌, Bool, true, false, List, [], ◌∷◌, ◌++◌, length, map, take, Option, Some, None, Err, refl, sym, ap, ◌∙◌, subst, inl, inr, arith, length-append}
 use Rattle.std.specs.Prelude.{flat_map, if◌then◌else◌}
 use Rattle.con_units.specs.declared.place.Size.{Size}
 use Rattle.con_units.specs.declared.view.View.{View}
 use Rattle.con_units.specs.declared.view.Frame.{Frame}
 use Rattle.con_units.specs.declared.view.Sight.{Sight}
 use Rattle.con_units.specs.declared.view.Sight.TheVariants as sights
-use Rattle.con_outside.specs.Laws.{then_written-none, then_left-none}
+use Rattle.con_outside.specs.Outside.{then_written}
+use Rattle.con_outside.specs.Laws.{WroteFront-nothing, then_written-none, then_left-none}
 use Rattle.con_link.specs.Reading.{Reading, plainly}
 use Rattle.con_link.specs.declared.fault.LinkFault.{LinkFault}
 use Rattle.con_link.specs.declared.fault.LinkFault.TheVariants as faults
@@ -45,7 +46,7 @@ use Rattle.con_session.specs.Sender.{LinkBy, LinkEnds, LinkEndsBy, NoMore, all_g
 use Rattle.con_session.specs.Solo.{Moment, Holds, HoldsBy, begins, end_by}
 use Rattle.con_session.specs.Standing.{ClientStands, is_here}
 use Rattle.con_session.specs.declared.terminal.Side.{Side}
-use Rattle.con_session.specs.CanvasLaws.{painted_count}
+use Rattle.con_session.specs.CanvasLaws.{painted_count, take_all}
 use Rattle.con_session.specs.LinkedLaws.{linked_going}
 use Rattle.con_session.specs.StreamLaws.{run_by_pieces}
 use Rattle.con_session.specs.RanLaws.{append_none}
@@ -114,9 +115,6 @@ pub stream_run : (to : Option View → View → List ℕ → Terminal → Type 0
     → ((t : Terminal) → IsTerminal size.w size.h t → EachPiece Painted t None ss ps) → EachRun to size (take n (joined ps)) ss es
 stream_run to f size ss ps n es e k = let P : List ℕ → Type 0 = λ z. EachRun to size (take n (joined ps)) ss z in
     subst P (sym e) (run_by_pieces to size ss ps n (λ t i. each_map Painted to f t None ss ps (k t i)))
-
-pub taken_length : (n : ℕ) (xs : List ℕ) → n ≤ length xs → length (take n xs) ≡ n
-taken_length n xs l = omega (arith, length-take n xs)
 
 pub last_joined : (es : List ℕ) (ps : List (List ℕ)) → es ≡ ends_from 0 ps → last_end es ≡ length (joined ps)
 last_joined es ps e = ap (λ (z : List ℕ). end_of 0 z) e ∙ (last_by 0 ps ∙ (let z : 0 + length (joined ps) ≡ length (joined ps) = omega arith in z))
@@ -205,8 +203,6 @@ leaves_whole_by R More Then session racks f scripts before old m k stands ended 
     let b = begins session racks f in
     let end = end_by m.failed m.side.end in
     let w = k.canvas.written in
-    let stream = take w.count (joined k.pieces) in
-    let long = taken_length w.count (joined k.pieces) w.most in
     let total = last_joined m.ends k.pieces k.canvas.ends' in
     let count : length m.ends ≡ n = ap (λ (z : List ℕ). length z) k.canvas.ends' ∙ (ends_count 0 k.pieces ∙ painted_count b m.entries session.size m.kept k.pieces k.canvas.stands) in
     let F : List Frame → Type 0 = λ z. FollowsLink (is_cut end) z (sent m.entries) in
@@ -227,15 +223,15 @@ leaves_whole_by R More Then session racks f scripts before old m k stands ended 
         link = subst F (append_none (R.plains k.link.frames)) (k.link.stands.follows (is_cut end) (cut_at_end k.link.cut m.failed m.side.end (λ c. (k.link.why c).1)) []);
         answered = k.asks.answered (is_lost end) (lost_at_end m.failed m.side.end);
       };
-      stream = stream;
-      written = w.front;
-      most = omega (arith, long, total, w.most);
-      all' = λ i. long ∙ (w.whole (whole_at_end m.failed m.side.end i) ∙ sym total);
+      built = joined k.pieces;
+      long = sym total;
+      front = (w.count, w.most, w.front);
+      all' = λ i. w.front ∙ ap (λ (x : List ℕ). then_written old x) (ap (λ (c : ℕ). take c (joined k.pieces)) (w.whole (whole_at_end m.failed m.side.end i)) ∙ take_all (joined k.pieces));
       ends' = λ i. count;
       but_last = inl count;
-      shows = stream_run ShowsView (λ l v p t x. x.shows) session.size ss k.pieces w.count m.ends k.canvas.ends' k.canvas.stands.each;
-      few = stream_run PrintsFew (λ l v p t x. x.few) session.size ss k.pieces w.count m.ends k.canvas.ends' k.canvas.stands.each;
-      new_rows = stream_run PrintsNewRows (λ l v p t x. x.new_rows) session.size ss k.pieces w.count m.ends k.canvas.ends' k.canvas.stands.each;
+      shows = λ n. stream_run ShowsView (λ l v p t x. x.shows) session.size ss k.pieces n m.ends k.canvas.ends' k.canvas.stands.each;
+      few = λ n. stream_run PrintsFew (λ l v p t x. x.few) session.size ss k.pieces n m.ends k.canvas.ends' k.canvas.stands.each;
+      new_rows = λ n. stream_run PrintsNewRows (λ l v p t x. x.new_rows) session.size ss k.pieces n m.ends k.canvas.ends' k.canvas.stands.each;
       left' = λ i. left;
       ended = λ i. ended;
       whole = λ i. record {
@@ -253,7 +249,6 @@ pub leaves_stops_by : (R : Reading) (More : List R.One → List Entry → Type 0
 leaves_stops_by R More session racks f before old left written h rs es legal answers numbered stands link canvas =
     let w = canvas.written in
     let ps = canvas.pieces in
-    let long = taken_length w.count (joined ps) w.most in
     let total = last_joined es ps canvas.ends' in
     let count : length es ≡ length ps = ap (λ (z : List ℕ). length z) canvas.ends' ∙ ends_count 0 ps in
     let F : List Frame → Type 0 = λ z. FollowsLink true z (sent h) in
@@ -274,15 +269,15 @@ leaves_stops_by R More session racks f before old left written h rs es legal ans
         link = subst F (append_none (R.plains link.frames)) (link.stands.follows true (λ c. refl) []);
         answered = answered_lost false h;
       };
-      stream = take w.count (joined ps);
-      written = w.front;
-      most = omega (arith, long, total, w.most);
+      built = joined ps;
+      long = sym total;
+      front = (w.count, w.most, w.front);
       all' = λ i. absurd (cc);
       ends' = λ i. absurd (cc);
       but_last = elim canvas.count [ inl e ↦ inl (count ∙ e) | inr e ↦ inr (ap (λ (z : ℕ). z + 1) count ∙ e) ];
-      shows = stream_run ShowsView (λ l v p t x. x.shows) session.size ss ps w.count es canvas.ends' canvas.each;
-      few = stream_run PrintsFew (λ l v p t x. x.few) session.size ss ps w.count es canvas.ends' canvas.each;
-      new_rows = stream_run PrintsNewRows (λ l v p t x. x.new_rows) session.size ss ps w.count es canvas.ends' canvas.each;
+      shows = λ n. stream_run ShowsView (λ l v p t x. x.shows) session.size ss ps n es canvas.ends' canvas.each;
+      few = λ n. stream_run PrintsFew (λ l v p t x. x.few) session.size ss ps n es canvas.ends' canvas.each;
+      new_rows = λ n. stream_run PrintsNewRows (λ l v p t x. x.new_rows) session.size ss ps n es canvas.ends' canvas.each;
       left' = λ i. absurd (cc);
       ended = λ i. absurd (cc);
       whole = λ i. absurd (cc);
@@ -301,15 +296,15 @@ leaves_none_by R More session racks before old more = record {
   side = tt;
   more = more;
   follows = record { actors = refl; clients = λ p l i. tt; link = tt; answered = tt };
-  stream = [];
-  written = then_written-none old;
-  most = omega arith;
-  all' = λ i. refl;
+  built = [];
+  long = refl;
+  front = WroteFront-nothing [] old;
+  all' = λ i. then_written-none old;
   ends' = λ i. refl;
   but_last = inl refl;
-  shows = stream_run ShowsView (λ l v p t x. x.shows) session.size [] [] 0 [] refl (λ t i. tt);
-  few = stream_run PrintsFew (λ l v p t x. x.few) session.size [] [] 0 [] refl (λ t i. tt);
-  new_rows = stream_run PrintsNewRows (λ l v p t x. x.new_rows) session.size [] [] 0 [] refl (λ t i. tt);
+  shows = λ n. stream_run ShowsView (λ l v p t x. x.shows) session.size [] [] n [] refl (λ t i. tt);
+  few = λ n. stream_run PrintsFew (λ l v p t x. x.few) session.size [] [] n [] refl (λ t i. tt);
+  new_rows = λ n. stream_run PrintsNewRows (λ l v p t x. x.new_rows) session.size [] [] n [] refl (λ t i. tt);
   left' = λ i. absurd (cc);
   ended = λ i. absurd (cc);
   whole = λ i. absurd (cc);

@@ -1,8 +1,8 @@
 -- What a session leaves behind: what is promised of its history and answers, of the bytes of its terminal, and of its link; and of one by turns, its rounds.
-use Rattle.std.specs.Prelude.{◌≡◌, ◌⊎◌, ℕ, ◌+◌, ◌≤◌, true, false, List, [], ◌∷◌, ◌++◌, map, flat_map, length, Option, Err}
+use Rattle.std.specs.Prelude.{◌≡◌, ◌⊎◌, ℕ, ◌+◌, ◌≤◌, true, false, List, [], ◌∷◌, ◌++◌, map, flat_map, length, take, Option, Err}
 use Rattle.std.specs.List.{list_all}
 use Rattle.con_units.specs.declared.view.Frame.{Frame}
-use Rattle.con_outside.specs.Outside.{then_left, then_written}
+use Rattle.con_outside.specs.Outside.{then_left, then_written, WroteFront}
 use Rattle.con_link.specs.Reading.{Reading, plainly}
 use Rattle.con_link.specs.declared.fault.LinkFault.TheVariants as faults
 use Rattle.con_events.specs.Session.{Clients}
@@ -72,18 +72,18 @@ pub record LeavesBy (R : Reading) (More : List R.One → List Entry → Type 0) 
   pub more : More frames h
   -- the history follows the session and these frames
   pub follows : Follows (begun session racks) h session racks (R.plains frames) end
-  -- the bytes written: all of the stream, unless the terminal failed or there was no memory
-  pub stream : List ℕ
-  pub written : now ≡ then_written old stream
-  pub most : length stream ≤ last_end es
-  pub all' : is_lost end ≡ false → length stream ≡ last_end es
+  -- the stream that was built, to its last end; the bytes written are a front of it: all of it, unless the terminal failed or there was no memory
+  pub built : List ℕ
+  pub long : length built ≡ last_end es
+  pub front : WroteFront built old now
+  pub all' : is_lost end ≡ false → now ≡ then_written old built
   -- each Paint has its end; for want of memory the last one may have none
   pub ends' : is_memory end ≡ false → length es ≡ paints h
   pub but_last : (length es ≡ paints h) ⊎ (length es + 1 ≡ paints h)
-  -- in every terminal run each Paint shows its view and prints no more than it has to
-  pub shows : EachRun ShowsView session.size stream (sights_of (begun session racks) h) es
-  pub few : EachRun PrintsFew session.size stream (sights_of (begun session racks) h) es
-  pub new_rows : EachRun PrintsNewRows session.size stream (sights_of (begun session racks) h) es
+  -- in every terminal run of what was built, and of each front of it, each Paint shows its view and prints no more than it has to
+  pub shows : (n : ℕ) → EachRun ShowsView session.size (take n built) (sights_of (begun session racks) h) es
+  pub few : (n : ℕ) → EachRun PrintsFew session.size (take n built) (sights_of (begun session racks) h) es
+  pub new_rows : (n : ℕ) → EachRun PrintsNewRows session.size (take n built) (sights_of (begun session racks) h) es
   -- every client has left and the terminal's side has ended, unless there was no memory
   pub left' : is_memory end ≡ false → HaveAllLeft (begun session racks) h session racks
   pub ended : is_memory end ≡ false → has_ended false (sent h) ≡ true

@@ -68,9 +68,9 @@ done_failed session racks h rs es side hung failed before left old now k =
       side = tt;
       more = tt;
       follows = record { actors = s.follows.actors; clients = s.follows.clients; link = s.follows.link; answered = s.follows.answered };
-      stream = s.stream;
-      written = s.written;
-      most = s.most;
+      built = s.built;
+      long = s.long;
+      front = s.front;
       all' = λ i. absurd (cc);
       ends' = λ i. count;
       but_last = inl count;
