@@ -215,6 +215,7 @@ leaves_whole_by R More Then session racks f scripts before old m k stands ended 
       frames' = k.link.frames';
       taken = k.link.read;
       going = linked_going R More m.entries m.side m.failed before m.left m.taken k.link;
+      behind = k.link.behind;
       side = link_sent R More m.failed m.entries m.side before m.left m.taken k.link (sym k.link.stands.ended' ∙ ended);
       more = then' k.link.frames k.link.more;
       follows = record {
@@ -261,6 +262,7 @@ leaves_stops_by R More session racks f before old left written h rs es legal ans
       frames' = link.frames';
       taken = link.read;
       going = link.going;
+      behind = link.behind;
       side = tt;
       more = link.more;
       follows = record {
@@ -293,6 +295,7 @@ leaves_none_by R More session racks before old more = record {
   frames' = refl;
   taken = then_left-none before;
   going = inl refl;
+  behind = inl refl;
   side = tt;
   more = more;
   follows = record { actors = refl; clients = λ p l i. tt; link = tt; answered = tt };

@@ -38,13 +38,13 @@ pub linked_other : (R : Reading) (More : List R.One → List Entry → Type 0) (
     → ((fs : List R.One) → More fs h → More fs g) → LinkBy R More h side failed before now taken → LinkBy R More g side failed before now taken
 linked_other R More h g x side failed before now taken e n m k =
     let P : List Entry → Type 0 = λ z. SideStands z (R.plains k.frames) k.cut side.ended in
-    record { frames = k.frames; extra = k.extra; cut = k.cut; stands = subst P (sym e) (side_other h x (R.plains k.frames) k.cut side.ended n k.stands); frames' = k.frames'; read = k.read; open' = k.open'; place = k.place; why = k.why; fault = k.fault; whole = k.whole; more = m k.frames k.more }
+    record { frames = k.frames; extra = k.extra; cut = k.cut; stands = subst P (sym e) (side_other h x (R.plains k.frames) k.cut side.ended n k.stands); frames' = k.frames'; read = k.read; open' = k.open'; place = k.place; why = k.why; fault = k.fault; whole = k.whole; behind = k.behind; more = m k.frames k.more }
 
 -- the terminal has failed; and something else is known of the frames
 pub linked_failed : (R : Reading) (More Then : List R.One → List Entry → Type 0) (h : List Entry) (side : Side) (failed later : Bool) (before now : Option (List ℕ)) (taken : ℕ) → (failed ≡ true → later ≡ true)
     → ((fs : List R.One) → More fs h → Then fs h) → LinkBy R More h side failed before now taken → LinkBy R Then h side later before now taken
 linked_failed R More Then h side failed later before now taken i m k =
-    record { frames = k.frames; extra = k.extra; cut = k.cut; stands = k.stands; frames' = k.frames'; read = k.read; open' = k.open'; place = k.place; why = λ c. ((k.why c).0, elim (k.why c).1 [ inl e ↦ inl (i e) | inr e ↦ inr e ]); fault = k.fault; whole = k.whole; more = m k.frames k.more }
+    record { frames = k.frames; extra = k.extra; cut = k.cut; stands = k.stands; frames' = k.frames'; read = k.read; open' = k.open'; place = k.place; why = λ c. ((k.why c).0, elim (k.why c).1 [ inl e ↦ inl (i e) | inr e ↦ inr e ]); fault = k.fault; whole = k.whole; behind = k.behind; more = m k.frames k.more }
 
 -- another's entry, behind which something else is known of the frames
 pub linked_paint : (R : Reading) (More Then : List R.One → List Entry → Type 0) (h g : List Entry) (x : Entry) (side : Side) (failed later : Bool) (before now : Option (List ℕ)) (taken : ℕ) → g ≡ h ++ x ∷ [] → is_terminal x.actor ≡ false → (failed ≡ true → later ≡ true)
@@ -72,6 +72,7 @@ linked_hung R More Then h g side failed before now taken n f e m k =
       why = λ c. (k.open' n, inl f);
       fault = λ x. absurd (let y : is_cut side.end ≡ false = p.4 in cc);
       whole = λ x. absurd (cc);
+      behind = k.behind;
       more = m k.frames k.more;
     }
 
@@ -107,6 +108,7 @@ linked_frame R More Then h g side failed before old now taken later f ended n e 
       why = λ x. absurd (cc);
       fault = λ x. absurd (let y : is_cut side.end ≡ false = p.4 in cc);
       whole = λ x y. ((k.frames, f, refl, k.open' n, sym d ∙ y, a.2), refl, let b : taken + length text ≤ 16777216 = a.3 in let P' : ℕ → Type 0 = λ z. z ≤ 16777216 in subst P' (ap (λ (z : ℕ). z + length text) p.1 ∙ (sym (length-append spelt text) ∙ ap length (sym now'))) b);
+      behind = inl refl;
       more = m k.frames k.more;
     }
 
@@ -139,6 +141,7 @@ linked_fault R More Then h g side failed before old now taken later f end n e d 
       why = λ x. (k.open' n, inr (ap is_cut d ∙ cut_for f));
       fault = λ x. (f, refl, d, subst Q p.1 a);
       whole = λ x. absurd (cc);
+      behind = inr (k.open' n, Err f, subst Q p.1 a);
       more = m k.frames k.more;
     }
 
@@ -164,6 +167,7 @@ linked_stays R More Then h side failed before now taken m k = record {
   frames' = k.frames';
   read = k.read;
   going = linked_going R More h side failed before now taken k;
+  behind = k.behind;
   more = m k.frames k.more;
 }
 
@@ -173,6 +177,7 @@ pub linked_stops : (R : Reading) (More Then : List R.One → List Entry → Type
 linked_stops R More Then h side failed before old now taken later r n (text, l, c, a) m k =
     let spelt = flat_map R.spelling k.frames in
     let was : before ≡ then_left spelt old = k.read ∙ ap (λ (x : List ℕ). then_left x old) (ap (λ (x : List ℕ). spelt ++ x) (k.place n).0 ∙ append_none spelt) in
+    let Q : ℕ → Type 0 = λ x. R.answers r x text now in
     record {
       frames = k.frames;
       extra = text;
@@ -182,6 +187,7 @@ linked_stops R More Then h side failed before old now taken later r n (text, l, 
       frames' = k.frames';
       read = then_left-more spelt text before old now was l;
       going = inl (k.open' n);
+      behind = inr (k.open' n, r, subst Q (k.place n).1 a);
       more = m k.frames k.more;
     }
 

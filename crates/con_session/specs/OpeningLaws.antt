@@ -132,6 +132,7 @@ open_link_by R More before failed more =
       why = λ e. absurd (cc);
       fault = λ e. absurd (cc);
       whole = λ c e. absurd (cc);
+      behind = inl refl;
       more = more;
     }
 

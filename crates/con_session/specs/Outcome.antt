@@ -20,7 +20,7 @@ use Rattle.con_machine.specs.Turns.{sent, has_ended, paints}
 use Rattle.con_machine.specs.Whole.{IsWhole, HaveAllLeft}
 use Rattle.con_session.specs.Desk.{listed}
 use Rattle.con_session.specs.Runs.{EachRun, ShowsView, PrintsFew, PrintsNewRows}
-use Rattle.con_session.specs.Sender.{IsLinkBy, NoMore, all_go_on}
+use Rattle.con_session.specs.Sender.{IsLinkBy, NoMore, TakesBehind, all_go_on}
 
 -- ---- the link
 
@@ -68,6 +68,7 @@ pub record LeavesBy (R : Reading) (More : List R.One → List Entry → Type 0) 
   pub frames' : list_all R.is_one frames ≡ true
   pub taken : before ≡ then_left (flat_map R.spelling frames ++ text) left
   pub going : (all_go_on R frames ≡ true) ⊎ IsLinkBy R frames left
+  pub behind : TakesBehind R frames text left
   pub side : HasSentBy R end frames text left (sent h)
   pub more : More frames h
   -- the history follows the session and these frames

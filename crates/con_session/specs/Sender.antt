@@ -57,6 +57,11 @@ all_go_on R fs = list_all (λ f. goes_on (R.plain f)) fs
 abbrev pub IsLinkBy : (R : Reading) → List R.One → Option (List ℕ) → Type 0
 IsLinkBy R frames left = (front : List R.One) × (last : R.One) × (frames ≡ front ++ last ∷ []) × (all_go_on R front ≡ true) × (ends_link (R.plain last) ≡ true) × IsEnd (R.plain last) left
 
+-- Behind the frames nothing was taken of the link, or no more than one reading takes: a frame, of which no event came, a front of one, or the bytes to the
+-- one that shows a fault. Behind a frame that ends the link it is nothing.
+abbrev pub TakesBehind : (R : Reading) → List R.One → List ℕ → Option (List ℕ) → Type 0
+TakesBehind R frames text left = (text ≡ []) ⊎ ((all_go_on R frames ≡ true) × (r : Result R.One LinkFault) × R.answers r (length (flat_map R.spelling frames)) text left)
+
 -- what was read of the link, and why no more is; and what more is known of the frames that were read
 pub record LinkBy (R : Reading) (More : List R.One → List Entry → Type 0) (h : List Entry) (side : Side) (failed : Bool) (before now : Option (List ℕ)) (taken : ℕ) : Type 0 where
   pub frames : List R.One
@@ -72,6 +77,7 @@ pub record LinkBy (R : Reading) (More : List R.One → List Entry → Type 0) (h
   pub fault : is_cut side.end ≡ true → (f : LinkFault) × (cut ≡ true) × (side.end ≡ end_for f) × R.answers (Err f) (length (flat_map R.spelling frames)) extra now
   -- the last frame ends the link
   pub whole : cut ≡ false → side.ended ≡ true → IsLinkBy R frames now × (extra ≡ []) × (length (flat_map R.spelling frames) ≤ 16777216)
+  pub behind : TakesBehind R frames extra now
   pub more : More frames h
 
 -- what is known of it where there is no memory
@@ -84,6 +90,7 @@ pub record LinkEndsBy (R : Reading) (More : List R.One → List Entry → Type 0
   pub frames' : list_all R.is_one frames ≡ true
   pub read : before ≡ then_left (flat_map R.spelling frames ++ extra) now
   pub going : (all_go_on R frames ≡ true) ⊎ IsLinkBy R frames now
+  pub behind : TakesBehind R frames extra now
   pub more : More frames h
 
 -- of the frames of a link with no second terminal nothing more is known

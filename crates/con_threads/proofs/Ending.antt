@@ -65,6 +65,7 @@ done_failed session racks h rs es side hung failed before left old now k =
       frames' = s.frames';
       taken = s.taken;
       going = s.going;
+      behind = s.behind;
       side = tt;
       more = tt;
       follows = record { actors = s.follows.actors; clients = s.follows.clients; link = s.follows.link; answered = s.follows.answered };

@@ -69,6 +69,7 @@ ends_other h x before now n k = record {
   frames' = k.frames';
   read = k.read;
   going = k.going;
+  behind = k.behind;
   more = tt;
 }
 
