@@ -1,7 +1,7 @@
 -- A console may cross threads, and be shared by them: so a ledger, its book and its passes.
 use denote.Param.Send.{IsSend, IsSync, sendable}
 use denote.Param.Object.{Ghosts, table_of}
-use denote.Param.SendFields.{declared_send}
+use denote.Param.SendFields.{declared_send, declared_sync}
 use denote.Param.Sent.{Sends}
 use denote.RattleType.{RattleType}
 use denote.Ref.{NamedLft}
@@ -68,6 +68,7 @@ use Rattle.con_threads.specs.contracts.ledger.Page as ledger_page
 use Rattle.con_threads.specs.contracts.ledger.Told as told
 use Rattle.con_threads.specs.contracts.painter.PainterThread as painter_thread
 use Rattle.con_threads.specs.contracts.side.SideThread as side_thread
+use Rattle.con_threads.specs.contracts.signals.Signals as signals
 use Rattle.con_threads.specs.contracts.client.ClientThread as client
 use Rattle.con_threads.specs.contracts.ledger.Ledger as ledger
 use Rattle.con_threads.specs.contracts.scribe.Scribe as scribe
@@ -134,6 +135,9 @@ painter_send = search (sendable, crosses) depth 40
 
 pub bell_sync : IsSync bell.the_row
 bell_sync = search (sendable, crosses, book_bell.the_sync) depth 40
+
+pub signals_sync : IsSync signals.the_row
+signals_sync = declared_sync signals.the_type (bell_sync, (search (sendable, crosses) depth 20, (search (sendable, crosses) depth 20, (search (sendable, crosses) depth 20, (search (sendable, crosses) depth 20, tt)))))
 
 pub book_sync : IsSync (book.the_row ledger.the_row ledger_page.the_row event.the_row told.the_row brief.the_row room.the_row machine.ghosts)
 book_sync = book_book.the_sync ledger.the_row ledger_page.the_row event.the_row told.the_row brief.the_row room.the_row machine.ghosts ledger_send events_event.the_send

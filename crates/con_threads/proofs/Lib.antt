@@ -6,6 +6,7 @@ pub mod Closures
 pub mod Crewing
 pub mod Crosses
 pub mod Ending
+pub mod InRow
 pub mod Ledgering
 pub mod Making
 pub mod Painting

@@ -1,6 +1,6 @@
 -- Worked logs, what an actor has seen of them, and passes that were taken in: computed on the definitions.
 use Rattle.std.proofs.Common.{subst, sym, ap, inl, inr, arith}
-use Rattle.std.specs.Prelude.{ℕ, ◌≡◌, refl, Bool, true, false, not, List, [], ◌∷◌, ◌++◌, codes, Some}
+use Rattle.std.specs.Prelude.{ℕ, ◌≡◌, refl, Bool, true, false, not, List, [], ◌∷◌, ◌++◌, codes}
 use Rattle.std.specs.List.{list_all}
 use Rattle.con_units.specs.Split.{next, split_after}
 use Rattle.con_units.specs.declared.code.Code.TheVariants as code
@@ -43,7 +43,7 @@ use Rattle.con_book.specs.declared.view.Joined.{Joined}
 use Rattle.con_book.specs.declared.view.View as known
 use Rattle.con_threads.specs.Crews.{AllServed, down_from}
 use Rattle.con_threads.specs.Clients.{ClientView}
-use Rattle.con_threads.specs.Ledger.{IsLogOf, brief_told, entries_of, entry_by, next_page, page_brief, page_ready, told_of}
+use Rattle.con_threads.specs.Ledger.{IsLogOf, entries_of, entry_by, next_page, page_brief, page_ready, told_of}
 use Rattle.con_threads.specs.Scribe.{HasEntered, SeesMore, is_same}
 use Rattle.con_threads.specs.Taking.{Covers, IsOf, kept_all}
 use Rattle.con_threads.specs.declared.ledger.Page.{Page}

@@ -1,5 +1,5 @@
 -- Worked threads: a client, the terminal's side, the painter and the writer behind small histories, computed on the definitions.
-use Rattle.std.proofs.Common.{subst, sym, ap, ◌∙◌, inl, inr, arith}
+use Rattle.std.proofs.Common.{subst, ap, inl, inr, arith}
 use Rattle.std.specs.Prelude.{ℕ, ◌+◌, ◌≡◌, ◌⊎◌, refl, ◌≤◌, Bool, true, false, List, [], ◌∷◌, ◌++◌, codes, map, flat_map, length, take, Option, Some, None}
 use Rattle.con_units.specs.Split.{next, split_after}
 use Rattle.con_units.specs.declared.view.Frame.{Frame}
@@ -37,7 +37,6 @@ use Rattle.con_machine.specs.Reads.{began, collected, took_ctrl, left, line_fron
 use Rattle.con_machine.specs.Rounds.{Begun}
 use Rattle.con_machine.specs.Terminal.{fed, quiet, resized}
 use Rattle.con_machine.specs.Painting.{painted, same_view}
-use Rattle.con_session.specs.Painting.{CanvasEnds}
 use Rattle.con_session.specs.Runs.{ends_from}
 use Rattle.con_session.specs.Sender.{LinkIs, hung}
 use Rattle.con_session.specs.Solo.{AsksStand, begins}

@@ -5,6 +5,7 @@ pub mod Clients
 pub mod Sides
 pub mod Painters
 pub mod Writers
+pub mod Abreast
 pub mod Crews
 pub mod Taking
 pub mod Session

@@ -9,14 +9,14 @@ ghost use Rattle.con_threads.specs.Ledger.{brief_told};
 
 use crate::ledger::{Ledger, Told};
 use crate::scribe::Scribe;
-use con_book::{Bell, Book};
+use crate::signals::Signals;
+use con_book::Book;
 use con_events::{Event, Step};
 use con_outside::Gate;
 use con_session::{Brief, CTRL_EXIT, Hands, Seat, must_leave};
 use con_units::OutOfMemory;
 use std::sync::Wait;
 use std::sync::atomic::Ordering::SeqCst;
-use std::sync::atomic::{AtomicBool, AtomicU64};
 
 /// What a thread did in a turn: it entered an event, it has nothing to do yet, or it is gone.
 pub enum Moved {
@@ -152,8 +152,7 @@ impl ClientThread<'_> {
         &mut self,
         rt: &R,
         book: &Book<Ledger>,
-        bell: &Bell,
-        halt: &AtomicBool,
+        signals: &Signals,
         gate: &G,
     )
         requires book { pass_id self.old.scribe.pass ≡ book_id book.now }
@@ -161,16 +160,16 @@ impl ClientThread<'_> {
         ensures served { HasServed (record { scribe = self.old.scribe; steps = self.old.steps.now; number = self.old.number; broken = self.old.broken; worker = self.old.seat.worker; places = self.old.seat.hands.places.items; memories = map (λ b. memory_of (asked (b.vtable, b.value)) (last (b.vtable, b.value)) (kind (b.vtable, b.value))) self.old.seat.hands.chain.handlers.items; slots = map (λ o. told_in (option_map (λ b. memory_of (asked (b.vtable, b.value)) (last (b.vtable, b.value)) (kind (b.vtable, b.value))) o)) self.old.seat.hands.rack.items }) (record { scribe = self.new.scribe; steps = self.new.steps.now; number = self.new.number; broken = self.new.broken; worker = self.new.seat.worker; places = self.new.seat.hands.places.items; memories = map (λ b. memory_of (asked (b.vtable, b.value)) (last (b.vtable, b.value)) (kind (b.vtable, b.value))) self.new.seat.hands.chain.handlers.items; slots = map (λ o. told_in (option_map (λ b. memory_of (asked (b.vtable, b.value)) (last (b.vtable, b.value)) (kind (b.vtable, b.value))) o)) self.new.seat.hands.rack.items }) }
     {
         for _ in rt.forever() {
-            let mark = bell.mark();
-            if halt.load(SeqCst) {
+            let mark = signals.bell.mark();
+            if signals.halt.load(SeqCst) {
                 return;
             }
             match self.act(rt, book, gate) {
-                Ok(Moved::Entered) => bell.ring(),
-                Ok(Moved::Waits) => bell.wait(rt, mark),
+                Ok(Moved::Entered) => signals.bell.ring(),
+                Ok(Moved::Waits) => signals.bell.wait(rt, mark),
                 Ok(Moved::Gone) => return,
                 Err(OutOfMemory) => {
-                    halt.store(true, SeqCst);
+                    signals.stop();
                     return;
                 }
             }
@@ -178,22 +177,20 @@ impl ClientThread<'_> {
         unreachable!()
     }
 
-    /// Follows its script until it is gone. Where it has no memory it halts all. `others` counts the threads still at work.
+    /// Follows its script until it is gone, once all threads are made. Where it has no memory it halts all.
     pub fn work<R: Wait, G: Gate>(
         &mut self,
         rt: &R,
         book: &Book<Ledger>,
-        bell: &Bell,
-        halt: &AtomicBool,
-        others: &AtomicU64,
+        signals: &Signals,
         gate: &G,
     )
         requires book { pass_id self.old.scribe.pass ≡ book_id book.now }
         requires is { IsClientThread (record { scribe = self.old.scribe; steps = self.old.steps.now; number = self.old.number; broken = self.old.broken; worker = self.old.seat.worker; places = self.old.seat.hands.places.items; memories = map (λ b. memory_of (asked (b.vtable, b.value)) (last (b.vtable, b.value)) (kind (b.vtable, b.value))) self.old.seat.hands.chain.handlers.items; slots = map (λ o. told_in (option_map (λ b. memory_of (asked (b.vtable, b.value)) (last (b.vtable, b.value)) (kind (b.vtable, b.value))) o)) self.old.seat.hands.rack.items }) }
         ensures served { HasServed (record { scribe = self.old.scribe; steps = self.old.steps.now; number = self.old.number; broken = self.old.broken; worker = self.old.seat.worker; places = self.old.seat.hands.places.items; memories = map (λ b. memory_of (asked (b.vtable, b.value)) (last (b.vtable, b.value)) (kind (b.vtable, b.value))) self.old.seat.hands.chain.handlers.items; slots = map (λ o. told_in (option_map (λ b. memory_of (asked (b.vtable, b.value)) (last (b.vtable, b.value)) (kind (b.vtable, b.value))) o)) self.old.seat.hands.rack.items }) (record { scribe = self.new.scribe; steps = self.new.steps.now; number = self.new.number; broken = self.new.broken; worker = self.new.seat.worker; places = self.new.seat.hands.places.items; memories = map (λ b. memory_of (asked (b.vtable, b.value)) (last (b.vtable, b.value)) (kind (b.vtable, b.value))) self.new.seat.hands.chain.handlers.items; slots = map (λ o. told_in (option_map (λ b. memory_of (asked (b.vtable, b.value)) (last (b.vtable, b.value)) (kind (b.vtable, b.value))) o)) self.new.seat.hands.rack.items }) }
     {
-        self.act_all(rt, book, bell, halt, gate);
-        others.fetch_sub(1, SeqCst);
-        bell.ring();
+        signals.wait_for_all(rt);
+        self.act_all(rt, book, signals, gate);
+        signals.leave();
     }
 }

@@ -1,9 +1,12 @@
-//! A session by threads: each client, the terminal's side, the painter and the writer has a thread of its own, where one can be made.
+//! A session by threads: each client, the terminal's side, the painter and the writer has a thread of its own.
 //!
 //! - A [`Ledger`] is a console with the replies that it gave, as a book keeps it: one lock, one history.
 //! - A [`Scribe`] enters the events of one actor there, and knows what it has seen of the history.
 //! - A [`ClientThread`] follows its script, a [`SideThread`] sends the frames of the link, a [`PainterThread`] makes a frame of each
 //!   Paint outside the lock, and a [`WriterThread`] writes them.
+//!
+//! Their [`Signals`] tell when all are made, before which none begins: where one cannot be made, which is want of memory, all return and
+//! nothing was entered, read or written.
 //!
 //! [`run_session`] makes all of them, lets them run beside each other, takes their passes together once all have returned, paints what is
 //! still due, closes the book and leaves an `Outcome`, as a session by turns does.
@@ -11,6 +14,7 @@
 //! Never promised: that a thread gets its turn, how long it waits, and that two of them ran at once.
 #![tactic(auto)]
 
+mod abreast;
 mod client;
 mod close;
 mod closing;
@@ -20,10 +24,12 @@ mod gather;
 mod ledger;
 mod listing;
 mod painter;
+mod paired;
 mod run;
 mod scribe;
 mod session;
 mod side;
+mod signals;
 mod step;
 mod writer;
 
@@ -33,4 +39,5 @@ pub use painter::PainterThread;
 pub use scribe::Scribe;
 pub use session::run_session;
 pub use side::SideThread;
+pub use signals::Signals;
 pub use writer::WriterThread;

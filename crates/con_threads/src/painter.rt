@@ -14,7 +14,8 @@ ghost use Rattle.con_threads.specs.Painters.{IsPainterThread, PainterTurn, HasDr
 
 use crate::ledger::{Ledger, Told};
 use crate::scribe::Scribe;
-use con_book::{Bell, Book};
+use crate::signals::Signals;
+use con_book::Book;
 use con_events::Event;
 use con_outside::{Fault, Sink, write_whole};
 use con_paint::Painter;
@@ -24,7 +25,6 @@ use con_units::{Bytes, OutOfMemory};
 use std::alloc::Global;
 use std::sync::Wait;
 use std::sync::atomic::Ordering::SeqCst;
-use std::sync::atomic::{AtomicBool, AtomicU64};
 
 /// The painter, and where each frame ends in the stream. `broken`: it had no memory.
 #[derive(Drop)]
@@ -100,32 +100,29 @@ impl PainterThread {
     }
 
     // Whether its thread is to return: it had no memory, somebody halts all, the terminal has failed, or nobody else is at work.
-    fn is_over(&self, halt: &AtomicBool, failed: &AtomicBool, others: &AtomicU64) -> bool
+    fn is_over(&self, signals: &Signals) -> bool
         ensures { result ≡ false → self.now.broken ≡ false }
     {
         if self.broken {
             return true;
         }
-        if halt.load(SeqCst) {
+        if signals.halt.load(SeqCst) {
             return true;
         }
-        if failed.load(SeqCst) {
+        if signals.fault.load(SeqCst) {
             return true;
         }
-        others.load(SeqCst) == 0
+        signals.others.load(SeqCst) == 0
     }
 
-    /// Paints until all others have returned, somebody halts all or the terminal has failed. Each frame goes into the pipe, and at
-    /// last the end mark.
+    /// Paints, once all threads are made, until all others have returned, somebody halts all or the terminal has failed. Each frame goes
+    /// into the pipe, and at last the end mark.
     pub fn work<R: Wait>(
         &mut self,
         rt: &R,
         alloc: Global,
         book: &Book<Ledger>,
-        bell: &Bell,
-        halt: &AtomicBool,
-        failed: &AtomicBool,
-        others: &AtomicU64,
+        signals: &Signals,
         put: &mut PipeIn,
     )
         requires book { pass_id self.old.scribe.pass ≡ book_id book.now }
@@ -134,21 +131,21 @@ impl PainterThread {
         ensures finished { is_finished put.new ≡ true }
         ensures drawn { HasDrawn self.old self.new put.old put.new }
     {
+        signals.wait_for_all(rt);
         for _ in rt.forever() {
-            let mark = bell.mark();
-            if self.is_over(halt, failed, others) {
+            let mark = signals.bell.mark();
+            if self.is_over(signals) {
                 put.finish(rt);
                 return;
             }
             match self.paint(rt, alloc, book) {
                 Ok(Some(piece)) => {
-                    bell.ring();
+                    signals.bell.ring();
                     put.push(rt, piece);
                 }
-                Ok(None) => bell.wait(rt, mark),
+                Ok(None) => signals.bell.wait(rt, mark),
                 Err(_) => {
-                    halt.store(true, SeqCst);
-                    bell.ring();
+                    signals.stop();
                     put.finish(rt);
                     return;
                 }

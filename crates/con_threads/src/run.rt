@@ -1,4 +1,4 @@
-//! Running the threads of a session.
+//! Running the threads of a session. None begins before all are made.
 ghost use Rattle.std.specs.Prelude.{◌≡◌, ◌⊎◌, ◌≤◌, false, map, All};
 ghost use Rattle.std.specs.Option.{option_map};
 ghost use Rattle.con_handlers.specs.Delivery.{memory_of};
@@ -13,28 +13,27 @@ ghost use Rattle.con_threads.specs.Painters.{IsPainterThread, HasDrawn};
 ghost use Rattle.con_threads.specs.Sides.{IsSideThread, HasSentOn};
 ghost use Rattle.con_threads.specs.Writers.{HasWritten};
 
+use crate::abreast::each_beside;
 use crate::client::ClientThread;
 use crate::ledger::Ledger;
 use crate::painter::PainterThread;
+use crate::paired::beside;
 use crate::side::SideThread;
+use crate::signals::Signals;
 use crate::writer::WriterThread;
-use con_book::{Bell, Book};
+use con_book::Book;
 use con_outside::{Gate, Sink, Source};
 use con_pipe::PipeIn;
 use std::alloc::Global;
 use std::sync::Wait;
-use std::sync::atomic::{AtomicBool, AtomicU64};
-use std::thread::{Threads, for_each_mut, join_mut};
+use std::thread::Threads;
 
 // The painter beside the writer.
 fn run_painter<R: Threads + Wait + Sync, O: Sink + Send>(
     rt: &R,
     alloc: Global,
     book: &Book<Ledger>,
-    bell: &Bell,
-    halt: &AtomicBool,
-    fault: &AtomicBool,
-    others: &AtomicU64,
+    signals: &Signals,
     painter: &mut PainterThread,
     put: &mut PipeIn,
     writer: &mut WriterThread,
@@ -48,11 +47,11 @@ fn run_painter<R: Threads + Wait + Sync, O: Sink + Send>(
     let mut one = ||
         requires { (pass_id painter.now.scribe.pass ≡ book_id book.now) × IsPainterThread painter.now × (is_finished put.now ≡ false) }
         ensures { HasDrawn painter.entry.now painter.exit.now put.entry.now put.exit.now }
-    { painter.work(rt, alloc, book, bell, halt, fault, others, put) };
+    { painter.work(rt, alloc, book, signals, put) };
     let mut two = ||
         ensures { HasWritten writer.entry.now writer.exit.now (O.written term.entry.now) (O.written term.exit.now) (O.faults term.entry.now) (O.faults term.exit.now) }
-    { writer.work(rt, term, bell, halt, fault) };
-    join_mut(rt, &mut one, &mut two);
+    { writer.work(rt, term, signals) };
+    beside(rt, signals, &mut one, &mut two);
 }
 
 // The terminal's side beside these two.
@@ -60,10 +59,7 @@ fn run_edges<R: Threads + Wait + Sync, I: Source + Send, O: Sink + Send>(
     rt: &R,
     alloc: Global,
     book: &Book<Ledger>,
-    bell: &Bell,
-    halt: &AtomicBool,
-    fault: &AtomicBool,
-    others: &AtomicU64,
+    signals: &Signals,
     side: &mut SideThread,
     link: &mut I,
     painter: &mut PainterThread,
@@ -85,56 +81,43 @@ fn run_edges<R: Threads + Wait + Sync, I: Source + Send, O: Sink + Send>(
         ensures side { HasSentOn side.entry.now side.exit.now (I.left link.entry.now) (I.left link.exit.now) }
         ensures failed { side.exit.now.side.end ≡ End.Link → (side.entry.now.side.end ≡ End.Link) ⊎ Rose (I.faults link.entry.now) (I.faults link.exit.now) }
         ensures never_falls { I.faults link.entry.now ≤ I.faults link.exit.now }
-    { side.work(rt, book, bell, halt, fault, others, link) };
+    { side.work(rt, book, signals, link) };
     let mut two = ||
         requires { (pass_id painter.now.scribe.pass ≡ book_id book.now) × IsPainterThread painter.now × (is_finished put.now ≡ false) }
         ensures painter { HasDrawn painter.entry.now painter.exit.now put.entry.now put.exit.now }
         ensures writer { HasWritten writer.entry.now writer.exit.now (O.written term.entry.now) (O.written term.exit.now) (O.faults term.entry.now) (O.faults term.exit.now) }
-    {
-        run_painter(
-            rt, alloc, book, bell, halt, fault, others, painter, put, writer, term,
-        )
-    };
-    join_mut(rt, &mut one, &mut two);
+    { run_painter(rt, alloc, book, signals, painter, put, writer, term) };
+    beside(rt, signals, &mut one, &mut two);
 }
 
-// Each client in a thread of its own, where one can be made.
+// Each client in a thread of its own.
 fn run_clients<R: Threads + Wait + Sync, G: Gate>(
     rt: &R,
     book: &Book<Ledger>,
-    bell: &Bell,
-    halt: &AtomicBool,
-    others: &AtomicU64,
+    signals: &Signals,
     gate: &G,
     clients: &mut [ClientThread<'_>],
 )
     requires { All (λ c. (pass_id c.scribe.pass ≡ book_id book.now) × IsClientThread (record { scribe = c.scribe; steps = c.steps.now; number = c.number; broken = c.broken; worker = c.seat.worker; places = c.seat.hands.places.items; memories = map (λ b. memory_of (asked (b.vtable, b.value)) (last (b.vtable, b.value)) (kind (b.vtable, b.value))) c.seat.hands.chain.handlers.items; slots = map (λ o. told_in (option_map (λ b. memory_of (asked (b.vtable, b.value)) (last (b.vtable, b.value)) (kind (b.vtable, b.value))) o)) c.seat.hands.rack.items })) clients.old }
     ensures { AllServed (λ c. record { scribe = c.scribe; steps = c.steps.now; number = c.number; broken = c.broken; worker = c.seat.worker; places = c.seat.hands.places.items; memories = map (λ b. memory_of (asked (b.vtable, b.value)) (last (b.vtable, b.value)) (kind (b.vtable, b.value))) c.seat.hands.chain.handlers.items; slots = map (λ o. told_in (option_map (λ b. memory_of (asked (b.vtable, b.value)) (last (b.vtable, b.value)) (kind (b.vtable, b.value))) o)) c.seat.hands.rack.items }) clients.old clients.new }
 {
-    let threads = clients.len();
-    if threads == 0 {
-        return;
-    }
-    for_each_mut(
+    each_beside(
         rt,
+        signals,
         clients,
-        threads,
         &|_, client: &mut ClientThread<'_>|
             requires { (pass_id client.old.scribe.pass ≡ book_id book.now) × IsClientThread (record { scribe = client.old.scribe; steps = client.old.steps.now; number = client.old.number; broken = client.old.broken; worker = client.old.seat.worker; places = client.old.seat.hands.places.items; memories = map (λ b. memory_of (asked (b.vtable, b.value)) (last (b.vtable, b.value)) (kind (b.vtable, b.value))) client.old.seat.hands.chain.handlers.items; slots = map (λ o. told_in (option_map (λ b. memory_of (asked (b.vtable, b.value)) (last (b.vtable, b.value)) (kind (b.vtable, b.value))) o)) client.old.seat.hands.rack.items }) }
             ensures { HasServed (record { scribe = client.old.scribe; steps = client.old.steps.now; number = client.old.number; broken = client.old.broken; worker = client.old.seat.worker; places = client.old.seat.hands.places.items; memories = map (λ b. memory_of (asked (b.vtable, b.value)) (last (b.vtable, b.value)) (kind (b.vtable, b.value))) client.old.seat.hands.chain.handlers.items; slots = map (λ o. told_in (option_map (λ b. memory_of (asked (b.vtable, b.value)) (last (b.vtable, b.value)) (kind (b.vtable, b.value))) o)) client.old.seat.hands.rack.items }) (record { scribe = client.new.scribe; steps = client.new.steps.now; number = client.new.number; broken = client.new.broken; worker = client.new.seat.worker; places = client.new.seat.hands.places.items; memories = map (λ b. memory_of (asked (b.vtable, b.value)) (last (b.vtable, b.value)) (kind (b.vtable, b.value))) client.new.seat.hands.chain.handlers.items; slots = map (λ o. told_in (option_map (λ b. memory_of (asked (b.vtable, b.value)) (last (b.vtable, b.value)) (kind (b.vtable, b.value))) o)) client.new.seat.hands.rack.items }) }
-        { client.work(rt, book, bell, halt, others, gate) },
+        { client.work(rt, book, signals, gate) },
     );
 }
 
-// All threads, each beside the others where one can be made.
+// All threads, each beside the others.
 fn run_beside<R: Threads + Wait + Sync, I: Source + Send, O: Sink + Send, G: Gate>(
     rt: &R,
     alloc: Global,
     book: &Book<Ledger>,
-    bell: &Bell,
-    halt: &AtomicBool,
-    fault: &AtomicBool,
-    others: &AtomicU64,
+    signals: &Signals,
     gate: &G,
     side: &mut SideThread,
     link: &mut I,
@@ -158,7 +141,7 @@ fn run_beside<R: Threads + Wait + Sync, I: Source + Send, O: Sink + Send, G: Gat
     let mut one = ||
         requires { All (λ c. (pass_id c.scribe.pass ≡ book_id book.now) × IsClientThread (record { scribe = c.scribe; steps = c.steps.now; number = c.number; broken = c.broken; worker = c.seat.worker; places = c.seat.hands.places.items; memories = map (λ b. memory_of (asked (b.vtable, b.value)) (last (b.vtable, b.value)) (kind (b.vtable, b.value))) c.seat.hands.chain.handlers.items; slots = map (λ o. told_in (option_map (λ b. memory_of (asked (b.vtable, b.value)) (last (b.vtable, b.value)) (kind (b.vtable, b.value))) o)) c.seat.hands.rack.items })) clients.now }
         ensures { AllServed (λ c. record { scribe = c.scribe; steps = c.steps.now; number = c.number; broken = c.broken; worker = c.seat.worker; places = c.seat.hands.places.items; memories = map (λ b. memory_of (asked (b.vtable, b.value)) (last (b.vtable, b.value)) (kind (b.vtable, b.value))) c.seat.hands.chain.handlers.items; slots = map (λ o. told_in (option_map (λ b. memory_of (asked (b.vtable, b.value)) (last (b.vtable, b.value)) (kind (b.vtable, b.value))) o)) c.seat.hands.rack.items }) clients.entry.now clients.exit.now }
-    { run_clients(rt, book, bell, halt, others, gate, clients) };
+    { run_clients(rt, book, signals, gate, clients) };
     let mut two = ||
         requires { (pass_id side.now.scribe.pass ≡ book_id book.now) × IsSideThread side.now × (pass_id painter.now.scribe.pass ≡ book_id book.now) × IsPainterThread painter.now × (is_finished put.now ≡ false) }
         ensures side { HasSentOn side.entry.now side.exit.now (I.left link.entry.now) (I.left link.exit.now) }
@@ -168,10 +151,10 @@ fn run_beside<R: Threads + Wait + Sync, I: Source + Send, O: Sink + Send, G: Gat
         ensures writer { HasWritten writer.entry.now writer.exit.now (O.written term.entry.now) (O.written term.exit.now) (O.faults term.entry.now) (O.faults term.exit.now) }
     {
         run_edges(
-            rt, alloc, book, bell, halt, fault, others, side, link, painter, put, writer, term,
+            rt, alloc, book, signals, side, link, painter, put, writer, term,
         )
     };
-    join_mut(rt, &mut one, &mut two);
+    beside(rt, signals, &mut one, &mut two);
 }
 
 /// The same of clients in a vector, until all have returned.
@@ -199,13 +182,9 @@ pub fn run_all<R: Threads + Wait + Sync, I: Source + Send, O: Sink + Send, G: Ga
     ensures writer { HasWritten writer.old writer.new (O.written term.old) (O.written term.new) (O.faults term.old) (O.faults term.new) }
     ensures clients { AllServed (λ c. record { scribe = c.scribe; steps = c.steps.now; number = c.number; broken = c.broken; worker = c.seat.worker; places = c.seat.hands.places.items; memories = map (λ b. memory_of (asked (b.vtable, b.value)) (last (b.vtable, b.value)) (kind (b.vtable, b.value))) c.seat.hands.chain.handlers.items; slots = map (λ o. told_in (option_map (λ b. memory_of (asked (b.vtable, b.value)) (last (b.vtable, b.value)) (kind (b.vtable, b.value))) o)) c.seat.hands.rack.items }) clients.old.items clients.new.items }
 {
-    let bell = Bell::new();
-    let halt = AtomicBool::new(false);
-    let fault = AtomicBool::new(false);
-    let others = AtomicU64::new(clients.len() as u64 + 1);
+    let signals = Signals::of(clients.len());
     let slice = clients.as_mut_slice();
     run_beside(
-        rt, alloc, book, &bell, &halt, &fault, &others, gate, side, link, painter, put, writer,
-        term, slice,
+        rt, alloc, book, &signals, gate, side, link, painter, put, writer, term, slice,
     );
 }

@@ -135,7 +135,8 @@ fn play<T: Threads + Wait + Sync, I: Source + Send, O: Sink + Send, G: Gate>(
     finished(rt, alloc, book, opening, edges, crew, term, clients)
 }
 
-/// Runs a session by threads: each client, the terminal's side, the painter and the writer has one of its own, where one can be made.
+/// Runs a session by threads: each client, the terminal's side, the painter and the writer has one of its own. Where the system makes one
+/// less, the session ends with [`End::Memory`], and no event was entered, no byte of the link read and none written.
 /// The handlers of `racks` are those that the clients may add, by place; a client behind the last rack has none.
 pub fn run_session<T: Threads + Wait + Sync, I: Source + Send, O: Sink + Send, G: Gate>(
     rt: &T,

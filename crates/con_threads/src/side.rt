@@ -13,7 +13,8 @@ ghost use Rattle.con_threads.specs.Sides.{HasSent, HasSentOn, IsSideThread};
 use crate::client::Moved;
 use crate::ledger::{Ledger, Told};
 use crate::scribe::Scribe;
-use con_book::{Bell, Book};
+use crate::signals::Signals;
+use con_book::Book;
 use con_events::Event;
 use con_link::{LinkFault, LinkReader};
 use con_outside::Source;
@@ -21,7 +22,6 @@ use con_session::{Side, end_by_fault, ends_the_link, event_for};
 use con_units::OutOfMemory;
 use std::sync::Wait;
 use std::sync::atomic::Ordering::SeqCst;
-use std::sync::atomic::{AtomicBool, AtomicU64};
 
 /// The terminal's side. `hung`: it hung up since the terminal had failed. `broken`: it had no memory, perhaps behind bytes that it took.
 #[derive(Drop)]
@@ -140,14 +140,12 @@ impl SideThread {
         }
     }
 
-    // Sends on until the link has ended, or somebody halts all. `failed`: the terminal has.
+    // Sends on until the link has ended, or somebody halts all.
     fn send_all<R: Wait, I: Source>(
         &mut self,
         rt: &R,
         book: &Book<Ledger>,
-        bell: &Bell,
-        halt: &AtomicBool,
-        failed: &AtomicBool,
+        signals: &Signals,
         link: &mut I,
     )
         requires book { pass_id self.old.scribe.pass ≡ book_id book.now }
@@ -157,17 +155,17 @@ impl SideThread {
         ensures never_falls { I.faults link.old ≤ I.faults link.new }
     {
         for _ in rt.forever() {
-            let mark = bell.mark();
-            if halt.load(SeqCst) {
+            let mark = signals.bell.mark();
+            if signals.halt.load(SeqCst) {
                 return;
             }
-            let has_failed = failed.load(SeqCst);
+            let has_failed = signals.fault.load(SeqCst);
             match self.turn(rt, book, has_failed, link) {
-                Ok(Moved::Entered) => bell.ring(),
-                Ok(Moved::Waits) => bell.wait(rt, mark),
+                Ok(Moved::Entered) => signals.bell.ring(),
+                Ok(Moved::Waits) => signals.bell.wait(rt, mark),
                 Ok(Moved::Gone) => return,
                 Err(OutOfMemory) => {
-                    halt.store(true, SeqCst);
+                    signals.stop();
                     return;
                 }
             }
@@ -175,16 +173,13 @@ impl SideThread {
         unreachable!()
     }
 
-    /// Sends on until the link has ended or somebody halts all, and then leaves the others. `failed` is set and the bell rung where the
-    /// terminal takes no more bytes. `others` counts the threads that still work.
+    /// Sends on, once all threads are made, until the link has ended or somebody halts all, and then leaves the others. It hangs up where
+    /// the terminal takes no more bytes.
     pub fn work<R: Wait, I: Source>(
         &mut self,
         rt: &R,
         book: &Book<Ledger>,
-        bell: &Bell,
-        halt: &AtomicBool,
-        failed: &AtomicBool,
-        others: &AtomicU64,
+        signals: &Signals,
         link: &mut I,
     )
         requires book { pass_id self.old.scribe.pass ≡ book_id book.now }
@@ -193,8 +188,8 @@ impl SideThread {
         ensures failed { self.new.side.end ≡ ends.Link → (self.old.side.end ≡ ends.Link) ⊎ Rose (I.faults link.old) (I.faults link.new) }
         ensures never_falls { I.faults link.old ≤ I.faults link.new }
     {
-        self.send_all(rt, book, bell, halt, failed, link);
-        others.fetch_sub(1, SeqCst);
-        bell.ring();
+        signals.wait_for_all(rt);
+        self.send_all(rt, book, signals, link);
+        signals.leave();
     }
 }

@@ -3,12 +3,11 @@ ghost use Rattle.std.specs.Prelude.{◌≡◌, ◌⊎◌, ◌≤◌, ℕ, true, 
 ghost use Rattle.con_outside.specs.Outside.{Rose};
 ghost use Rattle.con_threads.specs.Writers.{Writes, HasWritten};
 
-use con_book::Bell;
+use crate::signals::Signals;
 use con_outside::{Fault, Sink, write_whole};
 use con_pipe::PipeOut;
 use con_units::Bytes;
 use std::sync::Wait;
-use std::sync::atomic::AtomicBool;
 use std::sync::atomic::Ordering::SeqCst;
 
 /// The writer. `failed`: the sink failed. `broken`: it had no memory. Behind either it takes pieces and writes none.
@@ -19,23 +18,16 @@ pub struct WriterThread {
     pub broken: bool,
 }
 
-// Tells all that wait.
-fn tell(flag: &AtomicBool, bell: &Bell) {
-    flag.store(true, SeqCst);
-    bell.ring();
+// The terminal has failed.
+fn tell(signals: &Signals) {
+    signals.fault.store(true, SeqCst);
+    signals.bell.ring();
 }
 
 impl WriterThread {
-    /// Writes a piece that was taken whole, unless the sink failed or there was no memory before. A failure of the sink is told by
-    /// `fault`, want of memory by `halt`, and the bell rings.
-    pub fn write<O: Sink>(
-        &mut self,
-        term: &mut O,
-        piece: &Bytes,
-        bell: &Bell,
-        halt: &AtomicBool,
-        fault: &AtomicBool,
-    )
+    /// Writes a piece that was taken whole, unless the sink failed or there was no memory before. A failure of the sink is told, and want
+    /// of memory halts all.
+    pub fn write<O: Sink>(&mut self, term: &mut O, piece: &Bytes, signals: &Signals)
         ensures take { self.new.take ≡ self.old.take }
         ensures wrote { (before : Option (List ℕ)) (ps : List (List ℕ)) → Writes before (O.written term.old) ps self.old.failed self.old.broken → Writes before (O.written term.new) (ps ++ piece.now ∷ []) self.new.failed self.new.broken }
         ensures failed { self.new.failed ≡ true → (self.old.failed ≡ true) ⊎ Rose (O.faults term.old) (O.faults term.new) }
@@ -51,29 +43,22 @@ impl WriterThread {
             Ok(()) => {}
             Err(Fault::Failed) => {
                 self.failed = true;
-                tell(fault, bell);
+                tell(signals);
             }
             Err(Fault::OutOfMemory) => {
                 self.broken = true;
-                tell(halt, bell);
+                signals.stop();
             }
         }
     }
 
     /// Takes pieces until the end mark, and writes each.
-    pub fn work<R: Wait, O: Sink>(
-        &mut self,
-        rt: &R,
-        term: &mut O,
-        bell: &Bell,
-        halt: &AtomicBool,
-        fault: &AtomicBool,
-    )
+    pub fn work<R: Wait, O: Sink>(&mut self, rt: &R, term: &mut O, signals: &Signals)
         ensures { HasWritten self.old self.new (O.written term.old) (O.written term.new) (O.faults term.old) (O.faults term.new) }
     {
         for _ in rt.forever() {
             match self.take.next(rt) {
-                Some(piece) => self.write(term, &piece, bell, halt, fault),
+                Some(piece) => self.write(term, &piece, signals),
                 None => return,
             }
         }

@@ -6,10 +6,6 @@ use denote.Ref.{ShrRef}
 use denote.Slice.{MutSlice}
 use mir.Syntax.{named}
 use Rattle.std.proofs.Common.{◌∷◌, []}
-use Rattle.std.proofs.Crossing.{crosses}
-use Rattle.std.specs.contracts.sync.atomic.AtomicBool as AtomicBool
-use Rattle.std.specs.contracts.sync.atomic.AtomicU64 as AtomicU64
-use Rattle.con_book.specs.contracts.bell.Bell as bell
 use Rattle.con_book.specs.contracts.book.Book as book
 use Rattle.con_events.specs.contracts.event.Event as event
 use Rattle.con_machine.specs.contracts.room.Room as room
@@ -20,21 +16,20 @@ use Rattle.con_threads.specs.contracts.ledger.LedgerMachine.TheImpl as machine
 use Rattle.con_threads.specs.contracts.ledger.Page as page
 use Rattle.con_threads.specs.contracts.ledger.Told as told
 use Rattle.con_threads.specs.contracts.run.run_beside.dyn-1 as dyn
+use Rattle.con_threads.specs.contracts.signals.Signals as signals
 use Rattle.con_threads.proofs.Closures.{closure_send}
 use Rattle.con_threads.proofs.Crewing.{served_lent}
-use Rattle.con_threads.proofs.Crosses.{bell_sync, book_sync, client_send}
+use Rattle.con_threads.proofs.Crosses.{book_sync, client_send, signals_sync}
 use Rattle.con_threads.proofs.run.run_beside.Goals as goal
 
-pub join_mut-requires-send-F : goal.join_mut-requires-send-F
-join_mut-requires-send-F g c κs within = closure_send 1 _ no _ (
-    ShrRef (named 8) κs.1.1.1.1.1.1.1.1.0 (param 0 g.row.R)
-    ∷ ShrRef (named 9) κs.1.1.1.1.1.1.1.1.1.0 (book.the_row ledger.the_row page.the_row event.the_row told.the_row brief.the_row room.the_row machine.ghosts)
-    ∷ ShrRef (named 10) κs.1.1.1.1.1.1.1.1.1.1.0 bell.the_row
-    ∷ ShrRef (named 11) κs.1.1.1.1.1.1.1.1.1.1.1.0 AtomicBool.the_row
-    ∷ ShrRef (named 12) κs.1.1.1.1.1.1.1.1.1.1.1.1.0 AtomicU64.the_row
-    ∷ ShrRef (named 13) κs.1.1.1.1.1.1.1.1.1.1.1.1.1.0 (param 3 g.row.G)
-    ∷ MutSlice (named 14) κs.1.1.1.1.1.1.1.1.1.1.1.1.1.1.0 (client.the_row (record { mir = named 15; lft = κs.1.1.1.1.1.1.1.1.1.1.1.1.1.1.1.0 }) (Vt (dyn.slots g.row.R g.row.I g.row.O g.row.G) g.dyn-1.0) (ghosts_of (dyn.slots g.row.R g.row.I g.row.O g.row.G) g.dyn-1.0 g.dyn-1.1))
-    ∷ []) (shr_send _ _ _ c.type_bounds.sync-R, (shr_send _ _ _ book_sync, (shr_send _ _ _ bell_sync, (search (sendable, crosses) depth 40, (search (sendable, crosses) depth 40, (shr_send _ _ _ c.type_bounds.sync-G, (mut_slice_send _ _ _ (client_send (Vt (dyn.slots g.row.R g.row.I g.row.O g.row.G) g.dyn-1.0) (ghosts_of (dyn.slots g.row.R g.row.I g.row.O g.row.G) g.dyn-1.0 g.dyn-1.1) g.dyn-1.2 (search sendable depth 20) _), tt)))))))
+pub beside-requires-send-F : goal.beside-requires-send-F
+beside-requires-send-F g c κs within = closure_send 1 _ no _ (
+    ShrRef (named 7) κs.1.1.1.1.1.1.1.0 (param 0 g.row.R)
+    ∷ ShrRef (named 8) κs.1.1.1.1.1.1.1.1.0 (book.the_row ledger.the_row page.the_row event.the_row told.the_row brief.the_row room.the_row machine.ghosts)
+    ∷ ShrRef (named 9) κs.1.1.1.1.1.1.1.1.1.0 signals.the_row
+    ∷ ShrRef (named 10) κs.1.1.1.1.1.1.1.1.1.1.0 (param 3 g.row.G)
+    ∷ MutSlice (named 11) κs.1.1.1.1.1.1.1.1.1.1.1.0 (client.the_row (record { mir = named 12; lft = κs.1.1.1.1.1.1.1.1.1.1.1.1.0 }) (Vt (dyn.slots g.row.R g.row.I g.row.O g.row.G) g.dyn-1.0) (ghosts_of (dyn.slots g.row.R g.row.I g.row.O g.row.G) g.dyn-1.0 g.dyn-1.1))
+    ∷ []) (shr_send _ _ _ c.type_bounds.sync-R, (shr_send _ _ _ book_sync, (shr_send _ _ _ signals_sync, (shr_send _ _ _ c.type_bounds.sync-G, (mut_slice_send _ _ _ (client_send (Vt (dyn.slots g.row.R g.row.I g.row.O g.row.G) g.dyn-1.0) (ghosts_of (dyn.slots g.row.R g.row.I g.row.O g.row.G) g.dyn-1.0 g.dyn-1.1) g.dyn-1.2 (search sendable depth 20) _), tt)))))
 
 pub returns-clause-clients : goal.returns-clause-clients
-returns-clause-clients g c = let m = c.join_mut.ensures.0.met in served_lent _ _ _ _ _ _ m.0.6 c.clients-1.given.1.1 m.1
+returns-clause-clients g c = let m = c.beside.ensures.0.met in served_lent _ _ _ _ _ _ m.0.4 c.clients-1.given.1.1 m.1

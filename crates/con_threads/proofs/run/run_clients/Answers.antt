@@ -5,10 +5,6 @@ use denote.Param.Send.{arg_send, param_send, sendable, shr_sync}
 use denote.Ref.{ShrRef}
 use mir.Syntax.{named}
 use Rattle.std.proofs.Common.{rules, map, option_map, ◌∷◌, []}
-use Rattle.std.proofs.Crossing.{crosses}
-use Rattle.std.specs.contracts.sync.atomic.AtomicBool as AtomicBool
-use Rattle.std.specs.contracts.sync.atomic.AtomicU64 as AtomicU64
-use Rattle.con_book.specs.contracts.bell.Bell as bell
 use Rattle.con_book.specs.contracts.book.Book as book
 use Rattle.con_events.specs.contracts.event.Event as event
 use Rattle.con_handlers.specs.Delivery.{memory_of}
@@ -22,28 +18,27 @@ use Rattle.con_threads.specs.contracts.ledger.LedgerMachine.TheImpl as machine
 use Rattle.con_threads.specs.contracts.ledger.Page as page
 use Rattle.con_threads.specs.contracts.ledger.Told as told
 use Rattle.con_threads.specs.contracts.run.run_clients.dyn-1 as dyn
+use Rattle.con_threads.specs.contracts.signals.Signals as signals
 use Rattle.con_threads.proofs.Closures.{closure_sync}
-use Rattle.con_threads.proofs.Crosses.{bell_sync, book_sync, client_send}
+use Rattle.con_threads.proofs.Crosses.{book_sync, client_send, signals_sync}
 use Rattle.con_threads.proofs.run.run_clients.Goals as goal
 
-pub for_each_mut-requires-send-T : goal.for_each_mut-requires-send-T
-for_each_mut-requires-send-T g c κs within = param_send 1 _ (arg_send _ no (client.the_row (record { mir = named 4; lft = κs.1.1.1.1.0 }) (Vt (dyn.slots g.row.R g.row.G) g.dyn-1.0) (ghosts_of (dyn.slots g.row.R g.row.G) g.dyn-1.0 g.dyn-1.1)) (client_send (Vt (dyn.slots g.row.R g.row.G) g.dyn-1.0) (ghosts_of (dyn.slots g.row.R g.row.G) g.dyn-1.0 g.dyn-1.1) g.dyn-1.2 (search sendable depth 20) _))
+pub each_beside-requires-send-T : goal.each_beside-requires-send-T
+each_beside-requires-send-T g c κs within = param_send 1 _ (arg_send _ no (client.the_row (record { mir = named 5; lft = κs.1.1.1.1.1.0 }) (Vt (dyn.slots g.row.R g.row.G) g.dyn-1.0) (ghosts_of (dyn.slots g.row.R g.row.G) g.dyn-1.0 g.dyn-1.1)) (client_send (Vt (dyn.slots g.row.R g.row.G) g.dyn-1.0) (ghosts_of (dyn.slots g.row.R g.row.G) g.dyn-1.0 g.dyn-1.1) g.dyn-1.2 (search sendable depth 20) _))
 
-pub for_each_mut-requires-sync-F : goal.for_each_mut-requires-sync-F
-for_each_mut-requires-sync-F g c κs within = closure_sync 2 _ no _ (
-    ShrRef (named 6) κs.1.1.1.1.1.1.0 (param 0 g.row.R)
-    ∷ ShrRef (named 7) κs.1.1.1.1.1.1.1.0 (book.the_row ledger.the_row page.the_row event.the_row told.the_row brief.the_row room.the_row machine.ghosts)
-    ∷ ShrRef (named 8) κs.1.1.1.1.1.1.1.1.0 bell.the_row
-    ∷ ShrRef (named 9) κs.1.1.1.1.1.1.1.1.1.0 AtomicBool.the_row
-    ∷ ShrRef (named 10) κs.1.1.1.1.1.1.1.1.1.1.0 AtomicU64.the_row
-    ∷ ShrRef (named 11) κs.1.1.1.1.1.1.1.1.1.1.1.0 (param 1 g.row.G)
-    ∷ []) (shr_sync _ _ _ c.type_bounds.sync-R, (shr_sync _ _ _ book_sync, (shr_sync _ _ _ bell_sync, (search (sendable, crosses) depth 40, (search (sendable, crosses) depth 40, (shr_sync _ _ _ c.type_bounds.sync-G, tt))))))
+pub each_beside-requires-sync-F : goal.each_beside-requires-sync-F
+each_beside-requires-sync-F g c κs within = closure_sync 2 _ no _ (
+    ShrRef (named 7) κs.1.1.1.1.1.1.1.0 (param 0 g.row.R)
+    ∷ ShrRef (named 8) κs.1.1.1.1.1.1.1.1.0 (book.the_row ledger.the_row page.the_row event.the_row told.the_row brief.the_row room.the_row machine.ghosts)
+    ∷ ShrRef (named 9) κs.1.1.1.1.1.1.1.1.1.0 signals.the_row
+    ∷ ShrRef (named 10) κs.1.1.1.1.1.1.1.1.1.1.0 (param 1 g.row.G)
+    ∷ []) (shr_sync _ _ _ c.type_bounds.sync-R, (shr_sync _ _ _ book_sync, (shr_sync _ _ _ signals_sync, (shr_sync _ _ _ c.type_bounds.sync-G, tt))))
 
 pub returns : goal.returns
 returns g c = record {
   len = search rules;
   each = λ i d lt.
-      let h = c.for_each_mut.ensures i d lt in
+      let h = c.each_beside.ensures i d lt in
       let call = h.1.call in
       served_as (λ c'. record { scribe = c'.scribe; steps = c'.steps.now; number = c'.number; broken = c'.broken; worker = c'.seat.worker; places = c'.seat.hands.places.items; memories = map (λ x. memory_of ((goal.CtrlHandler-dyn g (x.vtable, x.value)).asked x.value) ((goal.CtrlHandler-dyn g (x.vtable, x.value)).last x.value) ((goal.CtrlHandler-dyn g (x.vtable, x.value)).kind x.value)) c'.seat.hands.chain.handlers.items; slots = map (λ o. told_in (option_map (λ x. memory_of ((goal.CtrlHandler-dyn g (x.vtable, x.value)).asked x.value) ((goal.CtrlHandler-dyn g (x.vtable, x.value)).last x.value) ((goal.CtrlHandler-dyn g (x.vtable, x.value)).kind x.value)) o)) c'.seat.hands.rack.items })
       h.1.argument.now h.1.after_call.now _ _ h.1.argument_is h.1.left (search rules);

@@ -6,9 +6,6 @@ use mir.Syntax.{named}
 use Rattle.std.proofs.Common.{◌∷◌, []}
 use Rattle.std.proofs.Crossing.{crosses}
 use Rattle.std.specs.contracts.alloc.Global as Global
-use Rattle.std.specs.contracts.sync.atomic.AtomicBool as AtomicBool
-use Rattle.std.specs.contracts.sync.atomic.AtomicU64 as AtomicU64
-use Rattle.con_book.specs.contracts.bell.Bell as bell
 use Rattle.con_book.specs.contracts.book.Book as book
 use Rattle.con_events.specs.contracts.event.Event as event
 use Rattle.con_machine.specs.contracts.room.Room as room
@@ -19,19 +16,17 @@ use Rattle.con_threads.specs.contracts.ledger.Page as page
 use Rattle.con_threads.specs.contracts.ledger.Told as told
 use Rattle.con_pipe.specs.contracts.put.PipeIn as put
 use Rattle.con_threads.specs.contracts.painter.PainterThread as painter_thread
+use Rattle.con_threads.specs.contracts.signals.Signals as signals
 use Rattle.con_threads.proofs.Closures.{closure_send}
-use Rattle.con_threads.proofs.Crosses.{bell_sync, book_sync, painter_thread_send, put_send}
+use Rattle.con_threads.proofs.Crosses.{book_sync, painter_thread_send, put_send, signals_sync}
 use Rattle.con_threads.proofs.run.run_painter.Goals as goal
 
-pub join_mut-requires-send-F : goal.join_mut-requires-send-F
-join_mut-requires-send-F g c κs within = closure_send 1 _ no _ (
-    MutRef (named 8) κs.1.1.1.1.1.1.1.1.0 painter_thread.the_row
-    ∷ ShrRef (named 9) κs.1.1.1.1.1.1.1.1.1.0 (param 0 g.row.R)
-    ∷ ShrRef (named 10) κs.1.1.1.1.1.1.1.1.1.1.0 Global.the_row
-    ∷ ShrRef (named 11) κs.1.1.1.1.1.1.1.1.1.1.1.0 (book.the_row ledger.the_row page.the_row event.the_row told.the_row brief.the_row room.the_row machine.ghosts)
-    ∷ ShrRef (named 12) κs.1.1.1.1.1.1.1.1.1.1.1.1.0 bell.the_row
-    ∷ ShrRef (named 13) κs.1.1.1.1.1.1.1.1.1.1.1.1.1.0 AtomicBool.the_row
-    ∷ ShrRef (named 14) κs.1.1.1.1.1.1.1.1.1.1.1.1.1.1.0 AtomicBool.the_row
-    ∷ ShrRef (named 15) κs.1.1.1.1.1.1.1.1.1.1.1.1.1.1.1.0 AtomicU64.the_row
-    ∷ MutRef (named 16) κs.1.1.1.1.1.1.1.1.1.1.1.1.1.1.1.1.0 put.the_row
-    ∷ []) (mut_send _ _ _ painter_thread_send, (shr_send _ _ _ c.type_bounds.sync-R, (search (sendable, crosses) depth 40, (shr_send _ _ _ book_sync, (shr_send _ _ _ bell_sync, (search (sendable, crosses) depth 40, (search (sendable, crosses) depth 40, (search (sendable, crosses) depth 40, (mut_send _ _ _ put_send, tt)))))))))
+pub beside-requires-send-F : goal.beside-requires-send-F
+beside-requires-send-F g c κs within = closure_send 1 _ no _ (
+    MutRef (named 7) κs.1.1.1.1.1.1.1.0 painter_thread.the_row
+    ∷ ShrRef (named 8) κs.1.1.1.1.1.1.1.1.0 (param 0 g.row.R)
+    ∷ ShrRef (named 9) κs.1.1.1.1.1.1.1.1.1.0 Global.the_row
+    ∷ ShrRef (named 10) κs.1.1.1.1.1.1.1.1.1.1.0 (book.the_row ledger.the_row page.the_row event.the_row told.the_row brief.the_row room.the_row machine.ghosts)
+    ∷ ShrRef (named 11) κs.1.1.1.1.1.1.1.1.1.1.1.0 signals.the_row
+    ∷ MutRef (named 12) κs.1.1.1.1.1.1.1.1.1.1.1.1.0 put.the_row
+    ∷ []) (mut_send _ _ _ painter_thread_send, (shr_send _ _ _ c.type_bounds.sync-R, (search (sendable, crosses) depth 40, (shr_send _ _ _ book_sync, (shr_send _ _ _ signals_sync, (mut_send _ _ _ put_send, tt))))))

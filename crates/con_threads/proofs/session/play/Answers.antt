@@ -1,4 +1,4 @@
-use Rattle.std.proofs.Common.{rules, refl, None}
+use Rattle.std.proofs.Common.{None}
 use Rattle.con_session.specs.Solo.{begins}
 use Rattle.con_threads.proofs.Crewing.{crew_works, served_goes}
 use Rattle.con_threads.proofs.Ending.{failed_in}
