@@ -51,6 +51,13 @@ def usages():
         expect(f"words {words}", run(words), 2, '["end",2,"usage"]')
 
 
+def names():
+    """What the program is called by may be any bytes; a word may not."""
+    for name, word, status in ((b"\xff", b"7", 0), (b"\xff", b"\xff", 2), (b"conpty", b"\xff", 2)):
+        ran = subprocess.run([name, b"gen", word], executable=PROGRAM, stdin=subprocess.DEVNULL, capture_output=True, check=False)
+        expect(f"called by the name {name}, words gen {word}", ran, status)
+
+
 def refusals(folder, way):
     expect(f"{way}: no JSON", run([way, made(folder, "a", b"{")]), 3, '["end",3,"json"]')
     expect(f"{way}: no session", run([way, made(folder, "b", b'{"version":1,"size":[0,25],"clients":[]}')]), 3, '["end",3,"size"]')
@@ -124,6 +131,7 @@ def main():
     if not os.access(PROGRAM, os.X_OK):
         sys.exit("build the program first: ./conpty type </dev/null >/dev/null")
     usages()
+    names()
     with tempfile.TemporaryDirectory() as folder:
         for way in WAYS:
             refusals(folder, way)

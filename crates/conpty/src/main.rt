@@ -1,6 +1,8 @@
 //! The program: standard input is the link, standard output the terminal, standard error the report, and sessions are files.
 #![tactic(auto)]
 
+mod words;
+
 use con_handlers::{CtrlHandler, Note, Once, Swallow, Tally};
 use con_host::{MEMORY, console_host};
 use con_outside::{DiskFiles, Files, NoGate, Sink, Source, StdSink, StdSource};
@@ -8,26 +10,10 @@ use std::alloc::{AllocError, Global};
 use std::process::ExitCode;
 use std::sync::Wait;
 use std::thread::Threads;
-use std::{env, io};
+use words::words;
 
 // How many clients a session may have, each with a rack of the four handlers.
 const CLIENTS: usize = 64;
-
-// The words after the program's name. A word that is not UTF-8 stands in no form, and neither do no words at all: so where there is
-// one, there are none.
-fn words<R: env::Env + AllocGlobal>(rt: &R) -> io::Result<Vec<String>> {
-    let mut words = Vec::new(rt.alloc());
-    match env::args(rt) {
-        Ok(args) => {
-            for word in args.skip(1) {
-                words.push(word)?;
-            }
-            Ok(words)
-        }
-        Err(error) if error.kind() == io::ErrorKind::InvalidData => Ok(words),
-        Err(error) => Err(error),
-    }
-}
 
 // Does what the words say. The boxes are made here, since no function hands out one that it made.
 fn run<T: Threads + Wait + Sync, F: Files, I: Source + Send, O: Sink + Send, R: Sink>(
