@@ -1,7 +1,7 @@
 #!/usr/bin/env python3
 """Sessions by threads where the system makes n threads and no more, for each n from 0 until a run is refused none.
 
-    refused_threads.py [NAME..]   the examples, each over its link and over an empty one
+    refused_threads.py [NAME..]   the examples, each over its link, over an empty one, and over one that says nothing
 
 Where a thread is refused nothing has begun: the run ends with status 9, its report is the last line alone, and it wrote nothing. Where none is, it ends
 with status 0. The thread is refused in three ways: by a `pthread_create` that makes n threads and no more, by a limit on the processes of a user other
@@ -49,8 +49,8 @@ int pthread_create(pthread_t *thread, const pthread_attr_t *attributes, void *(*
 
 
 def run(program, name, link, limit=None, environment=None):
-    """A run, or None where it did not end in time."""
-    given = open(link, "rb") if link else subprocess.DEVNULL
+    """A run, or None where it did not end in time. The link is a file, or what was opened for reading; none is an empty one."""
+    given = open(link, "rb") if isinstance(link, str) else link or subprocess.DEVNULL
     try:
         return subprocess.run(
             [program, "run", name], stdin=given, capture_output=True, check=False, timeout=SECONDS, preexec_fn=limit, env=environment or {}
@@ -58,7 +58,7 @@ def run(program, name, link, limit=None, environment=None):
     except subprocess.TimeoutExpired:
         return None
     finally:
-        if link:
+        if isinstance(link, str):
             given.close()
 
 
@@ -84,7 +84,7 @@ def shown(ran):
 
 
 def by_count(shim, what, name, link):
-    """The system makes n threads and no more."""
+    """The system makes n threads and no more. Also how many a run wants."""
     kinds, others, mark = {}, [], shim + ".mark"
     for n in range(MOST):
         if os.path.exists(mark):
@@ -96,8 +96,23 @@ def by_count(shim, what, name, link):
         if not kind:
             others.append(f"{n} threads: {shown(ran)}")
         if not refused:
-            return told(f"{what}, n threads", kinds, others)
+            return told(f"{what}, n threads", kinds, others), n
     sys.exit(f"more than {MOST} threads")
+
+
+def by_silence(shim, what, name, enough):
+    """The same of fewer threads than are wanted, over a link that stays open."""
+    kinds, others = {}, []
+    silent, held = os.pipe()
+    for n in range(enough):
+        ran = run(PROGRAM, name, silent, environment={"LD_PRELOAD": shim, "THREADS": str(n), "MARK": shim + ".mark"})
+        kind = "refused" if is_refused(ran) else "otherwise"
+        kinds[kind] = kinds.get(kind, 0) + 1
+        if kind == "otherwise":
+            others.append(f"{n} threads: {shown(ran)}")
+    os.close(silent)
+    os.close(held)
+    return told(f"{what}, n threads", kinds, others)
 
 
 def by_processes(program, what, name, link):
@@ -166,10 +181,12 @@ def main():
             session = copied(folder, examples.path(name, "json"))
             for link in (None, examples.path(name, "link")):
                 what = f"{name}, {'its' if link else 'an empty'} link"
-                wrong += by_count(shim, what, session, link)
+                otherwise, enough = by_count(shim, what, session, link)
+                wrong += otherwise
                 if os.getuid() == 0:
                     wrong += by_processes(program, what, session, link)
                 wrong += by_memory(what, session, link)
+            wrong += by_silence(shim, f"{name}, a link that says nothing", session, enough)
     sys.exit(wrong > 0)
 
 
