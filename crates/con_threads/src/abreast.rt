@@ -41,6 +41,7 @@ fn from<R: Threads + Wait + Sync, T: Send, F: Fn(usize, &mut T) + Sync>(
     halves(rt, signals, f, base, front, base + low, back);
 }
 
+// Both halves of a part of the row, beside each other.
 #[cycle(row)]
 fn halves<R: Threads + Wait + Sync, T: Send, F: Fn(usize, &mut T) + Sync>(
     rt: &R,

@@ -47,8 +47,8 @@ impl<G, D: Duty<Gain = G>> Promise<G> for Pledge<D> {
     ghost kept_by = { λ pledge gain. D.gains pledge.0.value gain };
 }
 
-// One duty in a thread of its own, the other in this one. Where no thread can be made all are told to return, and the one is done here,
-// before the other.
+// The first duty in a thread of its own, the second in this one. Where no thread can be made all are told to return, and the first is done
+// here, before the second.
 fn share<
     'e,
     R: Threads + Wait,
@@ -96,8 +96,8 @@ fn back<F>(part: &mut F)
     ensures { part.new ≡ part.old }
 {}
 
-/// One part in a thread of its own, the other in this one, until both have returned. Where no thread can be made, all parts of the session
-/// are told to return, and then the one is called here, and behind it the other: neither may wait for the other once all are told.
+/// The first part in a thread of its own, the second in this one, until both have returned. Where no thread can be made, all parts of the session
+/// are told to return, and then the first is called here, and behind it the second: so the first must not wait for it once all are told.
 pub fn beside<R: Threads + Wait, F: FnMut() + Send, G: FnMut()>(
     rt: &R,
     signals: &Signals,
