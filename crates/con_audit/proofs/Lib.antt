@@ -6,3 +6,7 @@ pub mod Truth
 pub mod MarkLemmas
 pub mod PlayLemmas
 pub mod Rows
+pub mod Seen
+pub mod Sending
+pub mod Yes
+pub mod OneMore

@@ -1,8 +1,15 @@
--- What a reader must believe: what is known of a terminal, a partial terminal, and what it is that it stays true.
+-- What a reader must believe: what is known of a terminal, a partial terminal, what it is that it stays true, and a stream that it plays.
 pub mod Known
 pub mod Partial
 pub mod Agrees
 pub mod Watching
+-- What an audit asks, its verdict, and what a yes says; what one entry more must keep.
+pub mod Audit
+pub mod Runs
+pub mod Headline
+pub mod OneMore
+-- Laws of lists that go on as they may, which belong in con_machine.
+pub mod AlongLaws
 -- The code's own words.
 pub mod Flags
 pub mod Playing

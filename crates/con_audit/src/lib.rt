@@ -5,6 +5,9 @@
 //!   what is known of it: of each cell, of the pen as a whole, of the visibility, and of the cursor with its pending wrap.
 //! - [`Watch`]: a partial terminal that plays a stream, a piece for each picture, and begins anew at each new size.
 //! - [`a_partial_terminal_stays_true`] is the law: what is known holds of every terminal.
+//! - [`Verdict`], [`What`]: what an audit of a finished run finds (`specs/Audit`), by a session, the kinds of its handlers, a link, a stream, and
+//!   the entries, replies and ends of a report. [`yes_is_a_run`] says what a yes says, [`an_audit_goes_entry_by_entry`] what one entry
+//!   more must keep. No function answers a verdict yet.
 //! - `marking`, `playing`, `knowing`: an item, bytes, and a view.
 //!
 //! No effect of an item is said here: con_term's page does what it does to cells, once with the cells and once with a mark in the place
@@ -16,8 +19,10 @@ pub mod laws;
 pub mod marking;
 pub mod partial;
 pub mod playing;
+pub mod verdict;
 pub mod watch;
 
-pub use laws::a_partial_terminal_stays_true;
+pub use laws::{a_partial_terminal_stays_true, an_audit_goes_entry_by_entry, yes_is_a_run};
 pub use partial::Partial;
+pub use verdict::{Verdict, What};
 pub use watch::Watch;
