@@ -11,6 +11,7 @@ pub mod OneMore
 -- Laws of lists that go on as they may, which belong in con_machine.
 pub mod AlongLaws
 -- The code's own words.
+pub mod Side
 pub mod Flags
 pub mod Playing
 pub mod Inside

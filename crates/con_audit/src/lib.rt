@@ -19,6 +19,7 @@ pub mod laws;
 pub mod marking;
 pub mod partial;
 pub mod playing;
+pub mod side;
 pub mod verdict;
 pub mod watch;
 
