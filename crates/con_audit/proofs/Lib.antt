@@ -10,3 +10,4 @@ pub mod Seen
 pub mod Sending
 pub mod Yes
 pub mod OneMore
+pub mod ChainLemmas

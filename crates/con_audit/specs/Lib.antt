@@ -12,6 +12,8 @@ pub mod OneMore
 pub mod AlongLaws
 -- The code's own words.
 pub mod Side
+pub mod Links
+pub mod Track
 pub mod Flags
 pub mod Playing
 pub mod Inside

@@ -8,12 +8,15 @@
 //! - [`Verdict`], [`What`]: what an audit of a finished run finds (`specs/Audit`), by a session, the kinds of its handlers, a link, a stream, and
 //!   the entries, replies and ends of a report. [`yes_is_a_run`] says what a yes says, [`an_audit_goes_entry_by_entry`] what one entry
 //!   more must keep. No function answers a verdict yet.
+//! - `side`, `client`, `chain`: what stands behind the entries so far of the terminal's side and of a client, for the judge that is to come.
 //! - `marking`, `playing`, `knowing`: an item, bytes, and a view.
 //!
 //! No effect of an item is said here: con_term's page does what it does to cells, once with the cells and once with a mark in the place
 //! of each. Nothing is promised of a terminal of another size, or of one that is amidst a sequence at the beginning.
 #![tactic(auto)]
 
+pub mod chain;
+pub mod client;
 pub mod knowing;
 pub mod laws;
 pub mod marking;
