@@ -9,7 +9,6 @@ pub mod Runs
 pub mod Headline
 pub mod OneMore
 -- Laws of lists that go on as they may, which belong in con_machine.
-pub mod AlongLaws
 -- The code's own words.
 pub mod Side
 pub mod Links
