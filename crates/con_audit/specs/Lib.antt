@@ -8,7 +8,6 @@ pub mod Audit
 pub mod Runs
 pub mod Headline
 pub mod OneMore
--- Laws of lists that go on as they may, which belong in con_machine.
 -- The code's own words.
 pub mod Side
 pub mod Links
