@@ -489,7 +489,7 @@ def files(room):
     table.expect("a word is not UTF-8", runs.run(["solo", b"\xff"]), "2", '["end",2,"usage"]')
     strange = os.path.join(os.fsencode(room.folder), b"\xff")
     os.symlink(os.path.abspath(runs.PROGRAM), strange)
-    table.expect("the program's own path is not UTF-8, and it is called by it", runs.run(["type"], program=strange), "2", '["end",2,"usage"]')
+    table.expect("the program's own path is not UTF-8, and it is called by it", runs.run(["type"], program=strange), "0")
     table.expect("the same, and it is called conpty, as the launcher calls it", runs.run(["type"], program=strange, name="conpty"), "0")
     unreadable(room)
     pipes(room)
