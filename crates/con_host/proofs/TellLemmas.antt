@@ -1,9 +1,9 @@
 -- Writing a report in parts.
-use Rattle.std.proofs.Common.{◌≡◌, refl, ap, ap₂, sym, subst, ◌∙◌, append_assoc, arith, length-append, get_or, drop, ℕ, ◌+◌, ◌-◌, ◌≤◌, List, [], ◌∷◌, ◌++◌, length, take, Option}
-use Rattle.std.specs.Prelude.{Result, Ok, Err, OnOk}
+use Rattle.std.proofs.Common.{◌≡◌, refl, ap, ap₂, sym, subst, ◌∙◌, append_assoc, arith, length-append, get_or, drop, ℕ, ◌+◌, ◌-◌, ◌<◌, ◌≤◌, List, [], ◌∷◌, ◌++◌, length, take, Option}
+use Rattle.std.specs.Prelude.{Result, Ok, Err, OnOk, OnErr}
 use Rattle.std.proofs.Math.Seq.{take-append-add, take-length}
 use Rattle.std.proofs.lemmas.List.{take-append-le}
-use Rattle.con_outside.specs.Outside.{then_written, WroteFront}
+use Rattle.con_outside.specs.Outside.{then_written, WroteFront, WrotePart}
 use Rattle.con_outside.specs.Laws.{then_written-none, then_written-more}
 use Rattle.con_events.specs.declared.entry.Entry.{Entry}
 use Rattle.con_events.specs.declared.reply.Reply.{Reply}
@@ -84,6 +84,41 @@ report_ended ss last old now new wrote w =
 pub report_whole : (ss : List Said) (last : Ending) (old now new : Option (List ℕ)) → now ≡ then_written old (lines_text ss) → new ≡ then_written now (ended (ending_text last)) → new ≡ then_written old (report ss last)
 report_whole ss last old now new wrote then =
     then_written-more (lines_text ss) (ended (ending_text last)) old now new wrote then ∙ ap (then_written old) (sym (report_parts ss last))
+
+-- a front of what stands behind what was written leaves something out, where more comes or it is not all
+cut_behind : (a b c all : List ℕ) (old now new : Option (List ℕ)) → now ≡ then_written old a → all ≡ a ++ (b ++ c) → (w : WroteFront b now new) → w.0 < length b + length c → WrotePart all old new
+unfolding front_behind
+cut_behind a b c all old now new wrote parts w less = (
+  length a + w.0,
+  (let e : length all ≡ length a + (length b + length c) = ap length parts ∙ (length-append a (b ++ c) ∙ ap (λ n. length a + n) (length-append b c)) in omega (arith, e, less)),
+  (front_behind a b c all old now new wrote parts w).2,
+)
+
+last_line_is_some : (text : List ℕ) → 0 < length (ended text)
+last_line_is_some text = let e : length (text ++ 10 ∷ []) ≡ length text + 1 = length-append text (10 ∷ []) in omega (arith, e)
+
+-- the lines were cut, and the last line is not there
+pub report_is_cut : (ss : List Said) (last : Ending) (old new : Option (List ℕ)) → WroteFront (lines_text ss) old new → WrotePart (report ss last) old new
+report_is_cut ss last old new w =
+    let some = last_line_is_some (ending_text last) in
+    cut_behind [] (lines_text ss) (ended (ending_text last)) (report ss last) old old new (then_written-none old) (report_parts ss last) w (omega (arith, w.1, some))
+
+-- the last line was cut, and not written whole
+pub report_ends_cut : (ss : List Said) (last : Ending) (old now new : Option (List ℕ)) → now ≡ then_written old (lines_text ss) → WrotePart (ended (ending_text last)) now new → WrotePart (report ss last) old new
+report_ends_cut ss last old now new wrote w =
+    let few : w.0 ≤ length (ended (ending_text last)) = omega (arith, w.1) in
+    cut_behind (lines_text ss) (ended (ending_text last)) [] (report ss last) old now new wrote (report_parts ss last ∙ ap (λ xs. lines_text ss ++ xs) (sym (append_nothing (ended (ending_text last)))))
+    (w.0, few, w.2) (omega (arith, w.1))
+
+-- what holds at all holds of each answer that is bad
+pub at_err : {A B P : Type 0} (r : Result A B) → P → OnErr r P
+at_err (Ok x) p = tt
+at_err (Err e) p = p
+
+-- an answer that is bad makes another one bad
+pub on_err : {A B P Q : Type 0} (r : Result A B) → (P → Q) → OnErr r P → OnErr r Q
+on_err (Ok x) f h = h
+on_err (Err e) f h = f h
 
 -- an answer that is good makes another one good
 pub on_ok : {A B P Q : Type 0} (r : Result A B) → (P → Q) → OnOk r P → OnOk r Q

@@ -57,6 +57,10 @@ failed_after ends.Memory = 9
 abbrev pub IsStatus : ℕ → End → Type 0
 IsStatus status end = (status ≡ status_of (ending_after end)) ⊎ ((status ≡ 9) ⊎ ((status ≡ 6) × (end ≡ ends.Done)))
 
+-- With status 6, and with 9 where the session itself came to another end, the report is never whole: not all of it was written.
+abbrev pub IsCut : ℕ → List Entry → List Reply → List ℕ → End → Option (List ℕ) → Option (List ℕ) → Type 0
+IsCut status h rs es end before now = (status ≡ 6) ⊎ ((status ≡ 9) × ¬ (end ≡ ends.Memory)) → WrotePart (report_text h rs es end) before now
+
 -- In a history each record of the input goes to at most one read that removes it. The records that were there and that arrived are, in order, what reads
 -- took and flushes removed, piece by piece, and what is there yet; the records of a fate are the pieces of its taker; and a read of records that is collected
 -- answers exactly the records whose fate is its Begin, or that the console closed before it had one.
@@ -68,7 +72,7 @@ pub record TakesOnce (s : State) (h : List Entry) : Type 0 where
       → AnswersRecords (step (run s before) (actors.Client p) events.Collect).reply (fated s h (Begun b.place))
 
 -- The session ran, in whatever order its actors came: one history, with all that such a session leaves, and its report, which is whole unless the report
--- failed or there was no memory.
+-- failed or there was no memory for it, and then is cut.
 pub record Ran (status : ℕ) (session : Clients) (racks : List (List ℕ)) (before left old now before_report report' : Option (List ℕ)) (failed : Type 0) : Type 0 where
   pub entries : List Entry
   pub replies : List Reply
@@ -80,6 +84,7 @@ pub record Ran (status : ℕ) (session : Clients) (racks : List (List ℕ)) (bef
   pub front : WroteFront (report_text entries replies ends' end) before_report report'
   pub whole : ¬ (status ≡ 9) → ¬ (status ≡ 6) → ¬ failed → report' ≡ then_written before_report (report_text entries replies ends' end)
   pub done : status ≡ 0 → report' ≡ then_written before_report (report_text entries replies ends' end)
+  pub cut : IsCut status entries replies ends' end before_report report'
 
 -- It ran by turns: the same, and its history is rounds of these turns.
 pub record RanByTurns (status : ℕ) (session : Clients) (racks : List (List ℕ)) (before left old now before_report report' : Option (List ℕ)) (failed : Type 0) : Type 0 where

@@ -6,7 +6,7 @@ ghost use Rattle.con_events.specs.declared.entry.Entry.{Entry};
 ghost use Rattle.con_machine.specs.State.{State};
 ghost use Rattle.con_script.specs.Document.{document};
 ghost use Rattle.con_trace.specs.Ending.{ending_of, status_of};
-ghost use Rattle.con_host.specs.Sessions.{IsFile, IsStatus, Explains, TakesOnce, Tells, ending_after, failed_after, report_text};
+ghost use Rattle.con_host.specs.Sessions.{IsCut, IsFile, IsStatus, Explains, TakesOnce, Tells, ending_after, failed_after, report_text};
 
 use crate::telling::write_report;
 use con_events::{End, Session};
@@ -111,6 +111,7 @@ pub fn tell<R: Sink>(alloc: Global, outcome: &Outcome, report: &mut R) -> u8
     ensures front { WroteFront (report_text outcome.now.entries outcome.now.replies outcome.now.ends outcome.now.end) (R.written report.old) (R.written report.new) }
     ensures whole { ¬ (result ≡ 9) → ¬ (result ≡ 6) → ¬ (Rose (R.faults report.old) (R.faults report.new)) → R.written report.new ≡ then_written (R.written report.old) (report_text outcome.now.entries outcome.now.replies outcome.now.ends outcome.now.end) }
     ensures done { result ≡ 0 → R.written report.new ≡ then_written (R.written report.old) (report_text outcome.now.entries outcome.now.replies outcome.now.ends outcome.now.end) }
+    ensures cut { IsCut result outcome.now.entries outcome.now.replies outcome.now.ends outcome.now.end (R.written report.old) (R.written report.new) }
     ensures failed { result ≡ 6 → Rose (R.faults report.old) (R.faults report.new) }
     ensures never_falls { R.faults report.old ≤ R.faults report.new }
 {

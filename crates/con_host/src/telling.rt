@@ -1,7 +1,7 @@
 //! A whole report, written.
 
-ghost use Rattle.std.specs.Prelude.{◌≡◌, ◌≤◌, List, [], ◌∷◌, ◌++◌, OnOk, length, take, Option};
-ghost use Rattle.con_outside.specs.Outside.{Rose, then_written, WroteFront};
+ghost use Rattle.std.specs.Prelude.{◌≡◌, ◌≤◌, List, [], ◌∷◌, ◌++◌, OnOk, OnErr, length, take, Option};
+ghost use Rattle.con_outside.specs.Outside.{Rose, then_written, WroteFront, WrotePart};
 ghost use Rattle.con_trace.specs.Ending.{ending_of};
 ghost use Rattle.con_trace.specs.Report.{said, end_of, ends_behind, report};
 ghost use Rattle.con_host.specs.Telling.{lines_text};
@@ -67,7 +67,7 @@ fn write_lines<R: Sink>(
 }
 
 /// Writes a report: a line for each event and its reply, with the stream's length after each picture, and then the last line.
-/// After a refusal a front of the report was written.
+/// After a refusal a front of the report was written, and never all of it.
 pub fn write_report<R: Sink>(
     alloc: Global,
     out: &mut R,
@@ -78,6 +78,7 @@ pub fn write_report<R: Sink>(
 ) -> Result<(), Fault>
     ensures front { WroteFront (report (said entries.now replies.now ends.now) (ending_of last.now)) (R.written out.old) (R.written out.new) }
     ensures whole { OnOk result (R.written out.new ≡ then_written (R.written out.old) (report (said entries.now replies.now ends.now) (ending_of last.now))) }
+    ensures part { OnErr result (WrotePart (report (said entries.now replies.now ends.now) (ending_of last.now)) (R.written out.old) (R.written out.new)) }
     ensures failed { result ≡ Err Fault.Failed → Rose (R.faults out.old) (R.faults out.new) }
     ensures never_falls { R.faults out.old ≤ R.faults out.new }
 {

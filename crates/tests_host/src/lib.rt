@@ -1,5 +1,5 @@
 //! Tests of con_host that no session shows by its document and its link, and a caller that uses its promises: sessions by threads in the
-//! order that a gate makes, clients that meet, a first write that is held.
+//! order that a gate makes, clients that meet, a first write that is held, a link that waits for what is shown.
 //!
 //! What they want is worked out by hand. In documents and reports that stand here, ' stands for a quotation mark. All else that a
 //! session shows is data of `cases`.
@@ -18,3 +18,5 @@ mod orders;
 mod report;
 #[cfg(test)]
 mod runs;
+#[cfg(test)]
+mod waiting;

@@ -15,6 +15,7 @@ returns-clause-ran g c =
       front = told.front;
       whole = told.whole;
       done = told.done;
+      cut = told.cut;
     }
 
 pub returns-clause-foretold : goal.returns-clause-foretold

@@ -17,6 +17,7 @@ returns-clause-ran g c =
         front = told.front;
         whole = told.whole;
         done = told.done;
+        cut = told.cut;
       };
       rounds = left.rounds;
     }
