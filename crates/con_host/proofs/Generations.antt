@@ -7,6 +7,7 @@ use Rattle.con_events.specs.declared.entry.Entry.{Entry}
 use Rattle.con_events.specs.declared.reply.Reply.{Reply}
 use Rattle.con_machine.specs.Follows.{begun}
 use Rattle.con_machine.specs.History.{is_legal}
+use Rattle.con_machine.specs.Once.{TakenOnce}
 use Rattle.con_machine.specs.Rounds.{is_memory}
 use Rattle.con_machine.specs.Turns.{paints}
 use Rattle.con_script.specs.Generated.{session_drawn}
@@ -65,8 +66,9 @@ pub all_painted : (end : End) (es : List ℕ) (h : List Entry) → end ≡ ends.
 all_painted end es h done painted = painted (ap is_memory done)
 
 abbrev pub generated_run : (seed : ℕ) (session : Clients) (racks : List (List ℕ)) (h : List Entry) (rs : List Reply) (es : List ℕ) (end : End) (before left old : Option (List ℕ)) (stream : List ℕ) → session ≡ session_drawn seed → racks ≡ [] → end ≡ ends.Done
-    → before ≡ Some [] → old ≡ Some [] → IsOutcome session racks h rs es end before left old (Some stream) → GeneratedRun seed
-generated_run seed session racks h rs es end before left old stream drawn none done link term outcome = record {
+    → before ≡ Some [] → old ≡ Some [] → IsOutcome session racks h rs es end before left old (Some stream)
+    → ((s : Clients) (ks : List (List ℕ)) (g : List Entry) → TakenOnce (begun s ks) g) → GeneratedRun seed
+generated_run seed session racks h rs es end before left old stream drawn none done link term outcome once = record {
   entries = h;
   replies = rs;
   ends' = es;
@@ -77,6 +79,7 @@ generated_run seed session racks h rs es end before left old stream drawn none d
       (subst (λ e. IsOutcome (session_drawn seed) [] h rs es e before left old (Some stream)) done
       (subst (λ ks. IsOutcome (session_drawn seed) ks h rs es end before left old (Some stream)) none
       (subst (λ s. IsOutcome s racks h rs es end before left old (Some stream)) drawn outcome))));
+  once = once (session_drawn seed) [] h;
 }
 
 -- what a function that ran it answers: the bytes of its stream and of its summary
@@ -112,9 +115,10 @@ summary_by seed old now before report failed stream summary xs ys m e f wrote to
     cut_summary seed old now before report failed m.0 (whole_is xs m.0.stream old now (e ∙ m.1) wrote) (part_is ys (summary_of seed m.0) before report (f ∙ m.2) told)
 
 pub made_by : (seed : ℕ) (session : Clients) (racks : List (List ℕ)) (h : List Entry) (rs : List Reply) (es : List ℕ) (end : End) (before left old : Option (List ℕ)) (stream xs a b : List ℕ) → session ≡ session_drawn seed → racks ≡ [] → end ≡ ends.Done
-    → before ≡ Some [] → old ≡ Some [] → IsOutcome session racks h rs es end before left old (Some stream) → xs ≡ stream → (a ≡ xs) × (b ≡ summary_text session h rs xs) → Made seed a b
-made_by seed session racks h rs es end before left old stream xs a b drawn none done link term outcome same made = (
-  generated_run seed session racks h rs es end before left old stream drawn none done link term outcome,
+    → before ≡ Some [] → old ≡ Some [] → IsOutcome session racks h rs es end before left old (Some stream) → xs ≡ stream → (a ≡ xs) × (b ≡ summary_text session h rs xs)
+    → ((s : Clients) (ks : List (List ℕ)) (g : List Entry) → TakenOnce (begun s ks) g) → Made seed a b
+made_by seed session racks h rs es end before left old stream xs a b drawn none done link term outcome same made once = (
+  generated_run seed session racks h rs es end before left old stream drawn none done link term outcome once,
   made.0 ∙ same,
   made.1 ∙ (ap (λ s. summary_text s h rs xs) drawn ∙ ap (λ t. summary_text (session_drawn seed) h rs t) same),
 )

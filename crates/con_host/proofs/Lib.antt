@@ -10,4 +10,3 @@ pub mod TellLemmas
 pub mod Generations
 pub mod Foretelling
 pub mod Reasons
-pub mod Once

@@ -4,6 +4,8 @@ use Rattle.con_outside.specs.Outside.{then_written, WroteFront, WrotePart}
 use Rattle.con_events.specs.declared.end.End.TheVariants as ends
 use Rattle.con_events.specs.declared.entry.Entry.{Entry}
 use Rattle.con_events.specs.declared.reply.Reply.{Reply}
+use Rattle.con_machine.specs.Follows.{begun}
+use Rattle.con_machine.specs.Once.{TakenOnce}
 use Rattle.con_script.specs.Generated.{session_drawn}
 use Rattle.con_session.specs.Outcome.{IsOutcome}
 use Rattle.con_host.specs.Ending.{end_line}
@@ -11,7 +13,7 @@ use Rattle.con_host.specs.Playing.{Told}
 use Rattle.con_host.specs.Summary.{summary_text}
 
 -- The session of a number has run to its end, by turns, without handlers, over a link of no bytes: its history, its replies, the ends of its frames, and the
--- stream of all of them.
+-- stream of all of them; each record of its input goes to one read at most.
 pub record GeneratedRun (seed : ℕ) : Type 0 where
   pub entries : List Entry
   pub replies : List Reply
@@ -19,6 +21,7 @@ pub record GeneratedRun (seed : ℕ) : Type 0 where
   pub stream : List ℕ
   pub left : Option (List ℕ)
   pub outcome : IsOutcome (session_drawn seed) [] entries replies ends' ends.Done (Some []) left (Some []) (Some stream)
+  pub once : TakenOnce (begun (session_drawn seed) []) entries
 
 -- its summary
 abbrev pub summary_of : (seed : ℕ) → GeneratedRun seed → List ℕ

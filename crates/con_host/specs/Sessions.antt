@@ -9,17 +9,9 @@ use Rattle.con_outside.specs.Outside.{then_written, WroteFront, WrotePart}
 use Rattle.con_outside.specs.Named.{IsTooLong}
 use Rattle.con_script.specs.Document.{document, json_of, path}
 use Rattle.con_script.specs.Session.{Where}
-use Rattle.con_events.specs.declared.actor.Actor.TheVariants as actors
-use Rattle.con_events.specs.declared.event.Event.TheVariants as events
-use Rattle.con_procs.specs.Procs.{is_attached}
-use Rattle.con_readers.specs.Pieces.{joined}
-use Rattle.con_readers.specs.Reads.{has_done}
-use Rattle.con_machine.specs.Fates.{AnswersRecords, Begin, Begun, Taker, arrived, done_for, fated, last_begin, pieces, wants_records}
 use Rattle.con_machine.specs.Follows.{begun}
-use Rattle.con_machine.specs.History.{run}
+use Rattle.con_machine.specs.Once.{TakenOnce}
 use Rattle.con_machine.specs.Rounds.{Rounds}
-use Rattle.con_machine.specs.State.{State}
-use Rattle.con_machine.specs.Step.{step}
 use Rattle.con_session.specs.Outcome.{Leaves}
 use Rattle.con_trace.specs.Ending.{Ending, alone, worded, at_frame, status_of, ending_of, ending_text}
 use Rattle.con_host.specs.declared.session.Unrun.{Unrun}
@@ -61,17 +53,8 @@ IsStatus status end = (status ≡ status_of (ending_after end)) ⊎ ((status ≡
 abbrev pub IsCut : ℕ → List Entry → List Reply → List ℕ → End → Option (List ℕ) → Option (List ℕ) → Type 0
 IsCut status h rs es end before now = (status ≡ 6) ⊎ ((status ≡ 9) × ¬ (end ≡ ends.Memory)) → WrotePart (report_text h rs es end) before now
 
--- In a history each record of the input goes to at most one read that removes it. The records that were there and that arrived are, in order, what reads
--- took and flushes removed, piece by piece, and what is there yet; the records of a fate are the pieces of its taker; and a read of records that is collected
--- answers exactly the records whose fate is its Begin, or that the console closed before it had one.
-pub record TakesOnce (s : State) (h : List Entry) : Type 0 where
-  pub pieces' : s.records ++ arrived s h ≡ joined (pieces s h) ++ (run s h).records
-  pub fates : (t : Taker) → fated s h t ≡ joined (done_for t (pieces s h))
-  pub answers : (before later : List Entry) (p : ℕ) (b : Begin) → h ≡ before ++ record { actor = actors.Client p; event = events.Collect } ∷ later
-      → last_begin s before p ≡ Some b → wants_records b.wanted ≡ true → is_attached (run s before).procs p ≡ true → has_done (run s before).reads p ≡ true
-      → AnswersRecords (step (run s before) (actors.Client p) events.Collect).reply (fated s h (Begun b.place))
-
--- The session ran, in whatever order its actors came: one history, with all that such a session leaves, and its report, which is whole unless the report
+-- The session ran, in whatever order its actors came: one history, with all that such a session leaves, in which each
+-- record of the input goes to one read at most and each read answers what is of its records, and its report, which is whole unless the report
 -- failed or there was no memory for it, and then is cut.
 pub record Ran (status : ℕ) (session : Clients) (racks : List (List ℕ)) (before left old now before_report report' : Option (List ℕ)) (failed : Type 0) : Type 0 where
   pub entries : List Entry
@@ -79,7 +62,7 @@ pub record Ran (status : ℕ) (session : Clients) (racks : List (List ℕ)) (bef
   pub ends' : List ℕ
   pub end : End
   pub leaves : Leaves session racks entries replies ends' end before left old now
-  pub once : TakesOnce (begun session racks) entries
+  pub once : TakenOnce (begun session racks) entries
   pub status_is : IsStatus status end
   pub front : WroteFront (report_text entries replies ends' end) before_report report'
   pub whole : ¬ (status ≡ 9) → ¬ (status ≡ 6) → ¬ failed → report' ≡ then_written before_report (report_text entries replies ends' end)

@@ -11,6 +11,7 @@ ghost use Rattle.con_host.specs.Summary.{summary_text};
 use crate::ending::{DONE, MEMORY, REPORT, TERMINAL, finish};
 use crate::summary::summary;
 use con_events::{End, Session};
+use con_machine::once_laws::each_record_is_taken_once;
 use con_outside::{Fault, Sink, SureSink, SureSource, write_whole};
 use con_script::generated;
 use con_session::{Outcome, run_solo};
@@ -51,6 +52,7 @@ fn finished(
 fn run(alloc: Global, seed: u32) -> Result<Generation, OutOfMemory>
     ensures { IfOk result (λ g. (run : GeneratedRun seed) × (g.stream.items ≡ run.stream) × (g.summary.items ≡ summary_of seed run)) }
 {
+    each_record_is_taken_once();
     let session = generated(alloc, seed)?;
     let mut link = SureSource {
         bytes: Bytes(Vec::new(alloc)),

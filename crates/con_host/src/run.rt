@@ -10,10 +10,11 @@ ghost use Rattle.con_trace.specs.Ending.{status_of};
 ghost use Rattle.con_session.specs.Worker.{told_kind};
 ghost use Rattle.con_host.specs.Sessions.{HasRun, Ran, ending_after};
 
-use crate::session::{Unrun, close, session_of, taken_once, tell};
+use crate::session::{Unrun, close, session_of, tell};
 use con_events::Session;
 use con_handlers::CtrlHandler;
 use con_link::{one_answer, one_frame};
+use con_machine::once_laws::each_record_is_taken_once;
 use con_outside::{Files, Gate, Sink, Source};
 use con_threads::run_session;
 use std::alloc::Global;
@@ -44,7 +45,7 @@ fn run<T: Threads + Wait + Sync, I: Source + Send, O: Sink + Send, R: Sink, G: G
 {
     one_answer();
     one_frame();
-    taken_once();
+    each_record_is_taken_once();
     let outcome = run_session(rt, alloc, session, link, term, racks, gate);
     tell(alloc, &outcome, report)
 }

@@ -2,15 +2,12 @@
 
 ghost use Rattle.std.specs.Prelude.{◌≡◌, ◌≤◌, ℕ, List, Some, Ok, IfOk, IfErr};
 ghost use Rattle.con_outside.specs.Outside.{Rose, then_written, WroteFront};
-ghost use Rattle.con_events.specs.declared.entry.Entry.{Entry};
-ghost use Rattle.con_machine.specs.State.{State};
 ghost use Rattle.con_script.specs.Document.{document};
 ghost use Rattle.con_trace.specs.Ending.{ending_of, status_of};
-ghost use Rattle.con_host.specs.Sessions.{IsCut, IsFile, IsStatus, Explains, TakesOnce, Tells, ending_after, failed_after, report_text};
+ghost use Rattle.con_host.specs.Sessions.{IsCut, IsFile, IsStatus, Explains, Tells, ending_after, failed_after, report_text};
 
 use crate::telling::write_report;
 use con_events::{End, Session};
-use con_machine::fates::{a_read_answers_the_records_of_its_fate, no_record_is_lost};
 use con_outside::{Fault, Files, Found, Sink};
 use con_script::{SessionFault, read_session};
 use con_session::Outcome;
@@ -95,14 +92,6 @@ pub fn close<R: Sink>(alloc: Global, report: &mut R, last: &EndLine) -> u8
         Ok(()) | Err(Fault::Failed) => status_told(last),
         Err(Fault::OutOfMemory) => 9,
     }
-}
-
-/// In each history a record of the input goes to at most one read that removes it.
-pub fn taken_once()
-    ensures { (s : State) (h : List Entry) → TakesOnce s h }
-{
-    no_record_is_lost();
-    a_read_answers_the_records_of_its_fate();
 }
 
 /// Writes the report of a session that ran, and answers its status.
