@@ -31,7 +31,7 @@ alone_taken x xs a = simp a
 -- ---- the subcommand that a first word names
 
 abbrev names : Names
-names = (codes "type", []) ∷ (codes "play", []) ∷ (codes "solo", []) ∷ (codes "gen", []) ∷ (codes "run", []) ∷ []
+names = (codes "type", []) ∷ (codes "play", []) ∷ (codes "solo", []) ∷ (codes "gen", []) ∷ (codes "run", []) ∷ (codes "mirror", []) ∷ []
 
 or_none : (b c : Bool) → b ≡ c → (b || false) ≡ c
 or_none true c e = e
@@ -52,20 +52,28 @@ found_fourth p a b c d rest e f g h = rw (e, f, g, h) refl
 found_fifth : (p : Text × List Text → Bool) (a b c d k : Text × List Text) (rest : Names) → p a ≡ false → p b ≡ false → p c ≡ false → p d ≡ false → p k ≡ true → option_map (λ s. s.0) (find p (a ∷ b ∷ c ∷ d ∷ k ∷ rest)) ≡ Some k.0
 found_fifth p a b c d k rest e f g h i = rw (e, f, g, h, i) refl
 
+found_sixth : (p : Text × List Text → Bool) (a b c d k l : Text × List Text) (rest : Names) → p a ≡ false → p b ≡ false → p c ≡ false → p d ≡ false → p k ≡ false → p l ≡ true
+    → option_map (λ s. s.0) (find p (a ∷ b ∷ c ∷ d ∷ k ∷ l ∷ rest)) ≡ Some l.0
+found_sixth p a b c d k l rest e f g h i j = rw (e, f, g, h, i, j) refl
+
 names_type : (w : Text) → bytes_eq (codes "type") w ≡ true → subcommand_met names idle w ≡ Some (codes "type")
-names_type w a = found_first (answers_to w) (codes "type", []) ((codes "play", []) ∷ (codes "solo", []) ∷ (codes "gen", []) ∷ (codes "run", []) ∷ []) (or_none _ true a)
+names_type w a = found_first (answers_to w) (codes "type", []) ((codes "play", []) ∷ (codes "solo", []) ∷ (codes "gen", []) ∷ (codes "run", []) ∷ (codes "mirror", []) ∷ []) (or_none _ true a)
 
 names_play : (w : Text) → bytes_eq (codes "type") w ≡ false → bytes_eq (codes "play") w ≡ true → subcommand_met names idle w ≡ Some (codes "play")
-names_play w a b = found_second (answers_to w) (codes "type", []) (codes "play", []) ((codes "solo", []) ∷ (codes "gen", []) ∷ (codes "run", []) ∷ []) (or_none _ false a) (or_none _ true b)
+names_play w a b = found_second (answers_to w) (codes "type", []) (codes "play", []) ((codes "solo", []) ∷ (codes "gen", []) ∷ (codes "run", []) ∷ (codes "mirror", []) ∷ []) (or_none _ false a) (or_none _ true b)
 
 names_solo : (w : Text) → bytes_eq (codes "type") w ≡ false → bytes_eq (codes "play") w ≡ false → bytes_eq (codes "solo") w ≡ true → subcommand_met names idle w ≡ Some (codes "solo")
-names_solo w a b c = found_third (answers_to w) (codes "type", []) (codes "play", []) (codes "solo", []) ((codes "gen", []) ∷ (codes "run", []) ∷ []) (or_none _ false a) (or_none _ false b) (or_none _ true c)
+names_solo w a b c = found_third (answers_to w) (codes "type", []) (codes "play", []) (codes "solo", []) ((codes "gen", []) ∷ (codes "run", []) ∷ (codes "mirror", []) ∷ []) (or_none _ false a) (or_none _ false b) (or_none _ true c)
 
 names_gen : (w : Text) → bytes_eq (codes "type") w ≡ false → bytes_eq (codes "play") w ≡ false → bytes_eq (codes "solo") w ≡ false → bytes_eq (codes "gen") w ≡ true → subcommand_met names idle w ≡ Some (codes "gen")
-names_gen w a b c d = found_fourth (answers_to w) (codes "type", []) (codes "play", []) (codes "solo", []) (codes "gen", []) ((codes "run", []) ∷ []) (or_none _ false a) (or_none _ false b) (or_none _ false c) (or_none _ true d)
+names_gen w a b c d = found_fourth (answers_to w) (codes "type", []) (codes "play", []) (codes "solo", []) (codes "gen", []) ((codes "run", []) ∷ (codes "mirror", []) ∷ []) (or_none _ false a) (or_none _ false b) (or_none _ false c) (or_none _ true d)
 
 names_run : (w : Text) → bytes_eq (codes "type") w ≡ false → bytes_eq (codes "play") w ≡ false → bytes_eq (codes "solo") w ≡ false → bytes_eq (codes "gen") w ≡ false → bytes_eq (codes "run") w ≡ true → subcommand_met names idle w ≡ Some (codes "run")
-names_run w a b c d k = found_fifth (answers_to w) (codes "type", []) (codes "play", []) (codes "solo", []) (codes "gen", []) (codes "run", []) [] (or_none _ false a) (or_none _ false b) (or_none _ false c) (or_none _ false d) (or_none _ true k)
+names_run w a b c d k = found_fifth (answers_to w) (codes "type", []) (codes "play", []) (codes "solo", []) (codes "gen", []) (codes "run", []) ((codes "mirror", []) ∷ []) (or_none _ false a) (or_none _ false b) (or_none _ false c) (or_none _ false d) (or_none _ true k)
+
+names_mirror : (w : Text) → bytes_eq (codes "type") w ≡ false → bytes_eq (codes "play") w ≡ false → bytes_eq (codes "solo") w ≡ false → bytes_eq (codes "gen") w ≡ false → bytes_eq (codes "run") w ≡ false → bytes_eq (codes "mirror") w ≡ true
+    → subcommand_met names idle w ≡ Some (codes "mirror")
+names_mirror w a b c d k l = found_sixth (answers_to w) (codes "type", []) (codes "play", []) (codes "solo", []) (codes "gen", []) (codes "run", []) (codes "mirror", []) [] (or_none _ false a) (or_none _ false b) (or_none _ false c) (or_none _ false d) (or_none _ false k) (or_none _ true l)
 
 -- the walk behind a first word that names this subcommand
 abbrev walk_by : List Rule → Text → Option Text → Walk
@@ -160,6 +168,25 @@ run_met : (x y : ℕ) (xs ys : Text) → nat_eq y 45 ≡ false → bytes_eq (cod
     → option_map first_word (subcommand_of host ((x ∷ xs) ∷ (y ∷ ys) ∷ [])) ≡ Some (codes "run", Some (y ∷ ys))
 run_met x y xs ys i a b c d k = ap (λ stop. option_map first_word (entered (built host) stop)) (stops_before (built host).top.rules names (x ∷ xs) (y ∷ ys) (codes "run") (names_run (x ∷ xs) a b c d k)) ∙ run_enters y ys i
 
+-- `mirror`
+mirror_refused : (x : ℕ) (xs : Text) → bytes_eq (codes "type") (x ∷ xs) ≡ false → bytes_eq (codes "play") (x ∷ xs) ≡ false → bytes_eq (codes "solo") (x ∷ xs) ≡ false → bytes_eq (codes "gen") (x ∷ xs) ≡ false → bytes_eq (codes "run") (x ∷ xs) ≡ false → bytes_eq (codes "mirror") (x ∷ xs) ≡ true
+    → fault_of host ((x ∷ xs) ∷ []) ≡ kind.MissingRequiredArgument ∷ []
+unfolding clap_on_literals
+mirror_refused x xs a b c d k l = simp (a, b, c, d, k, l)
+
+mirror_taken : (x y : ℕ) (xs ys : Text) → nat_eq y 45 ≡ false → bytes_eq (codes "type") (x ∷ xs) ≡ false → bytes_eq (codes "play") (x ∷ xs) ≡ false → bytes_eq (codes "solo") (x ∷ xs) ≡ false → bytes_eq (codes "gen") (x ∷ xs) ≡ false → bytes_eq (codes "run") (x ∷ xs) ≡ false → bytes_eq (codes "mirror") (x ∷ xs) ≡ true
+    → fault_of host ((x ∷ xs) ∷ (y ∷ ys) ∷ []) ≡ []
+unfolding clap_on_literals
+mirror_taken x y xs ys i a b c d k l = simp (a, b, c, d, k, l, i)
+
+mirror_enters : (y : ℕ) (ys : Text) → nat_eq y 45 ≡ false → option_map first_word (entered (built host) (Some (codes "mirror", (y ∷ ys) ∷ []))) ≡ Some (codes "mirror", Some (y ∷ ys))
+unfolding clap_on_literals
+mirror_enters y ys i = simp i
+
+mirror_met : (x y : ℕ) (xs ys : Text) → nat_eq y 45 ≡ false → bytes_eq (codes "type") (x ∷ xs) ≡ false → bytes_eq (codes "play") (x ∷ xs) ≡ false → bytes_eq (codes "solo") (x ∷ xs) ≡ false → bytes_eq (codes "gen") (x ∷ xs) ≡ false → bytes_eq (codes "run") (x ∷ xs) ≡ false → bytes_eq (codes "mirror") (x ∷ xs) ≡ true
+    → option_map first_word (subcommand_of host ((x ∷ xs) ∷ (y ∷ ys) ∷ [])) ≡ Some (codes "mirror", Some (y ∷ ys))
+mirror_met x y xs ys i a b c d k l = ap (λ stop. option_map first_word (entered (built host) stop)) (stops_before (built host).top.rules names (x ∷ xs) (y ∷ ys) (codes "mirror") (names_mirror (x ∷ xs) a b c d k l)) ∙ mirror_enters y ys i
+
 is_type : (w : Text) → bytes_eq (codes "type") w ≡ true → form_named (codes "type", None) ≡ of_words (w ∷ [])
 is_type w e = rw e refl
 
@@ -175,11 +202,15 @@ is_gen w v e f g = rw (e, f, g) refl
 is_run : (w v : Text) → bytes_eq (codes "play") w ≡ false → bytes_eq (codes "solo") w ≡ false → bytes_eq (codes "gen") w ≡ false → bytes_eq (codes "run") w ≡ true → form_named (codes "run", Some v) ≡ of_words (w ∷ v ∷ [])
 is_run w v e f g h = rw (e, f, g, h) refl
 
+is_mirror : (w v : Text) → bytes_eq (codes "play") w ≡ false → bytes_eq (codes "solo") w ≡ false → bytes_eq (codes "gen") w ≡ false → bytes_eq (codes "run") w ≡ false → bytes_eq (codes "mirror") w ≡ true
+    → form_named (codes "mirror", Some v) ≡ of_words (w ∷ v ∷ [])
+is_mirror w v e f g h i = rw (e, f, g, h, i) refl
+
 -- another word
-other_refused : (x : ℕ) (xs : Text) (rest : List Text) → nat_eq x 45 ≡ false → bytes_eq (codes "type") (x ∷ xs) ≡ false → bytes_eq (codes "play") (x ∷ xs) ≡ false → bytes_eq (codes "solo") (x ∷ xs) ≡ false → bytes_eq (codes "gen") (x ∷ xs) ≡ false → bytes_eq (codes "run") (x ∷ xs) ≡ false
+other_refused : (x : ℕ) (xs : Text) (rest : List Text) → nat_eq x 45 ≡ false → bytes_eq (codes "type") (x ∷ xs) ≡ false → bytes_eq (codes "play") (x ∷ xs) ≡ false → bytes_eq (codes "solo") (x ∷ xs) ≡ false → bytes_eq (codes "gen") (x ∷ xs) ≡ false → bytes_eq (codes "run") (x ∷ xs) ≡ false → bytes_eq (codes "mirror") (x ∷ xs) ≡ false
     → fault_of host ((x ∷ xs) ∷ rest) ≡ kind.UnknownArgument ∷ kind.InvalidSubcommand ∷ []
 unfolding clap_on_literals
-other_refused x xs rest h a b c d k = simp (a, b, c, d, k) (simp h)
+other_refused x xs rest h a b c d k l = simp (a, b, c, d, k, l) (simp h)
 
 some_kinds : (ks : Kinds) (k : ErrorKind) (more : Kinds) → ks ≡ k ∷ more → ks ≢ []
 some_kinds ks k more e n = let bad : k ∷ more ≡ [] = sym e ∙ n in absurd (cc)
@@ -187,17 +218,19 @@ some_kinds ks k more e n = let bad : k ∷ more ≡ [] = sym e ∙ n in absurd (
 none_alone : (x : ℕ) (xs : Text) → bytes_eq (codes "type") (x ∷ xs) ≡ false → of_words ((x ∷ xs) ∷ []) ≡ None
 none_alone x xs a = rw a refl
 
-none_with : (x : ℕ) (xs ys : Text) → bytes_eq (codes "play") (x ∷ xs) ≡ false → bytes_eq (codes "solo") (x ∷ xs) ≡ false → bytes_eq (codes "gen") (x ∷ xs) ≡ false → bytes_eq (codes "run") (x ∷ xs) ≡ false → of_words ((x ∷ xs) ∷ ys ∷ []) ≡ None
-none_with x xs ys a b c d = rw (a, b, c, d) refl
+none_with : (x : ℕ) (xs ys : Text) → bytes_eq (codes "play") (x ∷ xs) ≡ false → bytes_eq (codes "solo") (x ∷ xs) ≡ false → bytes_eq (codes "gen") (x ∷ xs) ≡ false → bytes_eq (codes "run") (x ∷ xs) ≡ false → bytes_eq (codes "mirror") (x ∷ xs) ≡ false
+    → of_words ((x ∷ xs) ∷ ys ∷ []) ≡ None
+none_with x xs ys a b c d k = rw (a, b, c, d, k) refl
 
-one_word : (x : ℕ) (xs : Text) (a b c d k : Bool) → nat_eq x 45 ≡ false → bytes_eq (codes "type") (x ∷ xs) ≡ a → bytes_eq (codes "play") (x ∷ xs) ≡ b → bytes_eq (codes "solo") (x ∷ xs) ≡ c → bytes_eq (codes "gen") (x ∷ xs) ≡ d → bytes_eq (codes "run") (x ∷ xs) ≡ k
+one_word : (x : ℕ) (xs : Text) (a b c d k l : Bool) → nat_eq x 45 ≡ false → bytes_eq (codes "type") (x ∷ xs) ≡ a → bytes_eq (codes "play") (x ∷ xs) ≡ b → bytes_eq (codes "solo") (x ∷ xs) ≡ c → bytes_eq (codes "gen") (x ∷ xs) ≡ d → bytes_eq (codes "run") (x ∷ xs) ≡ k → bytes_eq (codes "mirror") (x ∷ xs) ≡ l
     → Reads ((x ∷ xs) ∷ [])
-one_word x xs true b c d k h p q r t u = inl (alone_taken x xs p, ap form_met (alone_met x xs p) ∙ is_type (x ∷ xs) p)
-one_word x xs false true c d k h p q r t u = inr (some_kinds _ _ _ (play_refused x xs p q), none_alone x xs p)
-one_word x xs false false true d k h p q r t u = inr (some_kinds _ _ _ (solo_refused x xs p q r), none_alone x xs p)
-one_word x xs false false false true k h p q r t u = inr (some_kinds _ _ _ (gen_refused x xs p q r t), none_alone x xs p)
-one_word x xs false false false false true h p q r t u = inr (some_kinds _ _ _ (run_refused x xs p q r t u), none_alone x xs p)
-one_word x xs false false false false false h p q r t u = inr (some_kinds _ _ _ (other_refused x xs [] h p q r t u), none_alone x xs p)
+one_word x xs true b c d k l h p q r t u v = inl (alone_taken x xs p, ap form_met (alone_met x xs p) ∙ is_type (x ∷ xs) p)
+one_word x xs false true c d k l h p q r t u v = inr (some_kinds _ _ _ (play_refused x xs p q), none_alone x xs p)
+one_word x xs false false true d k l h p q r t u v = inr (some_kinds _ _ _ (solo_refused x xs p q r), none_alone x xs p)
+one_word x xs false false false true k l h p q r t u v = inr (some_kinds _ _ _ (gen_refused x xs p q r t), none_alone x xs p)
+one_word x xs false false false false true l h p q r t u v = inr (some_kinds _ _ _ (run_refused x xs p q r t u), none_alone x xs p)
+one_word x xs false false false false false true h p q r t u v = inr (some_kinds _ _ _ (mirror_refused x xs p q r t u v), none_alone x xs p)
+one_word x xs false false false false false false h p q r t u v = inr (some_kinds _ _ _ (other_refused x xs [] h p q r t u v), none_alone x xs p)
 
 -- no word is two of them
 two_letters : (x : ℕ) (r s : Bool) → (nat_eq 116 x && r) ≡ true → (nat_eq 112 x && s) ≡ false
@@ -224,14 +257,21 @@ last_letters x r s p = grind (arith, nat_tests)
 no_run : (x : ℕ) (xs : Text) → bytes_eq (codes "type") (x ∷ xs) ≡ true → bytes_eq (codes "run") (x ∷ xs) ≡ false
 no_run x xs p = last_letters x _ _ p
 
-two_words : (x y : ℕ) (xs ys : Text) (a b c d k : Bool) → nat_eq x 45 ≡ false → nat_eq y 45 ≡ false → bytes_eq (codes "type") (x ∷ xs) ≡ a → bytes_eq (codes "play") (x ∷ xs) ≡ b → bytes_eq (codes "solo") (x ∷ xs) ≡ c → bytes_eq (codes "gen") (x ∷ xs) ≡ d → bytes_eq (codes "run") (x ∷ xs) ≡ k
+mirror_letters : (x : ℕ) (r s : Bool) → (nat_eq 116 x && r) ≡ true → (nat_eq 109 x && s) ≡ false
+mirror_letters x r s p = grind (arith, nat_tests)
+
+no_mirror : (x : ℕ) (xs : Text) → bytes_eq (codes "type") (x ∷ xs) ≡ true → bytes_eq (codes "mirror") (x ∷ xs) ≡ false
+no_mirror x xs p = mirror_letters x _ _ p
+
+two_words : (x y : ℕ) (xs ys : Text) (a b c d k l : Bool) → nat_eq x 45 ≡ false → nat_eq y 45 ≡ false → bytes_eq (codes "type") (x ∷ xs) ≡ a → bytes_eq (codes "play") (x ∷ xs) ≡ b → bytes_eq (codes "solo") (x ∷ xs) ≡ c → bytes_eq (codes "gen") (x ∷ xs) ≡ d → bytes_eq (codes "run") (x ∷ xs) ≡ k → bytes_eq (codes "mirror") (x ∷ xs) ≡ l
     → Reads ((x ∷ xs) ∷ (y ∷ ys) ∷ [])
-two_words x y xs ys true b c d k h i p q r t u = inr (some_kinds _ _ _ (more_refused x y xs ys i p), none_with x xs (y ∷ ys) (no_play x xs p) (no_solo x xs p) (no_gen x xs p) (no_run x xs p))
-two_words x y xs ys false true c d k h i p q r t u = inl (play_taken x y xs ys i p q, ap (option_and_then form_named) (play_met x y xs ys i p q) ∙ is_play (x ∷ xs) (y ∷ ys) q)
-two_words x y xs ys false false true d k h i p q r t u = inl (solo_taken x y xs ys i p q r, ap (option_and_then form_named) (solo_met x y xs ys i p q r) ∙ is_solo (x ∷ xs) (y ∷ ys) q r)
-two_words x y xs ys false false false true k h i p q r t u = inl (gen_taken x y xs ys i p q r t, ap (option_and_then form_named) (gen_met x y xs ys i p q r t) ∙ is_gen (x ∷ xs) (y ∷ ys) q r t)
-two_words x y xs ys false false false false true h i p q r t u = inl (run_taken x y xs ys i p q r t u, ap (option_and_then form_named) (run_met x y xs ys i p q r t u) ∙ is_run (x ∷ xs) (y ∷ ys) q r t u)
-two_words x y xs ys false false false false false h i p q r t u = inr (some_kinds _ _ _ (other_refused x xs ((y ∷ ys) ∷ []) h p q r t u), none_with x xs (y ∷ ys) q r t u)
+two_words x y xs ys true b c d k l h i p q r t u v = inr (some_kinds _ _ _ (more_refused x y xs ys i p), none_with x xs (y ∷ ys) (no_play x xs p) (no_solo x xs p) (no_gen x xs p) (no_run x xs p) (no_mirror x xs p))
+two_words x y xs ys false true c d k l h i p q r t u v = inl (play_taken x y xs ys i p q, ap (option_and_then form_named) (play_met x y xs ys i p q) ∙ is_play (x ∷ xs) (y ∷ ys) q)
+two_words x y xs ys false false true d k l h i p q r t u v = inl (solo_taken x y xs ys i p q r, ap (option_and_then form_named) (solo_met x y xs ys i p q r) ∙ is_solo (x ∷ xs) (y ∷ ys) q r)
+two_words x y xs ys false false false true k l h i p q r t u v = inl (gen_taken x y xs ys i p q r t, ap (option_and_then form_named) (gen_met x y xs ys i p q r t) ∙ is_gen (x ∷ xs) (y ∷ ys) q r t)
+two_words x y xs ys false false false false true l h i p q r t u v = inl (run_taken x y xs ys i p q r t u, ap (option_and_then form_named) (run_met x y xs ys i p q r t u) ∙ is_run (x ∷ xs) (y ∷ ys) q r t u)
+two_words x y xs ys false false false false false true h i p q r t u v = inl (mirror_taken x y xs ys i p q r t u v, ap (option_and_then form_named) (mirror_met x y xs ys i p q r t u v) ∙ is_mirror (x ∷ xs) (y ∷ ys) q r t u v)
+two_words x y xs ys false false false false false false h i p q r t u v = inr (some_kinds _ _ _ (other_refused x xs ((y ∷ ys) ∷ []) h p q r t u v), none_with x xs (y ∷ ys) q r t u v)
 
 no_hyphen : (b : Bool) → not b ≡ true → b ≡ false
 no_hyphen false e = refl
@@ -250,10 +290,10 @@ under_all ws all = rw all refl
 pub reads : (ws : List Text) → are_few ws ≡ true → Reads ws
 reads [] few = inr (nothing_refused, refl)
 reads ([] ∷ []) few = absurd (cc)
-reads ((x ∷ xs) ∷ []) few = one_word x xs _ _ _ _ _ (no_hyphen _ few) refl refl refl refl refl
+reads ((x ∷ xs) ∷ []) few = one_word x xs _ _ _ _ _ _ (no_hyphen _ few) refl refl refl refl refl refl
 reads ([] ∷ v ∷ []) few = absurd (cc)
 reads ((x ∷ xs) ∷ [] ∷ []) few = let bad : false ≡ true = (and_parts (is_word (x ∷ xs)) false few).1 in absurd (cc)
-reads ((x ∷ xs) ∷ (y ∷ ys) ∷ []) few = let p = and_parts (is_word (x ∷ xs)) (is_word (y ∷ ys)) few in two_words x y xs ys _ _ _ _ _ (no_hyphen _ p.0) (no_hyphen _ p.1) refl refl refl refl refl
+reads ((x ∷ xs) ∷ (y ∷ ys) ∷ []) few = let p = and_parts (is_word (x ∷ xs)) (is_word (y ∷ ys)) few in two_words x y xs ys _ _ _ _ _ _ (no_hyphen _ p.0) (no_hyphen _ p.1) refl refl refl refl refl refl
 reads (w ∷ v ∷ u ∷ rest) few = absurd (cc)
 
 plain_form : (ws : List Text) → are_few ws ≡ true → form_of ws ≡ of_words ws

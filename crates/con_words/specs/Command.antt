@@ -18,7 +18,9 @@ abbrev pub and_more : App → App → App
 and_more a more = with_subcommand a more.top
 
 abbrev pub host : App
-host = and_more (and_more (and_more (and_more (and_more bare (new_app (codes "type"))) (taking (codes "play"))) (taking (codes "solo"))) (taking (codes "gen"))) (taking (codes "run"))
+host =
+    let four = and_more (and_more (and_more (and_more bare (new_app (codes "type"))) (taking (codes "play"))) (taking (codes "solo"))) (taking (codes "gen")) in
+    and_more (and_more four (taking (codes "run"))) (taking (codes "mirror"))
 
 -- a subcommand's name, and its word
 abbrev pub Named : Type 0

@@ -3,7 +3,7 @@ use Rattle.std.specs.Prelude.{Bool, true, false, ◌&&◌, List, [], ◌∷◌, 
 use Rattle.std.specs.Str.{bytes_eq}
 use Rattle.clap.specs.Words.{Row, Text}
 use Rattle.con_words.specs.Command.{Named, first_word}
-use Rattle.con_words.specs.Words.{Asked, typing, running, solo, at_size, of_seed, is_word, size_of, seed_of}
+use Rattle.con_words.specs.Words.{Asked, typing, running, solo, mirroring, at_size, of_seed, is_word, size_of, seed_of}
 
 abbrev pub of_size : Option Text → Option Asked
 of_size None = None
@@ -17,6 +17,10 @@ abbrev pub of_run : Option Text → Option Asked
 of_run None = None
 of_run (Some word) = Some (running word)
 
+abbrev pub of_mirror : Option Text → Option Asked
+of_mirror None = None
+of_mirror (Some word) = Some (mirroring word)
+
 abbrev pub of_number : Option Text → Option Asked
 of_number None = None
 of_number (Some word) = of_seed (seed_of word)
@@ -28,6 +32,7 @@ form_named p =
     else if bytes_eq p.0 (codes "solo") then of_name p.1
     else if bytes_eq p.0 (codes "gen") then of_number p.1
     else if bytes_eq p.0 (codes "run") then of_run p.1
+    else if bytes_eq p.0 (codes "mirror") then of_mirror p.1
     else None
 
 -- what was met asks for

@@ -4,12 +4,14 @@ use Rattle.std.specs.List.{list_all, position}
 use Rattle.std.specs.Str.{bytes_eq}
 use Rattle.con_units.specs.declared.place.Size.{Size}
 
--- what the words ask for: a text to be typed, bytes to be played at a size, the session of a file by threads or by turns, the generated session of a number
+-- what the words ask for: a text to be typed, bytes to be played at a size, the session of a file by threads, by turns, or by turns with a second terminal,
+-- the generated session of a number
 pub data Asked : Type 0 where
   typing : Asked
   playing : Size → Asked
   running : List ℕ → Asked
   solo : List ℕ → Asked
+  mirroring : List ℕ → Asked
   generating : ℕ → Asked
 
 -- '1' to '9'
@@ -99,6 +101,7 @@ with_word name word =
     else if bytes_eq (codes "solo") name then Some (solo word)
     else if bytes_eq (codes "gen") name then of_seed (seed_of word)
     else if bytes_eq (codes "run") name then Some (running word)
+    else if bytes_eq (codes "mirror") name then Some (mirroring word)
     else None
 
 abbrev pub of_words : List (List ℕ) → Option Asked

@@ -37,11 +37,13 @@ fn command<'a>(alloc: Global) -> Result<Command<'a>, AllocError>
     let turning = taking_one(alloc, "solo")?;
     let generating = taking_one(alloc, "gen")?;
     let running = taking_one(alloc, "run")?;
+    let mirroring = taking_one(alloc, "mirror")?;
     let one = alone(alloc).subcommand(typing)?;
     let two = one.subcommand(playing)?;
     let three = two.subcommand(turning)?;
     let four = three.subcommand(generating)?;
-    four.subcommand(running)
+    let five = four.subcommand(running)?;
+    five.subcommand(mirroring)
 }
 
 /// What the command makes of the words.

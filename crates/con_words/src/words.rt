@@ -19,6 +19,8 @@ pub enum Form<'a> {
     Run(&'a str),
     /// `solo SESSION`: the session of the file of this name runs by turns; its history goes to the report.
     Solo(&'a str),
+    /// `mirror SESSION`: as `solo`, and a second terminal that attaches and detaches by frames of the link shows a part of it.
+    Mirror(&'a str),
     /// `gen N`: the generated session of this number runs by turns; its summary goes to the report.
     Gen(u32),
 }
@@ -28,7 +30,7 @@ impl<'a> Form<'a> {
     ghost use Rattle.con_words.specs.Asked.{asked_of, IsWindowed};
 
     /// The form that the words are, and `None` where they are none: `type` alone, `play` with a size of 1 to 512
-    /// by 1 to 256, in decimal digits without a sign or a leading zero, joined by `x`, `run` or `solo` with a name, or `gen` with a number of 0 to
+    /// by 1 to 256, in decimal digits without a sign or a leading zero, joined by `x`, `run`, `solo` or `mirror` with a name, or `gen` with a number of 0 to
     /// 4,294,967,295, in decimal digits without a sign or a leading zero. An empty word and one that begins with `-` stand in no form.
     pub fn of(alloc: Global, words: &'a [String]) -> Result<Option<Form<'a>>, OutOfMemory>
         ensures form { IfOk result (λ form. option_map asked_of form ≡ form_of (map string_bytes words.entry.now)) }
@@ -47,7 +49,7 @@ impl<'a> Form<'a> {
 
 ghost use Rattle.con_words.specs.Words.{is_word, is_first, is_digit, number_of, side_of, size_of, is_x, digit_of, with_digit, spelled_after, seed_of, IsWindow};
 ghost use Rattle.con_words.specs.Asked.{asked_of, IsWindowed};
-ghost use Rattle.con_words.specs.Naming.{are_few, of_size, of_name, of_number, of_run, form_named, form_met};
+ghost use Rattle.con_words.specs.Naming.{are_few, of_size, of_name, of_number, of_run, of_mirror, form_named, form_met};
 ghost use Rattle.std.specs.Prelude.{true, false, option_map};
 ghost use Rattle.std.specs.List.{list_all};
 ghost use Rattle.clap.specs.Words.{subcommand_rows_of};
@@ -105,6 +107,8 @@ fn form_of_name<'a>(name: &str, word: Option<&'a str>) -> Option<Form<'a>>
         generating(word)
     } else if name == "run" {
         running(word)
+    } else if name == "mirror" {
+        mirroring(word)
     } else {
         None
     }
@@ -139,6 +143,16 @@ fn running<'a>(word: Option<&'a str>) -> Option<Form<'a>>
 {
     match word {
         Some(name) => Some(Form::Run(name)),
+        None => None,
+    }
+}
+
+fn mirroring<'a>(word: Option<&'a str>) -> Option<Form<'a>>
+    ensures form { option_map asked_of result ≡ of_mirror (option_map (λ s. s.now) word.entry) }
+    ensures window { IfSome result IsWindowed }
+{
+    match word {
+        Some(name) => Some(Form::Mirror(name)),
         None => None,
     }
 }

@@ -11,11 +11,14 @@ returns c =
     let play_is : app_of c.in_ok-playing.playing ≡ taking (codes "play") = c.in_ok-playing.ensures.app in
     let solo_is : app_of c.in_ok-turning.turning ≡ taking (codes "solo") = c.in_ok-turning.ensures.app in
     let two_is : app_of c.in_ok-two.two ≡ with_subcommand (with_subcommand bare (new_app (codes "type")).top) (taking (codes "play")).top =
-    c.in_ok-two.ensures.shape (search rules) ∙ ap₂ with_subcommand one_is (ap (λ (a : App). a.top) play_is) in
+    c.in_ok-two.ensures.shape c.in_ok-playing.ensures.local ∙ ap₂ with_subcommand one_is (ap (λ (a : App). a.top) play_is) in
     let three_is : app_of c.in_ok-three.three ≡ with_subcommand (with_subcommand (with_subcommand bare (new_app (codes "type")).top) (taking (codes "play")).top) (taking (codes "solo")).top =
-    c.in_ok-three.ensures.shape (search rules) ∙ ap₂ with_subcommand two_is (ap (λ (a : App). a.top) solo_is) in
+    c.in_ok-three.ensures.shape c.in_ok-turning.ensures.local ∙ ap₂ with_subcommand two_is (ap (λ (a : App). a.top) solo_is) in
     let gen_is : app_of c.in_ok-generating.generating ≡ taking (codes "gen") = c.in_ok-generating.ensures.app in
     let four_is : app_of c.in_ok-four.four ≡ with_subcommand (with_subcommand (with_subcommand (with_subcommand bare (new_app (codes "type")).top) (taking (codes "play")).top) (taking (codes "solo")).top) (taking (codes "gen")).top =
-    c.in_ok-four.ensures.shape (search rules) ∙ ap₂ with_subcommand three_is (ap (λ (a : App). a.top) gen_is) in
+    c.in_ok-four.ensures.shape c.in_ok-generating.ensures.local ∙ ap₂ with_subcommand three_is (ap (λ (a : App). a.top) gen_is) in
     let run_is : app_of c.in_ok-running.running ≡ taking (codes "run") = c.in_ok-running.ensures.app in
-    IfOk-weaker c.subcommand-5.result _ _ (λ r h. h.shape (search rules) ∙ ap₂ with_subcommand four_is (ap (λ (a : App). a.top) run_is)) c.subcommand-5.ensures
+    let five_is : app_of c.in_ok-five.five ≡ with_subcommand (with_subcommand (with_subcommand (with_subcommand (with_subcommand bare (new_app (codes "type")).top) (taking (codes "play")).top) (taking (codes "solo")).top) (taking (codes "gen")).top) (taking (codes "run")).top =
+    c.in_ok-five.ensures.shape c.in_ok-running.ensures.local ∙ ap₂ with_subcommand four_is (ap (λ (a : App). a.top) run_is) in
+    let mirror_is : app_of c.in_ok-mirroring.mirroring ≡ taking (codes "mirror") = c.in_ok-mirroring.ensures.app in
+    IfOk-weaker c.subcommand-6.result _ _ (λ r h. h.shape c.in_ok-mirroring.ensures.local ∙ ap₂ with_subcommand five_is (ap (λ (a : App). a.top) mirror_is)) c.subcommand-6.ensures
