@@ -47,7 +47,7 @@ def made(folder, name, text):
 
 def usages():
     ways = ([way, *words] for way in WAYS for words in ([], ["a", "b"], [""]))
-    for words in ([], *ways, ["gen", "07"], ["gen", "-1"], ["gen", "4294967296"], ["play", "0x5"], ["--help"]):
+    for words in ([], *ways, ["mirror"], ["gen", "07"], ["gen", "-1"], ["gen", "4294967296"], ["play", "0x5"], ["--help"]):
         expect(f"words {words}", run(words), 2, '["end",2,"usage"]')
 
 
@@ -113,6 +113,34 @@ def drawn(folder, number):
         print(f"OTHERWISE: gen {number} is another session than the drawn one")
 
 
+def mirror(folder):
+    """The second terminal is a file in the folder in which the program runs; a folder of its name cannot be written."""
+    global wrong
+    session = os.path.abspath(examples.path("mirror", "json"))
+    with open(examples.path("mirror", "link"), "rb") as link:
+        frames = link.read()
+    program = [os.path.abspath(PROGRAM), "mirror", session]
+    ran = subprocess.run(program, input=frames, capture_output=True, cwd=folder, check=False)
+    expect("mirror: example mirror", ran, 0, '["end",0]')
+    with open(os.path.join(folder, "conpty.mirror"), "rb") as file:
+        second = run(["play", "30x5"], file.read()).stderr.decode()
+    with open(examples.path("mirror", "second"), encoding="utf-8") as text:
+        shows = text.read()
+    last = run(["play", "24x4"], ran.stdout).stderr.decode()
+    if examples.without_lengths(ran.stderr) != examples.report_of("mirror") or last != examples.dump_of("mirror") or second != shows:
+        wrong += 1
+        print("OTHERWISE: the report or a last picture of mirror is not the one beside it")
+    full = os.path.join(folder, "full")
+    os.makedirs(os.path.join(full, "conpty.mirror"))
+    lost = subprocess.run(program, input=frames, capture_output=True, cwd=full, check=False)
+    expect("mirror: a file that cannot be written", lost, 12, '["end",12,"mirror"]')
+    if lost.stdout != ran.stdout:
+        wrong += 1
+        print("OTHERWISE: the terminal's stream where the second terminal failed")
+    for way in WAYS:
+        expect(f"{way}: a link with a second terminal", run([way, session], frames), 8, '["end",8,0,"tag"]')
+
+
 def example(name, way):
     """By threads events come in another order each time, so their lines are not told."""
     global wrong
@@ -141,6 +169,7 @@ def main():
                 example(name, way)
             expect(f"{way}: example fault", run([way, examples.path("fault", "json")], b"Q"), 3, '["end",3,"clients[0].calls[1]"]')
         generations(folder)
+        mirror(folder)
     sys.exit(wrong > 0)
 
 

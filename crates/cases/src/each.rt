@@ -1,9 +1,9 @@
-//! Each call of an end of a case's outside fails in turn.
+//! What a case leaves where each call of an end of its outside fails in turn, and what it leaves with other words.
 use crate::fault::Wrong;
 use crate::part::Part;
 use crate::running::{Ran, host_case};
 use crate::setup::{End, Failing, Setup};
-use con_host::{LINK, REPORT, TERMINAL};
+use con_host::{LINK, MIRROR, REPORT, TERMINAL};
 use con_units::Bytes;
 use std::alloc::Global;
 use std::sync::Wait;
@@ -41,6 +41,15 @@ fn is_broken_off(end: End, ran: &Ran, sure: &Ran, last: Option<usize>) -> bool {
                     .ends_with(b"[\"end\",5,\"term\"]\n".as_slice())
                 && is_further(&ran.written, &sure.written, last)
         }
+        End::Second => {
+            ran.status == MIRROR
+                && ran
+                    .report
+                    .as_slice()
+                    .ends_with(b"[\"end\",12,\"mirror\"]\n".as_slice())
+                && ran.written.as_slice() == sure.written.as_slice()
+                && is_further(&ran.second, &sure.second, last)
+        }
         End::Report => {
             ran.status == REPORT
                 && ran.written.as_slice() == sure.written.as_slice()
@@ -52,6 +61,7 @@ fn is_broken_off(end: End, ran: &Ran, sure: &Ran, last: Option<usize>) -> bool {
 // How much an end has of a run.
 fn length(end: End, ran: &Ran) -> usize {
     match end {
+        End::Second => ran.second.len(),
         End::Report => ran.report.len(),
         _ => ran.written.len(),
     }
@@ -87,4 +97,27 @@ pub fn each_difference<T: Threads + Wait + Sync>(
         last = Some(length(end, &ran));
     }
     Ok(Some(String::from_str(alloc, "no run meets no failure")?))
+}
+
+/// What differs where a case is run with other words: its status, the terminal's stream and the report have to be the same.
+pub fn other_difference<T: Threads + Wait + Sync>(
+    rt: &T,
+    alloc: Global,
+    parts: &[Part<'_>],
+    words: Vec<String>,
+    sure: &Ran,
+) -> Result<Option<String>, Wrong> {
+    let mut setup = Setup::of(alloc, parts)?;
+    setup.words = words;
+    let ran = host_case(rt, alloc, setup)?;
+    let what = if ran.status != sure.status {
+        "status"
+    } else if ran.written.as_slice() != sure.written.as_slice() {
+        "stream"
+    } else if ran.report.as_slice() != sure.report.as_slice() {
+        "report"
+    } else {
+        return Ok(None);
+    };
+    Ok(Some(format!(in alloc; "the {what} is another one with the other words")?))
 }

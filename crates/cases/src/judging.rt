@@ -14,12 +14,13 @@ use std::str;
 /// How the line of a picture begins.
 const PICTURE: &str = "[\"p\",\"paint\",[],[\"painted\",";
 
-/// What came of a case: the status, the terminal's stream, the report and its lines, how long the stream was after each picture, and
-/// whether the report is that of `play`.
+/// What came of a case: the status, the terminal's stream and that of the second one, the report and its lines, how long the stream was
+/// after each picture, and whether the report is that of `play`.
 #[derive(Drop)]
 pub struct Came<'a> {
     pub status: u8,
     pub stream: &'a [u8],
+    pub second: &'a [u8],
     pub report: &'a str,
     pub lines: Vec<&'a str>,
     pub ends: Vec<usize>,
@@ -35,6 +36,7 @@ impl<'a> Came<'a> {
         Ok(Came {
             status: ran.status,
             stream: ran.written.as_slice(),
+            second: ran.second.as_slice(),
             report,
             lines,
             ends,
@@ -141,7 +143,8 @@ fn part_difference(
     match part.head {
         Head::Status => status(alloc, came, part.rest),
         Head::Report => report(alloc, came, part),
-        Head::Stream => stream(alloc, came, part),
+        Head::Stream => stream(alloc, came.stream, part),
+        Head::Second => second(alloc, came.second, part),
         Head::Dump => shown(alloc, came, part),
         Head::Cells => printed(alloc, came, part.rest),
         _ => Ok(None),
@@ -233,8 +236,8 @@ fn lacking(alloc: Global, wanted: &[Wanted<'_>], lines: &[&str]) -> Result<Optio
     Ok(None)
 }
 
-fn stream(alloc: Global, came: &Came<'_>, part: &Part<'_>) -> Result<Option<String>, Wrong> {
-    let got = came.stream.len();
+fn stream(alloc: Global, bytes: &[u8], part: &Part<'_>) -> Result<Option<String>, Wrong> {
+    let got = bytes.len();
     let (word, count) = first_word(part.rest.text);
     if word == "of" {
         let wanted = number::<usize>(part.rest.part(count))?;
@@ -244,11 +247,10 @@ fn stream(alloc: Global, came: &Came<'_>, part: &Part<'_>) -> Result<Option<Stri
         return Ok(Some(format!(in alloc; "a stream of {got} bytes, wanted {wanted}")?));
     }
     let wanted = all_bytes(alloc, part.lines)?;
-    if wanted.as_slice() == came.stream {
+    if wanted.as_slice() == bytes {
         return Ok(None);
     }
-    let same = came
-        .stream
+    let same = bytes
         .iter()
         .zip(wanted.as_slice().iter())
         .take_while(|(a, b)| a == b)
@@ -257,6 +259,20 @@ fn stream(alloc: Global, came: &Came<'_>, part: &Part<'_>) -> Result<Option<Stri
     Ok(Some(format!(in alloc;
         "a stream of {got} bytes, wanted {more}; the first {same} are the same"
     )?))
+}
+
+// What differs of the second terminal: its dump at a size, or its stream.
+fn second(alloc: Global, bytes: &[u8], part: &Part<'_>) -> Result<Option<String>, Wrong> {
+    let (side, _) = first_word(part.rest.text);
+    if side.is_empty() || side == "of" {
+        return stream(alloc, bytes, part);
+    }
+    let dump = dump(alloc, size(part.rest.part(side))?, bytes)?;
+    dump_difference(
+        alloc,
+        part,
+        str::from_utf8(dump.as_slice()).unwrap_or("no UTF-8"),
+    )
 }
 
 // The first and the last picture that a line says.

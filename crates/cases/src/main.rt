@@ -15,14 +15,14 @@ mod showing;
 mod strings;
 mod wanted;
 
-use each::each_difference;
+use each::{each_difference, other_difference};
 use events::events_difference;
 use fault::{Fault, Wrong};
 use judging::{Came, difference};
 use part::{Head, Line, Part, case_name, lines, parts};
 use reads::reads_difference;
 use running::host_case;
-use setup::{Setup, failing_end, times};
+use setup::{Setup, failing_end, other_words, times};
 use std::alloc::Global;
 use std::process::ExitCode;
 use std::rt::Files;
@@ -52,6 +52,9 @@ fn case_difference<T: Threads + Wait + Sync>(
         let came = Came::of(alloc, &ran, is_played)?;
         if let Some(text) = difference(alloc, &came, parts, failing)? {
             return Ok(Some(text));
+        }
+        if let Some(words) = other_words(alloc, parts)? {
+            return other_difference(rt, alloc, parts, words, &ran);
         }
         if let Some(each) = failing_end(parts)? {
             return each_difference(rt, alloc, parts, each, &ran);

@@ -11,11 +11,12 @@ use std::thread::Threads;
 /// How many clients a session may have, each with a rack of the four handlers.
 const CLIENTS: usize = 64;
 
-/// What a case answered, wrote to the terminal and reported.
+/// What a case answered, wrote to the terminal and to the second one, and reported.
 #[derive(Drop)]
 pub struct Ran {
     pub status: u8,
     pub written: Bytes,
+    pub second: Bytes,
     pub report: Bytes,
 }
 
@@ -61,6 +62,7 @@ pub fn host_case<T: Threads + Wait + Sync>(
         faults: 0,
     };
     let mut term = sink(alloc, setup.most, failing.term)?;
+    let mut second = sink(alloc, setup.most, failing.second)?;
     let mut report = sink(alloc, setup.most, failing.report)?;
     let status = console_host(
         rt,
@@ -69,6 +71,7 @@ pub fn host_case<T: Threads + Wait + Sync>(
         &mut files,
         &mut link,
         &mut term,
+        &mut second,
         &mut report,
         racks,
         &NoGate,
@@ -76,6 +79,7 @@ pub fn host_case<T: Threads + Wait + Sync>(
     Ok(Ran {
         status,
         written: term.written,
+        second: second.written,
         report: report.written,
     })
 }

@@ -6,7 +6,7 @@ use std::alloc::{AllocError, Global};
 use std::str::FromStr;
 
 /// The words, the files of a name each and what the terminal sends; the call of the files, the link, the
-/// terminal and the report that fails, counted from 0, where `u64::MAX` is none, and the most bytes that the last two take at once.
+/// terminals and the report that fails, counted from 0, where `u64::MAX` is none, and the most bytes that the last three take at once.
 #[derive(Drop)]
 pub struct Setup {
     pub words: Vec<String>,
@@ -23,6 +23,7 @@ pub enum End {
     Files,
     Link,
     Term,
+    Second,
     Report,
 }
 
@@ -33,6 +34,7 @@ impl End {
             "files" => Some(End::Files),
             "link" => Some(End::Link),
             "term" => Some(End::Term),
+            "second" => Some(End::Second),
             "report" => Some(End::Report),
             _ => None,
         }
@@ -45,6 +47,7 @@ pub struct Failing {
     pub files: u64,
     pub link: u64,
     pub term: u64,
+    pub second: u64,
     pub report: u64,
 }
 
@@ -54,6 +57,7 @@ impl Failing {
         files: u64::MAX,
         link: u64::MAX,
         term: u64::MAX,
+        second: u64::MAX,
         report: u64::MAX,
     };
 
@@ -66,6 +70,10 @@ impl Failing {
             },
             End::Link => Failing { link: call, ..self },
             End::Term => Failing { term: call, ..self },
+            End::Second => Failing {
+                second: call,
+                ..self
+            },
             End::Report => Failing {
                 report: call,
                 ..self
@@ -193,6 +201,18 @@ pub fn failing_end(parts: &[Part<'_>]) -> Result<Option<(End, u64)>, Wrong> {
     Ok(None)
 }
 
+/// The other words with which a case has to leave the same.
+pub fn other_words(alloc: Global, parts: &[Part<'_>]) -> Result<Option<Vec<String>>, Wrong> {
+    for part in parts {
+        if part.head == Head::Like {
+            let mut out = Vec::new(alloc);
+            words(alloc, part.rest, &mut out)?;
+            return Ok(Some(out));
+        }
+    }
+    Ok(None)
+}
+
 // The end and the number that a line says.
 fn end_number(line: Line<'_>) -> Result<(End, u64), Wrong> {
     let (name, count) = first_word(line.text);
@@ -216,7 +236,9 @@ fn frame(alloc: Global, line: Line<'_>, out: &mut Vec<u8>) -> Result<(), Wrong> 
     let rest = line.part(rest);
     match tag {
         "B" => typed(alloc, rest, out),
-        "R" => size(rest, out),
+        "R" => size(0x52, rest, out),
+        "A" => size(0x41, rest, out),
+        "D" => frames(0x44, rest, out),
         "Q" => frames(0x51, rest, out),
         "P" => frames(0x50, rest, out),
         "X" => frames(0x58, rest, out),
@@ -238,11 +260,11 @@ fn typed(alloc: Global, line: Line<'_>, out: &mut Vec<u8>) -> Result<(), Wrong> 
 }
 
 // A frame of a size.
-fn size(line: Line<'_>, out: &mut Vec<u8>) -> Result<(), Wrong> {
+fn size(tag: u8, line: Line<'_>, out: &mut Vec<u8>) -> Result<(), Wrong> {
     let (width, height) = first_word(line.text);
     let width = number::<u16>(line.part(width))?;
     let height = number::<u16>(line.part(height))?;
-    out.push(0x52)?;
+    out.push(tag)?;
     out.extend_from_slice(&width.to_be_bytes())?;
     out.extend_from_slice(&height.to_be_bytes())?;
     Ok(())

@@ -9,8 +9,8 @@ use Rattle.con_units.specs.declared.view.Frame.{Frame}
 use Rattle.con_units.specs.declared.view.Frame.TheVariants as frame
 use Rattle.con_units.specs.declared.view.FrameFault.{FrameFault}
 use Rattle.con_outside.specs.Outside.{then_left}
-use Rattle.con_link.specs.Frames.{spelling, is_frame, goes_on, ends_link, Answers, IsEnd, IsLink}
-use Rattle.con_link.specs.Only.{OneAnswer, OneFrame, is_told}
+use Rattle.con_link.specs.Frames.{goes_on, ends_link, IsEnd}
+use Rattle.con_link.specs.Reading.{Reading}
 use Rattle.con_link.specs.declared.fault.LinkFault.{LinkFault}
 use Rattle.con_link.specs.declared.fault.LinkFault.TheVariants as faults
 use Rattle.con_events.specs.declared.end.End.{End}
@@ -19,36 +19,35 @@ use Rattle.con_events.specs.declared.event.Event.{Event}
 use Rattle.con_events.specs.Session.{Clients}
 use Rattle.con_events.specs.declared.entry.Entry.{Entry}
 use Rattle.con_events.specs.declared.reply.Reply.{Reply}
-use Rattle.con_session.specs.Outcome.{HasSent, Leaves}
+use Rattle.con_session.specs.Outcome.{HasSentBy, LeavesBy}
+use Rattle.con_session.specs.Sender.{IsLinkBy, all_go_on}
 use Rattle.con_trace.specs.Ending.{status_of}
-use Rattle.con_host.specs.Foretold.{Foretells, HasNoFrame, Stands}
+use Rattle.con_host.specs.Foretold.{ForetellsBy, HasNoFrameBy, StandsBy}
 use Rattle.con_host.specs.Sessions.{IsStatus, ending_after}
+use Rattle.con_host.proofs.Certain.{Certain, IsTold}
 
-abbrev spelled : List Frame → List ℕ
-spelled fs = flat_map spelling fs
+abbrev spelled : (R : Reading) → List R.One → List ℕ
+spelled R fs = flat_map R.spelling fs
 
 -- the answers that say an end
-abbrev Says : Result Frame LinkFault → Type 0
-Says (Ok f) = ends_link f ≡ true
-Says (Err (faults.Bad place kind)) = Unit {0}
-Says (Err faults.TooLong) = Unit {0}
-Says (Err faults.Failed) = ⊥
-Says (Err faults.OutOfMemory) = ⊥
+abbrev Says : (R : Reading) → Result R.One LinkFault → Type 0
+Says R (Ok f) = ends_link (R.plain f) ≡ true
+Says R (Err (faults.Bad place kind)) = Unit {0}
+Says R (Err faults.TooLong) = Unit {0}
+Says R (Err faults.Failed) = ⊥
+Says R (Err faults.OutOfMemory) = ⊥
 
-told : (a : Result Frame LinkFault) → Says a → is_told a ≡ true
-told (Ok f) s = refl
-told (Err (faults.Bad place kind)) s = refl
-told (Err faults.TooLong) s = refl
-told (Err faults.Failed) s = absurd s
-told (Err faults.OutOfMemory) s = absurd s
+told : (R : Reading) (a : Result R.One LinkFault) → Says R a → IsTold a
+told R (Ok f) s = tt
+told R (Err (faults.Bad place kind)) s = tt
+told R (Err faults.TooLong) s = tt
+told R (Err faults.Failed) s = absurd s
+told R (Err faults.OutOfMemory) s = absurd s
 
 no : false ≡ true → ⊥
 no e = absurd (cc)
 
 -- ---- frames that go on
-
-no_end : (f : Frame) → goes_on f ≡ true → f ≡ frame.End → ⊥
-no_end f g e = no (ap goes_on (sym e) ∙ g)
 
 apart : (f : Frame) → ends_link f ≡ true → goes_on f ≡ true → ⊥
 apart f e g = no (ap not (sym e) ∙ g)
@@ -61,88 +60,77 @@ no_last frame.Ask more g = tt
 no_last frame.Hangup more g = tt
 no_last frame.End more g = absurd (no g)
 
-frame_answers : (f : Frame) (place : ℕ) (more : List ℕ) → is_frame f ≡ true → goes_on f ≡ true → place + length (spelling f) ≤ 16777216 → Answers (Ok f) place (spelling f) (Some more)
-frame_answers f place more fine g few = (refl, fine, no_last f more g, few)
+frame_answers : (R : Reading) → Certain R → (f : R.One) (place : ℕ) (more : List ℕ) → R.is_one f ≡ true → goes_on (R.plain f) ≡ true → place + length (R.spelling f) ≤ 16777216 → R.answers (Ok f) place (R.spelling f) (Some more)
+frame_answers R laws f place more fine g few = laws.made f place (Some more) fine (no_last (R.plain f) more g) few
 
--- what says an end stands within the limit
-within : (a : Result Frame LinkFault) (place : ℕ) (text : List ℕ) (left : Option (List ℕ)) → Says a → Answers a place text left → place ≤ 16777216
-within (Ok f) place text left s a = let few = a.3 in omega (arith, few)
-within (Err (faults.Bad at kind)) place text left s a = let few = a.2 in omega (arith, few)
-within (Err faults.TooLong) place text left s a =
-    let last = a.1 in
-    let size : length text ≡ length last.0 + 1 = ap length last.2 ∙ length-append last.0 (last.1 ∷ []) in
-    let most = a.0 in omega (arith, most, size)
-within (Err faults.Failed) place text left s a = absurd s
-within (Err faults.OutOfMemory) place text left s a = absurd s
-
-longer : (f : Frame) (fs : List Frame) → length (spelled (f ∷ fs)) ≡ length (spelling f) + length (spelled fs)
-longer f fs = length-append (spelling f) (spelled fs)
+longer : (R : Reading) (f : R.One) (fs : List R.One) → length (spelled R (f ∷ fs)) ≡ length (R.spelling f) + length (spelled R fs)
+longer R f fs = length-append (R.spelling f) (spelled R fs)
 
 -- a frame that goes on stands where an end is said
-none_there : OneAnswer → (g : Frame) (gs : List Frame) (a b : Result Frame LinkFault) (place : ℕ) (x l y m : List ℕ) → is_frame g ≡ true → goes_on g ≡ true → Says a → Says b
-    → Answers a (place + 0) x (Some l) → Answers b (place + length (spelled (g ∷ gs))) y (Some m) → x ++ l ≡ spelled (g ∷ gs) ++ (y ++ m) → ⊥
-none_there one g gs a b place x l y m fine goes s t p q e =
-    let most : place + length (spelled (g ∷ gs)) ≤ 16777216 = within b (place + length (spelled (g ∷ gs))) y (Some m) t q in
-    let few : place + 0 + length (spelling g) ≤ 16777216 = omega (arith, most, longer g gs) in
-    let at : x ++ l ≡ spelling g ++ (spelled gs ++ (y ++ m)) = e ∙ append_assoc (spelling g) (spelled gs) (y ++ m) in
-    let is : a ≡ Ok g = (one a (Ok g) (place + 0) x (spelling g) l (spelled gs ++ (y ++ m)) (told a s) refl p (frame_answers g (place + 0) (spelled gs ++ (y ++ m)) fine goes few) at).0 in
-    apart g (subst Says is s) goes
+none_there : (R : Reading) → Certain R → (g : R.One) (gs : List R.One) (a b : Result R.One LinkFault) (place : ℕ) (x l y m : List ℕ) → R.is_one g ≡ true → goes_on (R.plain g) ≡ true → Says R a → Says R b
+    → R.answers a (place + 0) x (Some l) → R.answers b (place + length (spelled R (g ∷ gs))) y (Some m) → x ++ l ≡ spelled R (g ∷ gs) ++ (y ++ m) → ⊥
+none_there R laws g gs a b place x l y m fine goes s t p q e =
+    let most : place + length (spelled R (g ∷ gs)) ≤ 16777216 = laws.within b (place + length (spelled R (g ∷ gs))) y (Some m) (told R b t) q in
+    let few : place + 0 + length (R.spelling g) ≤ 16777216 = omega (arith, most, longer R g gs) in
+    let at : x ++ l ≡ R.spelling g ++ (spelled R gs ++ (y ++ m)) = e ∙ append_assoc (R.spelling g) (spelled R gs) (y ++ m) in
+    let is : a ≡ Ok g = laws.answer a (Ok g) (place + 0) x (R.spelling g) l (spelled R gs ++ (y ++ m)) (told R a s) tt p (frame_answers R laws g (place + 0) (spelled R gs ++ (y ++ m)) fine goes few) at in
+    apart (R.plain g) (subst (Says R) is s) goes
 
-one_end : OneAnswer → OneFrame → (fs gs : List Frame) (a b : Result Frame LinkFault) (place : ℕ) (x l y m : List ℕ) → list_all is_frame fs ≡ true → list_all goes_on fs ≡ true → list_all is_frame gs ≡ true → list_all goes_on gs ≡ true
-    → Says a → Says b → Answers a (place + length (spelled fs)) x (Some l) → Answers b (place + length (spelled gs)) y (Some m) → spelled fs ++ (x ++ l) ≡ spelled gs ++ (y ++ m) → a ≡ b
-one_end one two [] [] a b place x l y m ff fg gf gg s t p q e = (one a b (place + 0) x y l m (told a s) (told b t) p q e).0
-one_end one two [] (g ∷ gs) a b place x l y m ff fg gf gg s t p q e =
-    absurd (none_there one g gs a b place x l y m (and_parts (is_frame g) (list_all is_frame gs) gf).0 (and_parts (goes_on g) (list_all goes_on gs) gg).0 s t p q e)
-one_end one two (f ∷ fs) [] a b place x l y m ff fg gf gg s t p q e =
-    absurd (none_there one f fs b a place y m x l (and_parts (is_frame f) (list_all is_frame fs) ff).0 (and_parts (goes_on f) (list_all goes_on fs) fg).0 t s q p (sym e))
-one_end one two (f ∷ fs) (g ∷ gs) a b place x l y m ff fg gf gg s t p q e =
-    let f1 = and_parts (is_frame f) (list_all is_frame fs) ff in
-    let f2 = and_parts (goes_on f) (list_all goes_on fs) fg in
-    let g1 = and_parts (is_frame g) (list_all is_frame gs) gf in
-    let g2 = and_parts (goes_on g) (list_all goes_on gs) gg in
-    let at : spelling f ++ (spelled fs ++ (x ++ l)) ≡ spelling g ++ (spelled gs ++ (y ++ m)) =
-    sym (append_assoc (spelling f) (spelled fs) (x ++ l)) ∙ (e ∙ append_assoc (spelling g) (spelled gs) (y ++ m)) in
-    let same = two f g (spelled fs ++ (x ++ l)) (spelled gs ++ (y ++ m)) f1.0 g1.0 (no_end f f2.0) (no_end g g2.0) at in
-    let size : length (spelling f) ≡ length (spelling g) = ap (λ z. length (spelling z)) same.0 in
-    let here : place + length (spelled (f ∷ fs)) ≡ place + length (spelling f) + length (spelled fs) = omega (arith, longer f fs) in
-    let there : place + length (spelled (g ∷ gs)) ≡ place + length (spelling f) + length (spelled gs) = omega (arith, longer g gs, size) in
-    one_end one two fs gs a b (place + length (spelling f)) x l y m f1.1 f2.1 g1.1 g2.1 s t (subst (λ n. Answers a n x (Some l)) here p) (subst (λ n. Answers b n y (Some m)) there q) same.1
+one_end : (R : Reading) → Certain R → (fs gs : List R.One) (a b : Result R.One LinkFault) (place : ℕ) (x l y m : List ℕ) → list_all R.is_one fs ≡ true → all_go_on R fs ≡ true → list_all R.is_one gs ≡ true → all_go_on R gs ≡ true
+    → Says R a → Says R b → R.answers a (place + length (spelled R fs)) x (Some l) → R.answers b (place + length (spelled R gs)) y (Some m) → spelled R fs ++ (x ++ l) ≡ spelled R gs ++ (y ++ m) → a ≡ b
+one_end R laws [] [] a b place x l y m ff fg gf gg s t p q e = laws.answer a b (place + 0) x y l m (told R a s) (told R b t) p q e
+one_end R laws [] (g ∷ gs) a b place x l y m ff fg gf gg s t p q e =
+    absurd (none_there R laws g gs a b place x l y m (and_parts (R.is_one g) (list_all R.is_one gs) gf).0 (and_parts (goes_on (R.plain g)) (all_go_on R gs) gg).0 s t p q e)
+one_end R laws (f ∷ fs) [] a b place x l y m ff fg gf gg s t p q e =
+    absurd (none_there R laws f fs b a place y m x l (and_parts (R.is_one f) (list_all R.is_one fs) ff).0 (and_parts (goes_on (R.plain f)) (all_go_on R fs) fg).0 t s q p (sym e))
+one_end R laws (f ∷ fs) (g ∷ gs) a b place x l y m ff fg gf gg s t p q e =
+    let f1 = and_parts (R.is_one f) (list_all R.is_one fs) ff in
+    let f2 = and_parts (goes_on (R.plain f)) (all_go_on R fs) fg in
+    let g1 = and_parts (R.is_one g) (list_all R.is_one gs) gf in
+    let g2 = and_parts (goes_on (R.plain g)) (all_go_on R gs) gg in
+    let at : R.spelling f ++ (spelled R fs ++ (x ++ l)) ≡ R.spelling g ++ (spelled R gs ++ (y ++ m)) =
+    sym (append_assoc (R.spelling f) (spelled R fs) (x ++ l)) ∙ (e ∙ append_assoc (R.spelling g) (spelled R gs) (y ++ m)) in
+    let same = laws.frame f g (spelled R fs ++ (x ++ l)) (spelled R gs ++ (y ++ m)) f1.0 g1.0 f2.0 g2.0 at in
+    let size : length (R.spelling f) ≡ length (R.spelling g) = ap (λ (z : R.One). length (R.spelling z)) same.0 in
+    let here : place + length (spelled R (f ∷ fs)) ≡ place + length (R.spelling f) + length (spelled R fs) = omega (arith, longer R f fs) in
+    let there : place + length (spelled R (g ∷ gs)) ≡ place + length (R.spelling f) + length (spelled R gs) = omega (arith, longer R g gs, size) in
+    one_end R laws fs gs a b (place + length (R.spelling f)) x l y m f1.1 f2.1 g1.1 g2.1 s t (subst (λ n. R.answers a n x (Some l)) here p) (subst (λ n. R.answers b n y (Some m)) there q) same.1
 
 -- ---- the end that an answer says
 
-abbrev end_said : Result Frame LinkFault → End
+abbrev end_said : {A : Type 0} → Result A LinkFault → End
 end_said (Ok f) = ends.Done
 end_said (Err (faults.Bad place kind)) = ends.Bad place kind
 end_said (Err faults.TooLong) = ends.TooLong
 end_said (Err faults.Failed) = ends.Link
 end_said (Err faults.OutOfMemory) = ends.Memory
 
-record Said (link : List ℕ) (end : End) : Type 0 where
-  answer : Result Frame LinkFault
-  says : Says answer
-  stands : Stands link answer
+record Said (R : Reading) (link : List ℕ) (end : End) : Type 0 where
+  answer : Result R.One LinkFault
+  says : Says R answer
+  stands : StandsBy R link answer
   is : end_said answer ≡ end
 
-said : (link : List ℕ) (end : End) → Foretells link end → Said link end
-said link ends.Done f = record { answer = Ok f.0; says = f.1; stands = f.2; is = refl }
-said link (ends.Bad place kind) f = record { answer = Err (faults.Bad place kind); says = tt; stands = f; is = refl }
-said link ends.TooLong f = record { answer = Err faults.TooLong; says = tt; stands = f; is = refl }
-said link ends.Term f = absurd f
-said link ends.Link f = absurd f
-said link ends.Memory f = absurd f
+said : (R : Reading) (link : List ℕ) (end : End) → ForetellsBy R link end → Said R link end
+said R link ends.Done f = record { answer = Ok f.0; says = f.1; stands = f.2; is = refl }
+said R link (ends.Bad place kind) f = record { answer = Err (faults.Bad place kind); says = tt; stands = f; is = refl }
+said R link ends.TooLong f = record { answer = Err faults.TooLong; says = tt; stands = f; is = refl }
+said R link ends.Term f = absurd f
+said R link ends.Link f = absurd f
+said R link ends.Memory f = absurd f
 
 zero_more : (n : ℕ) → n ≡ 0 + n
 zero_more n = omega arith
 
-same_end : OneAnswer → OneFrame → (link : List ℕ) (c d : End) → Said link c → Said link d → c ≡ d
-same_end one two link c d p q =
+same_end : (R : Reading) → Certain R → (link : List ℕ) (c d : End) → Said R link c → Said R link d → c ≡ d
+same_end R laws link c d p q =
     let s = p.stands in
     let t = q.stands in
-    let answers : p.answer ≡ q.answer = one_end one two s.frames t.frames p.answer q.answer 0 s.text s.rest t.text t.rest s.are_frames s.going t.are_frames t.going p.says q.says (subst (λ n. Answers p.answer n s.text (Some s.rest)) (zero_more _) s.answers) (subst (λ n. Answers q.answer n t.text (Some t.rest)) (zero_more _) t.answers) (sym s.spelled ∙ t.spelled) in
+    let answers : p.answer ≡ q.answer = one_end R laws s.frames t.frames p.answer q.answer 0 s.text s.rest t.text t.rest s.are_frames s.going t.are_frames t.going p.says q.says (subst (λ n. R.answers p.answer n s.text (Some s.rest)) (zero_more _) s.answers) (subst (λ n. R.answers q.answer n t.text (Some t.rest)) (zero_more _) t.answers) (sym s.spelled ∙ t.spelled) in
     sym p.is ∙ (ap end_said answers ∙ q.is)
 
-pub one_foretold : OneAnswer → OneFrame → (link : List ℕ) (c d : End) → Foretells link c → Foretells link d → c ≡ d
-one_foretold one two link c d f g = same_end one two link c d (said link c f) (said link d g)
+one_foretold : (R : Reading) → Certain R → (link : List ℕ) (c d : End) → ForetellsBy R link c → ForetellsBy R link d → c ≡ d
+one_foretold R laws link c d f g = same_end R laws link c d (said R link c f) (said R link d g)
 
 -- ---- the end of a session that ran
 
@@ -150,36 +138,36 @@ append_none : (xs : List ℕ) → xs ++ [] ≡ xs
 append_none [] = refl
 append_none (x ∷ xs) = ap (λ ys. x ∷ ys) (append_none xs)
 
-ended_spelled : (front : List Frame) (last : Frame) → spelled (front ++ last ∷ []) ≡ spelled front ++ spelling last
-ended_spelled front last = flat_map-append spelling front (last ∷ []) ∙ ap (λ t. spelled front ++ t) (append_none (spelling last))
+ended_spelled : (R : Reading) (front : List R.One) (last : R.One) → spelled R (front ++ last ∷ []) ≡ spelled R front ++ R.spelling last
+ended_spelled R front last = flat_map-append R.spelling front (last ∷ []) ∙ ap (λ t. spelled R front ++ t) (append_none (R.spelling last))
 
-done_foretold : (link : List ℕ) (frames : List Frame) (text rest : List ℕ) → list_all is_frame frames ≡ true → link ≡ (spelled frames ++ text) ++ rest → IsLink frames (Some rest) → text ≡ [] → length (spelled frames) ≤ 16777216 → Foretells link ends.Done
-done_foretold link frames text rest fine is l none few =
+done_foretold : (R : Reading) → Certain R → (link : List ℕ) (frames : List R.One) (text rest : List ℕ) → list_all R.is_one frames ≡ true → link ≡ (spelled R frames ++ text) ++ rest → IsLinkBy R frames (Some rest) → text ≡ [] → length (spelled R frames) ≤ 16777216 → ForetellsBy R link ends.Done
+done_foretold R laws link frames text rest fine is l none few =
     let front = l.0 in
     let last = l.1 in
-    let all : spelled frames ≡ spelled front ++ spelling last = ap spelled l.2 ∙ ended_spelled front last in
-    let apart = and_parts (list_all is_frame front) (list_all is_frame (last ∷ [])) (sym (list_all-append is_frame front (last ∷ [])) ∙ (ap (list_all is_frame) (sym l.2) ∙ fine)) in
-    let size : length (spelled frames) ≡ length (spelled front) + length (spelling last) = ap length all ∙ length-append (spelled front) (spelling last) in (
+    let all : spelled R frames ≡ spelled R front ++ R.spelling last = ap (spelled R) l.2 ∙ ended_spelled R front last in
+    let apart = and_parts (list_all R.is_one front) (list_all R.is_one (last ∷ [])) (sym (list_all-append R.is_one front (last ∷ [])) ∙ (ap (list_all R.is_one) (sym l.2) ∙ fine)) in
+    let size : length (spelled R frames) ≡ length (spelled R front) + length (R.spelling last) = ap length all ∙ length-append (spelled R front) (R.spelling last) in (
       last,
       l.4,
       record {
         frames = front;
-        text = spelling last;
+        text = R.spelling last;
         rest = rest;
-        spelled = is ∙ (ap (λ t. (spelled frames ++ t) ++ rest) none ∙ (ap (λ t. t ++ rest) (append_none (spelled frames) ∙ all) ∙ append_assoc (spelled front) (spelling last) rest));
+        spelled = is ∙ (ap (λ t. (spelled R frames ++ t) ++ rest) none ∙ (ap (λ t. t ++ rest) (append_none (spelled R frames) ∙ all) ∙ append_assoc (spelled R front) (R.spelling last) rest));
         are_frames = apart.0;
         going = l.3;
-        answers = (refl, (and_parts (is_frame last) true apart.1).0, l.5, omega (arith, few, size));
+        answers = laws.made last (length (spelled R front)) (Some rest) (and_parts (R.is_one last) true apart.1).0 l.5 (omega (arith, few, size));
       },
     )
 
-stopped : (link : List ℕ) (fault : LinkFault) (frames : List Frame) (text rest : List ℕ) → list_all is_frame frames ≡ true → list_all goes_on frames ≡ true → link ≡ (spelled frames ++ text) ++ rest
-    → Answers (Err fault) (length (spelled frames)) text (Some rest) → Stands link (Err fault)
-stopped link fault frames text rest fine going is a = record {
+stopped : (R : Reading) (link : List ℕ) (fault : LinkFault) (frames : List R.One) (text rest : List ℕ) → list_all R.is_one frames ≡ true → all_go_on R frames ≡ true → link ≡ (spelled R frames ++ text) ++ rest
+    → R.answers (Err fault) (length (spelled R frames)) text (Some rest) → StandsBy R link (Err fault)
+stopped R link fault frames text rest fine going is a = record {
   frames = frames;
   text = text;
   rest = rest;
-  spelled = is ∙ append_assoc (spelled frames) text rest;
+  spelled = is ∙ append_assoc (spelled R frames) text rest;
   are_frames = fine;
   going = going;
   answers = a;
@@ -194,13 +182,13 @@ IsSaid ends.Term = ⊥
 IsSaid ends.Link = ⊥
 IsSaid ends.Memory = ⊥
 
-ran_foretold : (link : List ℕ) (end : End) (frames : List Frame) (text rest : List ℕ) (sent : List Event) → list_all is_frame frames ≡ true → link ≡ (spelled frames ++ text) ++ rest → HasSent end frames text (Some rest) sent → IsSaid end → Foretells link end
-ran_foretold link ends.Done frames text rest sent fine is h s = done_foretold link frames text rest fine is h.0 h.1 h.2
-ran_foretold link (ends.Bad place kind) frames text rest sent fine is h s = stopped link (faults.Bad place kind) frames text rest fine h.0.0 is h.1
-ran_foretold link ends.TooLong frames text rest sent fine is h s = stopped link faults.TooLong frames text rest fine h.0.0 is h.1
-ran_foretold link ends.Term frames text rest sent fine is h s = absurd s
-ran_foretold link ends.Link frames text rest sent fine is h s = absurd s
-ran_foretold link ends.Memory frames text rest sent fine is h s = absurd s
+ran_foretold : (R : Reading) → Certain R → (link : List ℕ) (end : End) (frames : List R.One) (text rest : List ℕ) (sent : List Event) → list_all R.is_one frames ≡ true → link ≡ (spelled R frames ++ text) ++ rest → HasSentBy R end frames text (Some rest) sent → IsSaid end → ForetellsBy R link end
+ran_foretold R laws link ends.Done frames text rest sent fine is h s = done_foretold R laws link frames text rest fine is h.0 h.1 h.2
+ran_foretold R laws link (ends.Bad place kind) frames text rest sent fine is h s = stopped R link (faults.Bad place kind) frames text rest fine h.0.0 is h.1
+ran_foretold R laws link ends.TooLong frames text rest sent fine is h s = stopped R link faults.TooLong frames text rest fine h.0.0 is h.1
+ran_foretold R laws link ends.Term frames text rest sent fine is h s = absurd s
+ran_foretold R laws link ends.Link frames text rest sent fine is h s = absurd s
+ran_foretold R laws link ends.Memory frames text rest sent fine is h s = absurd s
 
 -- ---- by status
 
@@ -229,12 +217,12 @@ bytes_are : (link taken rest : List ℕ) (before : Option (List ℕ)) → before
 bytes_are link taken rest before e f = some_is _ _ (sym f ∙ e)
 
 -- a session that ran has the end that the bytes say, or there was no memory
-status_foretold : OneAnswer → OneFrame → (s : ℕ) (end e : End) (frames : List Frame) (text link : List ℕ) (before left : Option (List ℕ)) (sent : List Event) → IsStatus s end → list_all is_frame frames ≡ true → before ≡ then_left (spelled frames ++ text) left
-    → HasSent end frames text left sent → before ≡ Some link → Foretells link e → (s ≡ 4 → ⊥) → (s ≡ 5 → ⊥) → (s ≡ 6 → ⊥) → (s ≡ status_of (ending_after e)) ⊎ (s ≡ 9)
-status_foretold one two s end e frames text link before None sent is fine taken h f foretells l t r = let bad : None ≡ Some link = sym taken ∙ f in absurd (cc)
-status_foretold one two s end e frames text link before (Some rest) sent is fine taken h f foretells l t r = elim (settles s end is l t r) [
+status_foretold : (R : Reading) → Certain R → (s : ℕ) (end e : End) (frames : List R.One) (text link : List ℕ) (before left : Option (List ℕ)) (sent : List Event) → IsStatus s end → list_all R.is_one frames ≡ true → before ≡ then_left (spelled R frames ++ text) left
+    → HasSentBy R end frames text left sent → before ≡ Some link → ForetellsBy R link e → (s ≡ 4 → ⊥) → (s ≡ 5 → ⊥) → (s ≡ 6 → ⊥) → (s ≡ status_of (ending_after e)) ⊎ (s ≡ 9)
+status_foretold R laws s end e frames text link before None sent is fine taken h f foretells l t r = let bad : None ≡ Some link = sym taken ∙ f in absurd (cc)
+status_foretold R laws s end e frames text link before (Some rest) sent is fine taken h f foretells l t r = elim (settles s end is l t r) [
   | inl m ↦ inr m
-  | inr p ↦ inl (p.1 ∙ ap (λ d. status_of (ending_after d)) (one_foretold one two link end e (ran_foretold link end frames text rest sent fine (bytes_are link (spelled frames ++ text) rest before taken f) h p.0) foretells))
+  | inr p ↦ inl (p.1 ∙ ap (λ d. status_of (ending_after d)) (one_foretold R laws link end e (ran_foretold R laws link end frames text rest sent fine (bytes_are link (spelled R frames ++ text) rest before taken f) h p.0) foretells))
 ]
 
 eight : (end : End) → 8 ≡ status_of (ending_after end) → (place : ℕ) × (kind : FrameFault) × (end ≡ ends.Bad place kind)
@@ -272,31 +260,32 @@ ended_long s end is e = elim is [
 ]
 
 -- the status of a link without a frame at a place
-no_frame_there : (s : ℕ) (end : End) (frames : List Frame) (text : List ℕ) (before left : Option (List ℕ)) (sent : List Event) → IsStatus s end → list_all is_frame frames ≡ true → before ≡ then_left (spelled frames ++ text) left
-    → HasSent end frames text left sent → s ≡ 8 → IfSome before HasNoFrame
-no_frame_there s end frames text before None sent is fine taken h e = subst (λ b. IfSome b HasNoFrame) (sym taken) tt
-no_frame_there s end frames text before (Some rest) sent is fine taken h e =
+no_frame_there : (R : Reading) (s : ℕ) (end : End) (frames : List R.One) (text : List ℕ) (before left : Option (List ℕ)) (sent : List Event) → IsStatus s end → list_all R.is_one frames ≡ true → before ≡ then_left (spelled R frames ++ text) left
+    → HasSentBy R end frames text left sent → s ≡ 8 → IfSome before (HasNoFrameBy R)
+no_frame_there R s end frames text before None sent is fine taken h e = subst (λ b. IfSome b (HasNoFrameBy R)) (sym taken) tt
+no_frame_there R s end frames text before (Some rest) sent is fine taken h e =
     let bad = ended_bad s end is e in
-    let sent' : HasSent (ends.Bad bad.0 bad.1) frames text (Some rest) sent = subst (λ d. HasSent d frames text (Some rest) sent) bad.2 h in
-    subst (λ b. IfSome b HasNoFrame) (sym taken) (bad.0, bad.1, stopped ((spelled frames ++ text) ++ rest) (faults.Bad bad.0 bad.1) frames text rest fine sent'.0.0 refl sent'.1)
+    let sent' : HasSentBy R (ends.Bad bad.0 bad.1) frames text (Some rest) sent = subst (λ d. HasSentBy R d frames text (Some rest) sent) bad.2 h in
+    subst (λ b. IfSome b (HasNoFrameBy R)) (sym taken) (bad.0, bad.1, stopped R ((spelled R frames ++ text) ++ rest) (faults.Bad bad.0 bad.1) frames text rest fine sent'.0.0 refl sent'.1)
 
 -- the status of a link with too many bytes
-much_taken : (s : ℕ) (end : End) (frames : List Frame) (text : List ℕ) (before left : Option (List ℕ)) (sent : List Event) → IsStatus s end → before ≡ then_left (spelled frames ++ text) left → HasSent end frames text left sent → s ≡ 10
+much_taken : (R : Reading) → Certain R → (s : ℕ) (end : End) (frames : List R.One) (text : List ℕ) (before left : Option (List ℕ)) (sent : List Event) → IsStatus s end → before ≡ then_left (spelled R frames ++ text) left → HasSentBy R end frames text left sent → s ≡ 10
     → (taken : List ℕ) × (before ≡ then_left taken left) × (16777216 < length taken)
-much_taken s end frames text before left sent is taken h e =
-    let sent' : HasSent ends.TooLong frames text left sent = subst (λ d. HasSent d frames text left sent) (ended_long s end is e) h in
-    let most = sent'.1.0 in
-    (spelled frames ++ text, taken, omega (arith, most, length-append (spelled frames) text))
+much_taken R laws s end frames text before left sent is taken h e =
+    let sent' : HasSentBy R ends.TooLong frames text left sent = subst (λ d. HasSentBy R d frames text left sent) (ended_long s end is e) h in
+    let most = laws.long (length (spelled R frames)) text left sent'.1 in
+    (spelled R frames ++ text, taken, omega (arith, most, length-append (spelled R frames) text))
 
 -- ---- of what a session left
 
-pub left_foretold : OneAnswer → OneFrame → (s : ℕ) (session : Clients) (racks : List (List ℕ)) (h : List Entry) (rs : List Reply) (es : List ℕ) (end e : End) (link : List ℕ) (before left old now : Option (List ℕ)) → Leaves session racks h rs es end before left old now → IsStatus s end
-    → before ≡ Some link → Foretells link e → (s ≡ 4 → ⊥) → (s ≡ 5 → ⊥) → (s ≡ 6 → ⊥) → (s ≡ status_of (ending_after e)) ⊎ (s ≡ 9)
-left_foretold one two s session racks h rs es end e link before left old now o is known says l t r = status_foretold one two s end e o.frames o.text link before left _ is o.frames' o.taken o.side known says l t r
+pub left_foretold : (R : Reading) (More : List R.One → List Entry → Type 0) → Certain R → (s : ℕ) (session : Clients) (racks : List (List ℕ)) (h : List Entry) (rs : List Reply) (es : List ℕ) (end e : End) (link : List ℕ) (before left old now : Option (List ℕ))
+    → LeavesBy R More session racks h rs es end before left old now → IsStatus s end → before ≡ Some link → ForetellsBy R link e → (s ≡ 4 → ⊥) → (s ≡ 5 → ⊥) → (s ≡ 6 → ⊥) → (s ≡ status_of (ending_after e)) ⊎ (s ≡ 9)
+left_foretold R More laws s session racks h rs es end e link before left old now o is known says l t r = status_foretold R laws s end e o.frames o.text link before left _ is o.frames' o.taken o.side known says l t r
 
-pub left_no_frame : (s : ℕ) (session : Clients) (racks : List (List ℕ)) (h : List Entry) (rs : List Reply) (es : List ℕ) (end : End) (before left old now : Option (List ℕ)) → Leaves session racks h rs es end before left old now → IsStatus s end → s ≡ 8 → IfSome before HasNoFrame
-left_no_frame s session racks h rs es end before left old now o is e = no_frame_there s end o.frames o.text before left _ is o.frames' o.taken o.side e
+pub left_no_frame : (R : Reading) (More : List R.One → List Entry → Type 0) (s : ℕ) (session : Clients) (racks : List (List ℕ)) (h : List Entry) (rs : List Reply) (es : List ℕ) (end : End) (before left old now : Option (List ℕ)) → LeavesBy R More session racks h rs es end before left old now
+    → IsStatus s end → s ≡ 8 → IfSome before (HasNoFrameBy R)
+left_no_frame R More s session racks h rs es end before left old now o is e = no_frame_there R s end o.frames o.text before left _ is o.frames' o.taken o.side e
 
-pub left_too_much : (s : ℕ) (session : Clients) (racks : List (List ℕ)) (h : List Entry) (rs : List Reply) (es : List ℕ) (end : End) (before left old now : Option (List ℕ)) → Leaves session racks h rs es end before left old now → IsStatus s end → s ≡ 10
-    → (taken : List ℕ) × (before ≡ then_left taken left) × (16777216 < length taken)
-left_too_much s session racks h rs es end before left old now o is e = much_taken s end o.frames o.text before left _ is o.taken o.side e
+pub left_too_much : (R : Reading) (More : List R.One → List Entry → Type 0) → Certain R → (s : ℕ) (session : Clients) (racks : List (List ℕ)) (h : List Entry) (rs : List Reply) (es : List ℕ) (end : End) (before left old now : Option (List ℕ)) → LeavesBy R More session racks h rs es end before left old now
+    → IsStatus s end → s ≡ 10 → (taken : List ℕ) × (before ≡ then_left taken left) × (16777216 < length taken)
+left_too_much R More laws s session racks h rs es end before left old now o is e = much_taken R laws s end o.frames o.text before left _ is o.taken o.side e

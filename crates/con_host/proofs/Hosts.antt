@@ -1,24 +1,26 @@
 -- How the top call ends, by what the words ask for.
-use Rattle.std.proofs.Common.{◌≡◌, ℕ, List, [], Option, Some, None, refl, subst, ap, ◌∙◌, arith, ◌⊎◌, inr}
+use Rattle.std.proofs.Common.{◌≡◌, ℕ, List, [], Option, Some, None, refl, sym, subst, ap, ◌∙◌, arith, ◌⊎◌, inr}
 use Rattle.con_units.specs.declared.place.Size.{Size}
 use Rattle.con_outside.specs.Outside.{then_left, then_written, WroteFront, WrotePart}
 use Rattle.con_outside.specs.Laws.{then_left-none}
 use Rattle.con_host.specs.Ending.{end_line}
 use Rattle.con_host.specs.Generating.{Generated}
 use Rattle.con_host.specs.Hosting.{Hosted}
+use Rattle.con_host.specs.Mirroring.{HasMirrored}
 use Rattle.con_host.specs.Playing.{Played}
 use Rattle.con_host.specs.Sessions.{HasRun, Soloed}
 use Rattle.con_host.specs.Typing.{Typed}
-use Rattle.con_words.specs.Words.{Asked, typing, playing, running, solo, generating}
+use Rattle.con_words.specs.Words.{Asked, typing, playing, running, solo, mirroring, generating}
 use Rattle.con_host.proofs.Ends.{no_memory as no_playing}
 use Rattle.con_host.proofs.Generations.{no_memory as no_generating}
 use Rattle.con_host.proofs.Lines.{part_of, nothing_yet}
 use Rattle.con_host.proofs.SessionLemmas.{no_memory as no_running, no_turns}
+use Rattle.con_host.proofs.Mirrors.{no_mirror}
 use Rattle.con_host.proofs.Types.{no_memory as no_typing}
 
-pub no_form : (s : ℕ) (asked : Option Asked) (files : Option (List ℕ → Option (List ℕ))) (files_failed : Type 0) (racks : List (List ℕ)) (before old before_report report : Option (List ℕ)) (failed : Type 0) → None ≡ asked → (s ≡ 2) ⊎ (s ≡ 9) → WroteFront (end_line 2) before_report report
-    → (s ≡ 2 → ¬ failed → report ≡ then_written before_report (end_line 2)) → (¬ (s ≡ 2) → WrotePart (end_line 2) before_report report) → Hosted s asked files files_failed racks before before old old before_report report failed
-no_form s asked files files_failed racks before old before_report report failed is which front whole part = record {
+pub no_form : (s : ℕ) (asked : Option Asked) (files : Option (List ℕ → Option (List ℕ))) (files_failed : Type 0) (racks : List (List ℕ)) (before old second before_report report : Option (List ℕ)) (failed second_failed : Type 0) → None ≡ asked → (s ≡ 2) ⊎ (s ≡ 9) → WroteFront (end_line 2) before_report report
+    → (s ≡ 2 → ¬ failed → report ≡ then_written before_report (end_line 2)) → (¬ (s ≡ 2) → WrotePart (end_line 2) before_report report) → Hosted s asked files files_failed racks before before old old second second before_report report failed second_failed
+no_form s asked files files_failed racks before old second before_report report failed second_failed is which front whole part = record {
   usage = λ _. record {
     comes = which;
     nothing_taken = refl;
@@ -31,11 +33,13 @@ no_form s asked files files_failed racks before old before_report report failed 
   ran = λ name e. absurd (cc);
   soloed = λ name e. absurd (cc);
   generated = λ seed e. absurd (cc);
+  mirrored = λ name e. absurd (cc);
+  second_same = λ _. refl;
 }
 
 -- there was no memory for the words
-pub no_words : (asked : Option Asked) (files : Option (List ℕ → Option (List ℕ))) (files_failed : Type 0) (racks : List (List ℕ)) (before old before_report : Option (List ℕ)) (failed : Type 0) → Hosted 9 asked files files_failed racks before before old old before_report before_report failed
-no_words asked files files_failed racks before old before_report failed = record {
+pub no_words : (asked : Option Asked) (files : Option (List ℕ → Option (List ℕ))) (files_failed : Type 0) (racks : List (List ℕ)) (before old second before_report : Option (List ℕ)) (failed second_failed : Type 0) → Hosted 9 asked files files_failed racks before before old old second second before_report before_report failed second_failed
+no_words asked files files_failed racks before old second before_report failed second_failed = record {
   usage = λ _. record {
     comes = inr refl;
     nothing_taken = refl;
@@ -48,17 +52,21 @@ no_words asked files files_failed racks before old before_report failed = record
   ran = λ name _. no_running files name files_failed racks before old before_report failed;
   soloed = λ name _. no_turns files name files_failed racks before old before_report failed;
   generated = λ seed _. (refl, no_generating seed old before_report failed);
+  mirrored = λ name _. no_mirror files name files_failed racks before old second before_report failed second_failed;
+  second_same = λ _. refl;
 }
 
-pub as_typed : (s : ℕ) (asked : Option Asked) (files : Option (List ℕ → Option (List ℕ))) (files_failed : Type 0) (racks : List (List ℕ)) (before left old now before_report report : Option (List ℕ)) (failed : Type 0) → Some typing ≡ asked
-    → (text : List ℕ) × (before ≡ then_left text left) × Typed s text left old now before_report report failed → Hosted s asked files files_failed racks before left old now before_report report failed
-as_typed s asked files files_failed racks before left old now before_report report failed is t = record {
+pub as_typed : (s : ℕ) (asked : Option Asked) (files : Option (List ℕ → Option (List ℕ))) (files_failed : Type 0) (racks : List (List ℕ)) (before left old now second before_report report : Option (List ℕ)) (failed second_failed : Type 0) → Some typing ≡ asked
+    → (text : List ℕ) × (before ≡ then_left text left) × Typed s text left old now before_report report failed → Hosted s asked files files_failed racks before left old now second second before_report report failed second_failed
+as_typed s asked files files_failed racks before left old now second before_report report failed second_failed is t = record {
   usage = λ e. absurd (cc);
   typed = λ _. t;
   played = λ size e. absurd (cc);
   ran = λ name e. absurd (cc);
   soloed = λ name e. absurd (cc);
   generated = λ seed e. absurd (cc);
+  mirrored = λ name e. absurd (cc);
+  second_same = λ _. refl;
 }
 
 size_in : Option Asked → Size → Size
@@ -67,6 +75,7 @@ size_in (Some typing) other = other
 size_in (Some (playing size)) other = size
 size_in (Some (running name)) other = other
 size_in (Some (solo name)) other = other
+size_in (Some (mirroring name)) other = other
 size_in (Some (generating seed)) other = other
 
 name_in : Option Asked → List ℕ
@@ -75,6 +84,7 @@ name_in (Some typing) = []
 name_in (Some (playing size)) = []
 name_in (Some (running name)) = name
 name_in (Some (solo name)) = name
+name_in (Some (mirroring name)) = name
 name_in (Some (generating seed)) = []
 
 same_size : (asked : Option Asked) (a b : Size) → Some (playing a) ≡ asked → asked ≡ Some (playing b) → a ≡ b
@@ -89,37 +99,60 @@ pub same_run : (asked : Option Asked) (a b : List ℕ) → Some (running a) ≡ 
 unfolding name_in
 same_run asked a b e f = ap name_in (e ∙ f)
 
-pub as_played : (s : ℕ) (size : Size) (asked : Option Asked) (files : Option (List ℕ → Option (List ℕ))) (files_failed : Type 0) (racks : List (List ℕ)) (before left old before_report report : Option (List ℕ)) (failed : Type 0) → Some (playing size) ≡ asked
-    → (text : List ℕ) × (before ≡ then_left text left) × Played s size text left before_report report failed → Hosted s asked files files_failed racks before left old old before_report report failed
-as_played s size asked files files_failed racks before left old before_report report failed is t = record {
+pub same_mirror : (asked : Option Asked) (a b : List ℕ) → Some (mirroring a) ≡ asked → asked ≡ Some (mirroring b) → a ≡ b
+unfolding name_in
+same_mirror asked a b e f = ap name_in (e ∙ f)
+
+pub as_played : (s : ℕ) (size : Size) (asked : Option Asked) (files : Option (List ℕ → Option (List ℕ))) (files_failed : Type 0) (racks : List (List ℕ)) (before left old second before_report report : Option (List ℕ)) (failed second_failed : Type 0) → Some (playing size) ≡ asked
+    → (text : List ℕ) × (before ≡ then_left text left) × Played s size text left before_report report failed → Hosted s asked files files_failed racks before left old old second second before_report report failed second_failed
+as_played s size asked files files_failed racks before left old second before_report report failed second_failed is t = record {
   usage = λ e. absurd (cc);
   typed = λ e. absurd (cc);
   played = λ other e. (refl, subst (λ z. (text : List ℕ) × (before ≡ then_left text left) × Played s z text left before_report report failed) (same_size asked size other is e) t);
   ran = λ name e. absurd (cc);
   soloed = λ name e. absurd (cc);
   generated = λ seed e. absurd (cc);
+  mirrored = λ name e. absurd (cc);
+  second_same = λ _. refl;
 }
 
-pub as_ran : (s : ℕ) (name : List ℕ) (asked : Option Asked) (files : Option (List ℕ → Option (List ℕ))) (files_failed : Type 0) (racks : List (List ℕ)) (before left old now before_report report : Option (List ℕ)) (failed : Type 0) → Some (running name) ≡ asked
-    → HasRun s files name files_failed racks before left old now before_report report failed → Hosted s asked files files_failed racks before left old now before_report report failed
-as_ran s name asked files files_failed racks before left old now before_report report failed is t = record {
+pub as_ran : (s : ℕ) (name : List ℕ) (asked : Option Asked) (files : Option (List ℕ → Option (List ℕ))) (files_failed : Type 0) (racks : List (List ℕ)) (before left old now second before_report report : Option (List ℕ)) (failed second_failed : Type 0) → Some (running name) ≡ asked
+    → HasRun s files name files_failed racks before left old now before_report report failed → Hosted s asked files files_failed racks before left old now second second before_report report failed second_failed
+as_ran s name asked files files_failed racks before left old now second before_report report failed second_failed is t = record {
   usage = λ e. absurd (cc);
   typed = λ e. absurd (cc);
   played = λ size e. absurd (cc);
   ran = λ other e. subst (λ n. HasRun s files n files_failed racks before left old now before_report report failed) (same_run asked name other is e) t;
   soloed = λ name e. absurd (cc);
   generated = λ seed e. absurd (cc);
+  mirrored = λ name e. absurd (cc);
+  second_same = λ _. refl;
 }
 
-pub as_soloed : (s : ℕ) (name : List ℕ) (asked : Option Asked) (files : Option (List ℕ → Option (List ℕ))) (files_failed : Type 0) (racks : List (List ℕ)) (before left old now before_report report : Option (List ℕ)) (failed : Type 0) → Some (solo name) ≡ asked
-    → Soloed s files name files_failed racks before left old now before_report report failed → Hosted s asked files files_failed racks before left old now before_report report failed
-as_soloed s name asked files files_failed racks before left old now before_report report failed is t = record {
+pub as_soloed : (s : ℕ) (name : List ℕ) (asked : Option Asked) (files : Option (List ℕ → Option (List ℕ))) (files_failed : Type 0) (racks : List (List ℕ)) (before left old now second before_report report : Option (List ℕ)) (failed second_failed : Type 0) → Some (solo name) ≡ asked
+    → Soloed s files name files_failed racks before left old now before_report report failed → Hosted s asked files files_failed racks before left old now second second before_report report failed second_failed
+as_soloed s name asked files files_failed racks before left old now second before_report report failed second_failed is t = record {
   usage = λ e. absurd (cc);
   typed = λ e. absurd (cc);
   played = λ size e. absurd (cc);
   ran = λ name e. absurd (cc);
   soloed = λ other e. subst (λ n. Soloed s files n files_failed racks before left old now before_report report failed) (same_name asked name other is e) t;
   generated = λ seed e. absurd (cc);
+  mirrored = λ name e. absurd (cc);
+  second_same = λ _. refl;
+}
+
+pub as_mirrored : (s : ℕ) (name : List ℕ) (asked : Option Asked) (files : Option (List ℕ → Option (List ℕ))) (files_failed : Type 0) (racks : List (List ℕ)) (before left old now was written before_report report : Option (List ℕ)) (failed second_failed : Type 0) → Some (mirroring name) ≡ asked
+    → HasMirrored s files name files_failed racks before left old now was written before_report report failed second_failed → Hosted s asked files files_failed racks before left old now was written before_report report failed second_failed
+as_mirrored s name asked files files_failed racks before left old now was written before_report report failed second_failed is t = record {
+  usage = λ e. absurd (cc);
+  typed = λ e. absurd (cc);
+  played = λ size e. absurd (cc);
+  ran = λ name e. absurd (cc);
+  soloed = λ name e. absurd (cc);
+  generated = λ seed e. absurd (cc);
+  mirrored = λ other e. subst (λ n. HasMirrored s files n files_failed racks before left old now was written before_report report failed second_failed) (same_mirror asked name other is e) t;
+  second_same = λ other. absurd (other name (sym is));
 }
 
 seed_in : Option Asked → ℕ
@@ -128,19 +161,22 @@ seed_in (Some typing) = 0
 seed_in (Some (playing size)) = 0
 seed_in (Some (running name)) = 0
 seed_in (Some (solo name)) = 0
+seed_in (Some (mirroring name)) = 0
 seed_in (Some (generating seed)) = seed
 
 same_seed : (asked : Option Asked) (a b : ℕ) → Some (generating a) ≡ asked → asked ≡ Some (generating b) → a ≡ b
 unfolding seed_in
 same_seed asked a b e f = ap seed_in (e ∙ f)
 
-pub as_generated : (s seed : ℕ) (asked : Option Asked) (files : Option (List ℕ → Option (List ℕ))) (files_failed : Type 0) (racks : List (List ℕ)) (before old now before_report report : Option (List ℕ)) (failed : Type 0) → Some (generating seed) ≡ asked
-    → Generated s seed old now before_report report failed → Hosted s asked files files_failed racks before before old now before_report report failed
-as_generated s seed asked files files_failed racks before old now before_report report failed is t = record {
+pub as_generated : (s seed : ℕ) (asked : Option Asked) (files : Option (List ℕ → Option (List ℕ))) (files_failed : Type 0) (racks : List (List ℕ)) (before old now second before_report report : Option (List ℕ)) (failed second_failed : Type 0) → Some (generating seed) ≡ asked
+    → Generated s seed old now before_report report failed → Hosted s asked files files_failed racks before before old now second second before_report report failed second_failed
+as_generated s seed asked files files_failed racks before old now second before_report report failed second_failed is t = record {
   usage = λ e. absurd (cc);
   typed = λ e. absurd (cc);
   played = λ size e. absurd (cc);
   ran = λ name e. absurd (cc);
   soloed = λ name e. absurd (cc);
   generated = λ other e. (refl, subst (λ n. Generated s n old now before_report report failed) (same_seed asked seed other is e) t);
+  mirrored = λ name e. absurd (cc);
+  second_same = λ _. refl;
 }

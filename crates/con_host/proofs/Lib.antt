@@ -8,5 +8,9 @@ pub mod Hosts
 pub mod SessionLemmas
 pub mod TellLemmas
 pub mod Generations
+pub mod Certain
 pub mod Foretelling
 pub mod Reasons
+pub mod Reports
+pub mod Tells
+pub mod Mirrors

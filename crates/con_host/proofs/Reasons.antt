@@ -65,3 +65,13 @@ never_eight s why last before now failed is t e = by_last 8 s why last before no
 
 pub never_ten : (s : ℕ) (why : Reason) (last : Ending) (before now : Option (List ℕ)) (failed : Type 0) → last ≡ ending_for why → Tells s last before now failed → s ≡ 10 → ⊥
 never_ten s why last before now failed is t e = by_last 10 s why last before now failed is t e (λ f. absurd (omega (arith, f))) (ten_for why)
+
+twelve_for : (why : Reason) → 12 ≡ status_of (ending_for why) → ⊥
+twelve_for missing e = let bad : 12 ≡ 7 = e in absurd (omega arith)
+twelve_for unread e = let bad : 12 ≡ 7 = e in absurd (omega arith)
+twelve_for too_long e = let bad : 12 ≡ 3 = e in absurd (omega arith)
+twelve_for (no_json bytes) e = let bad : 12 ≡ 3 = e in absurd (omega arith)
+twelve_for (no_session bytes w) e = let bad : 12 ≡ 3 = e in absurd (omega arith)
+
+pub never_twelve : (s : ℕ) (why : Reason) (last : Ending) (before now : Option (List ℕ)) (failed : Type 0) → last ≡ ending_for why → Tells s last before now failed → s ≡ 12 → ⊥
+never_twelve s why last before now failed is t e = by_last 12 s why last before now failed is t e (λ f. absurd (omega (arith, f))) (twelve_for why)

@@ -108,7 +108,7 @@ two_nine s e f = let bad : 2 ≡ 9 = sym e ∙ f in absurd (omega arith)
 two_six : (s : ℕ) → s ≡ 2 → s ≡ 6 → ⊥
 two_six s e f = let bad : 2 ≡ 6 = sym e ∙ f in absurd (omega arith)
 
-two_ran : (s : ℕ) (end : End) → s ≡ 2 → IsStatus s end → ⊥
+pub two_ran : (s : ℕ) (end : End) → s ≡ 2 → IsStatus s end → ⊥
 two_ran s end e is = elim is [
   | inl f ↦ two end (sym e ∙ f)
   | inr rest ↦ elim rest [
@@ -123,7 +123,7 @@ two_told s why before now failed e t = elim t [
   | inr f ↦ two_nine s e f.0
 ]
 
-two_not_run : (s : ℕ) (files : Option (List ℕ → Option (List ℕ))) (name : List ℕ) (files_failed : Type 0) (before left old now before_report report : Option (List ℕ)) (failed : Type 0) → s ≡ 2 → NotRun s files name files_failed before left old now before_report report failed → ⊥
+pub two_not_run : (s : ℕ) (files : Option (List ℕ → Option (List ℕ))) (name : List ℕ) (files_failed : Type 0) (before left old now before_report report : Option (List ℕ)) (failed : Type 0) → s ≡ 2 → NotRun s files name files_failed before left old now before_report report failed → ⊥
 two_not_run s files name files_failed before left old now before_report report failed e n = elim n.told [
   | inl f ↦ two_nine s e f.0
   | inr w ↦ two_told s w.0 before_report report failed e w.2

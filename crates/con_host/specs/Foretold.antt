@@ -1,39 +1,54 @@
 -- What the bytes of a link say of a session's end.
 use Rattle.std.specs.Prelude.{◌≡◌, ℕ, ◌≤◌, true, List, ◌++◌, flat_map, length, Option, Some, Result, Ok, Err}
 use Rattle.std.specs.List.{list_all}
-use Rattle.con_units.specs.declared.view.Frame.{Frame}
 use Rattle.con_units.specs.declared.view.FrameFault.{FrameFault}
-use Rattle.con_link.specs.Frames.{spelling, is_frame, goes_on, ends_link, Answers}
+use Rattle.con_link.specs.Frames.{ends_link}
+use Rattle.con_link.specs.Reading.{Reading, plainly, mirrored}
 use Rattle.con_link.specs.declared.fault.LinkFault.{LinkFault}
 use Rattle.con_link.specs.declared.fault.LinkFault.TheVariants as faults
 use Rattle.con_events.specs.Session.{Clients}
 use Rattle.con_events.specs.declared.end.End.{End}
 use Rattle.con_events.specs.declared.end.End.TheVariants as ends
 use Rattle.con_script.specs.Document.{document}
+use Rattle.con_session.specs.Sender.{all_go_on}
 
--- The link's bytes are frames, one after another from its first byte and none of them an X, and behind them stands what is answered so.
-pub record Stands (link : List ℕ) (answer : Result Frame LinkFault) : Type 0 where
-  pub frames : List Frame
+-- The link's bytes, read in this way, are frames, one after another from its first byte and none of them an X, and behind them stands what is answered so.
+pub record StandsBy (R : Reading) (link : List ℕ) (answer : Result R.One LinkFault) : Type 0 where
+  pub frames : List R.One
   pub text : List ℕ
   pub rest : List ℕ
-  pub spelled : link ≡ flat_map spelling frames ++ (text ++ rest)
-  pub are_frames : list_all is_frame frames ≡ true
-  pub going : list_all goes_on frames ≡ true
-  pub answers : Answers answer (length (flat_map spelling frames)) text (Some rest)
+  pub spelled : link ≡ flat_map R.spelling frames ++ (text ++ rest)
+  pub are_frames : list_all R.is_one frames ≡ true
+  pub going : all_go_on R frames ≡ true
+  pub answers : R.answers answer (length (flat_map R.spelling frames)) text (Some rest)
 
 -- Done: whole frames through the first X, or to the link's end, of at most 16,777,216 bytes. Bad: no frame at that place, which is the first such one. Too
 -- long: more bytes than that without an end or a fault.
-abbrev pub Foretells : List ℕ → End → Type 0
-Foretells link ends.Done = (last : Frame) × (ends_link last ≡ true) × Stands link (Ok last)
-Foretells link (ends.Bad place kind) = Stands link (Err (faults.Bad place kind))
-Foretells link ends.TooLong = Stands link (Err faults.TooLong)
-Foretells link ends.Term = ⊥
-Foretells link ends.Link = ⊥
-Foretells link ends.Memory = ⊥
+abbrev pub ForetellsBy : (R : Reading) → List ℕ → End → Type 0
+ForetellsBy R link ends.Done = (last : R.One) × (ends_link (R.plain last) ≡ true) × StandsBy R link (Ok last)
+ForetellsBy R link (ends.Bad place kind) = StandsBy R link (Err (faults.Bad place kind))
+ForetellsBy R link ends.TooLong = StandsBy R link (Err faults.TooLong)
+ForetellsBy R link ends.Term = ⊥
+ForetellsBy R link ends.Link = ⊥
+ForetellsBy R link ends.Memory = ⊥
 
 -- some frame is missing at some place
+abbrev pub HasNoFrameBy : (R : Reading) → List ℕ → Type 0
+HasNoFrameBy R link = (place : ℕ) × (kind : FrameFault) × ForetellsBy R link (ends.Bad place kind)
+
+-- of a link with no second terminal
+abbrev pub Foretells : List ℕ → End → Type 0
+Foretells link end = ForetellsBy plainly link end
+
 abbrev pub HasNoFrame : List ℕ → Type 0
-HasNoFrame link = (place : ℕ) × (kind : FrameFault) × Foretells link (ends.Bad place kind)
+HasNoFrame link = HasNoFrameBy plainly link
+
+-- of a link that may have one, where A and D are frames too
+abbrev pub MirrorForetells : List ℕ → End → Type 0
+MirrorForetells link end = ForetellsBy mirrored link end
+
+abbrev pub HasNoMirrorFrame : List ℕ → Type 0
+HasNoMirrorFrame link = HasNoFrameBy mirrored link
 
 -- files are told, and the one of this name is this session
 abbrev pub IsSession : Option (List ℕ → Option (List ℕ)) → List ℕ → Clients → Type 0

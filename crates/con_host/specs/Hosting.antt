@@ -1,13 +1,14 @@
 -- What the top call does, by its words.
-use Rattle.std.specs.Prelude.{◌≡◌, ℕ, ◌⊎◌, List, Option, Some, None}
+use Rattle.std.specs.Prelude.{◌≡◌, ◌≢◌, ℕ, ◌⊎◌, List, Option, Some, None}
 use Rattle.con_units.specs.declared.place.Size.{Size}
 use Rattle.con_outside.specs.Outside.{WrotePart, then_left}
 use Rattle.con_host.specs.Ending.{end_line}
 use Rattle.con_host.specs.Generating.{Generated}
+use Rattle.con_host.specs.Mirroring.{HasMirrored}
 use Rattle.con_host.specs.Playing.{Played, Told}
 use Rattle.con_host.specs.Sessions.{HasRun, Soloed}
 use Rattle.con_host.specs.Typing.{Typed}
-use Rattle.con_words.specs.Words.{Asked, typing, playing, running, solo, generating}
+use Rattle.con_words.specs.Words.{Asked, typing, playing, running, solo, mirroring, generating}
 
 -- Words that are no form: the line that says so was written, or there was no memory for it.
 pub record Refused (status : ℕ) (before left old now before_report report : Option (List ℕ)) (failed : Type 0) : Type 0 where
@@ -17,12 +18,15 @@ pub record Refused (status : ℕ) (before left old now before_report report : Op
   pub told : status ≡ 2 → Told (end_line 2) before_report report failed
   pub memory : status ≡ 9 → WrotePart (end_line 2) before_report report
 
--- By what the words ask for, whose statuses are those of its record: what the link had left before and after, what the terminal has, and what
--- the report has; `failed` says that the report failed, `files_failed` that the files did.
-pub record Hosted (status : ℕ) (asked : Option Asked) (files : Option (List ℕ → Option (List ℕ))) (files_failed : Type 0) (racks : List (List ℕ)) (before left old now before_report report : Option (List ℕ)) (failed : Type 0) : Type 0 where
+-- By what the words ask for, whose statuses are those of its record: what the link had left before and after, what the terminal has, what the second
+-- terminal has, and what the report has; `failed` says that the report failed, `second_failed` that the second terminal did, `files_failed` that the files did.
+pub record Hosted (status : ℕ) (asked : Option Asked) (files : Option (List ℕ → Option (List ℕ))) (files_failed : Type 0) (racks : List (List ℕ)) (before left old now was written before_report report : Option (List ℕ)) (failed second_failed : Type 0) : Type 0 where
   pub usage : asked ≡ None → Refused status before left old now before_report report failed
   pub typed : asked ≡ Some typing → (text : List ℕ) × (before ≡ then_left text left) × Typed status text left old now before_report report failed
   pub played : (size : Size) → asked ≡ Some (playing size) → (now ≡ old) × ((text : List ℕ) × (before ≡ then_left text left) × Played status size text left before_report report failed)
   pub ran : (name : List ℕ) → asked ≡ Some (running name) → HasRun status files name files_failed racks before left old now before_report report failed
   pub soloed : (name : List ℕ) → asked ≡ Some (solo name) → Soloed status files name files_failed racks before left old now before_report report failed
   pub generated : (seed : ℕ) → asked ≡ Some (generating seed) → (left ≡ before) × Generated status seed old now before_report report failed
+  pub mirrored : (name : List ℕ) → asked ≡ Some (mirroring name) → HasMirrored status files name files_failed racks before left old now was written before_report report failed second_failed
+  -- by any other words nothing is written to the second terminal
+  pub second_same : ((name : List ℕ) → asked ≢ Some (mirroring name)) → written ≡ was

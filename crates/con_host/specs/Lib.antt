@@ -5,6 +5,7 @@ pub mod Foretold
 pub mod Generating
 pub mod Hosting
 pub mod Link
+pub mod Mirroring
 pub mod Playing
 pub mod Sessions
 pub mod Summary

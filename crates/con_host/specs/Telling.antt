@@ -1,8 +1,22 @@
--- The lines of a history, without the last one.
-use Rattle.std.specs.Prelude.{ℕ, List, [], ◌∷◌, ◌++◌}
+-- The lines of a history, without the last one; and a report that was written with a last line.
+use Rattle.std.specs.Prelude.{◌≡◌, ◌⊎◌, ℕ, List, [], ◌∷◌, ◌++◌, Option}
+use Rattle.con_events.specs.declared.entry.Entry.{Entry}
+use Rattle.con_events.specs.declared.reply.Reply.{Reply}
+use Rattle.con_outside.specs.Outside.{then_written, WrotePart}
+use Rattle.con_trace.specs.Ending.{Ending}
 use Rattle.con_trace.specs.declared.said.Said.{Said}
-use Rattle.con_trace.specs.Report.{said_text}
+use Rattle.con_trace.specs.Report.{report, said, said_text}
 
 abbrev pub lines_text : List Said → List ℕ
 lines_text [] = []
 lines_text (s ∷ ss) = said_text s ++ lines_text ss
+
+-- the report of a history with its answers and ends, and this last line
+abbrev pub ended_report : List Entry → List Reply → List ℕ → Ending → List ℕ
+ended_report h rs es last = report (said h rs es) last
+
+-- all of it was written, by the status that its last line tells; or a part of it, since the report failed, by the status for that; or a part, by 9, for want
+-- of memory
+abbrev pub Reported : ℕ → List ℕ → ℕ → ℕ → Option (List ℕ) → Option (List ℕ) → Type 0 → Type 0
+Reported status text told lost before now failed =
+    ((status ≡ told) × (now ≡ then_written before text)) ⊎ (((status ≡ lost) × WrotePart text before now × failed) ⊎ ((status ≡ 9) × WrotePart text before now))

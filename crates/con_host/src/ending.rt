@@ -23,6 +23,8 @@ pub const REPORT: u8 = 6;
 pub const MEMORY: u8 = 9;
 /// The link has more bytes than it may have.
 pub const TOO_LONG: u8 = 10;
+/// The second terminal of `mirror` failed.
+pub const MIRROR: u8 = 12;
 
 // The last line that a status has.
 fn line_of(status: u8) -> Option<EndLine>

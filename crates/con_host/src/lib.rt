@@ -7,10 +7,12 @@
 //!   ([`host_play`]);
 //! - `run SESSION`: reads the session of a file, runs it by threads, and writes its history to the report ([`host_run`]);
 //! - `solo SESSION`: the same by turns on one thread ([`host_solo`]);
+//! - `mirror SESSION`: the same with a second terminal, which attaches and detaches by frames of the link and shows a part of each
+//!   picture ([`host_mirror`]);
 //! - `gen N`: runs the generated session of a number by turns, without a link, and writes its summary to the report
 //!   ([`host_gen`]).
 //!
-//! Its contract says, for each status that it answers, what was taken from the link, and what the terminal and the
+//! Its contract says, for each status that it answers, what was taken from the link, and what the terminals and the
 //! report have. Memory does not grow with the link: a piece of 4,096 bytes is read, heard and forgotten.
 //!
 //! Never promised: that memory is there, that a read of the link returns, that `run` does, and that two of its threads run at once.
@@ -20,6 +22,7 @@ pub mod ending;
 pub mod framing;
 pub mod generating;
 pub mod host;
+pub mod mirror;
 pub mod playing;
 pub mod reading;
 pub mod run;
@@ -30,9 +33,10 @@ pub mod telling;
 pub mod text;
 pub mod typing;
 
-pub use ending::{DONE, LINK, MEMORY, REPORT, TERMINAL, TOO_LONG, USAGE};
+pub use ending::{DONE, LINK, MEMORY, MIRROR, REPORT, TERMINAL, TOO_LONG, USAGE};
 pub use generating::host_gen;
 pub use host::console_host;
+pub use mirror::host_mirror;
 pub use playing::host_play;
 pub use run::host_run;
 pub use solo::host_solo;

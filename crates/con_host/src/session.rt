@@ -5,6 +5,7 @@ ghost use Rattle.con_outside.specs.Outside.{Rose, then_written, WroteFront};
 ghost use Rattle.con_script.specs.Document.{document};
 ghost use Rattle.con_trace.specs.Ending.{ending_of, status_of};
 ghost use Rattle.con_host.specs.Sessions.{IsCut, IsFile, IsStatus, Explains, Tells, ending_after, failed_after, report_text};
+ghost use Rattle.con_host.specs.Telling.{Reported, ended_report};
 
 use crate::telling::write_report;
 use con_events::{End, Session};
@@ -57,8 +58,8 @@ pub fn session_of<F: Files>(alloc: Global, name: &str, files: &mut F) -> Result<
     }
 }
 
-// The last line of a session that ended so.
-fn last_of(end: End) -> EndLine
+/// The last line of a session that ended so.
+pub fn last_of(end: End) -> EndLine
     ensures { ending_of result ≡ ending_after end }
 {
     match end {
@@ -94,6 +95,32 @@ pub fn close<R: Sink>(alloc: Global, report: &mut R, last: &EndLine) -> u8
     }
 }
 
+/// Writes the report of a session that ran, with this last line, and answers the status that the line tells, or `lost` where the report failed.
+pub fn tell_with<R: Sink>(
+    alloc: Global,
+    outcome: &Outcome,
+    last: &EndLine,
+    lost: u8,
+    report: &mut R,
+) -> u8
+    ensures reported { Reported result (ended_report outcome.now.entries outcome.now.replies outcome.now.ends (ending_of last.now)) (status_of (ending_of last.now)) lost (R.written report.old) (R.written report.new) (Rose (R.faults report.old) (R.faults report.new)) }
+    ensures never_falls { R.faults report.old ≤ R.faults report.new }
+{
+    let written = write_report(
+        alloc,
+        report,
+        outcome.entries.0.as_slice(),
+        outcome.replies.0.as_slice(),
+        outcome.ends.0.as_slice(),
+        last,
+    );
+    match written {
+        Ok(()) => status_told(last),
+        Err(Fault::Failed) => lost,
+        Err(Fault::OutOfMemory) => 9,
+    }
+}
+
 /// Writes the report of a session that ran, and answers its status.
 pub fn tell<R: Sink>(alloc: Global, outcome: &Outcome, report: &mut R) -> u8
     ensures status { IsStatus result outcome.now.end }
@@ -105,23 +132,12 @@ pub fn tell<R: Sink>(alloc: Global, outcome: &Outcome, report: &mut R) -> u8
     ensures never_falls { R.faults report.old ≤ R.faults report.new }
 {
     let last = last_of(outcome.end);
-    let written = write_report(
-        alloc,
-        report,
-        outcome.entries.0.as_slice(),
-        outcome.replies.0.as_slice(),
-        outcome.ends.0.as_slice(),
-        &last,
-    );
-    match written {
-        Ok(()) => status_told(&last),
-        Err(Fault::Failed) => failed_status(outcome.end),
-        Err(Fault::OutOfMemory) => 9,
-    }
+    let lost = failed_status(outcome.end);
+    tell_with(alloc, outcome, &last, lost, report)
 }
 
-// The status where the report failed: of several causes the session's comes first.
-fn failed_status(end: End) -> u8
+/// The status where the report failed: of several causes the session's comes first.
+pub fn failed_status(end: End) -> u8
     ensures { result ≡ failed_after end }
 {
     match end {

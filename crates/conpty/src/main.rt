@@ -1,11 +1,12 @@
-//! The program: standard input is the link, standard output the terminal, standard error the report, and sessions are files.
+//! The program: standard input is the link, standard output the terminal, standard error the report, sessions are files, and the second
+//! terminal of `mirror` is the file `conpty.mirror`.
 #![tactic(auto)]
 
 mod words;
 
 use con_handlers::{CtrlHandler, Note, Once, Swallow, Tally};
 use con_host::{MEMORY, console_host};
-use con_outside::{DiskFiles, Files, NoGate, Sink, Source, StdSink, StdSource};
+use con_outside::{DiskFiles, DiskSink, Files, NoGate, Sink, Source, StdSink, StdSource};
 use std::alloc::{AllocError, Global};
 use std::process::ExitCode;
 use std::sync::Wait;
@@ -16,13 +17,14 @@ use words::words;
 const CLIENTS: usize = 64;
 
 // Does what the words say. The boxes are made here, since no function hands out one that it made.
-fn run<T: Threads + Wait + Sync, F: Files, I: Source + Send, O: Sink + Send, R: Sink>(
+fn run<T: Threads + Wait + Sync, F: Files, I: Source + Send, O: Sink + Send, N: Sink, R: Sink>(
     rt: &T,
     alloc: Global,
     words: &[String],
     files: &mut F,
     link: &mut I,
     terminal: &mut O,
+    second: &mut N,
     report: &mut R,
 ) -> Result<u8, AllocError> {
     let mut racks = Vec::new(alloc);
@@ -35,7 +37,7 @@ fn run<T: Threads + Wait + Sync, F: Files, I: Source + Send, O: Sink + Send, R: 
         racks.push(rack)?;
     }
     Ok(console_host(
-        rt, alloc, words, files, link, terminal, report, racks, &NoGate,
+        rt, alloc, words, files, link, terminal, second, report, racks, &NoGate,
     ))
 }
 
@@ -52,6 +54,11 @@ fn main(rt: HostRuntime) -> ExitCode {
         writer: rt.stdout(),
         faults: 0,
     };
+    let mut second = DiskSink {
+        rt,
+        file: None,
+        faults: 0,
+    };
     let mut report = StdSink {
         writer: rt.stderr(),
         faults: 0,
@@ -63,6 +70,7 @@ fn main(rt: HostRuntime) -> ExitCode {
         &mut files,
         &mut link,
         &mut terminal,
+        &mut second,
         &mut report,
     );
     ExitCode::from(status.unwrap_or(MEMORY))

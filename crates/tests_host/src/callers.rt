@@ -1,8 +1,8 @@
 //! What a caller knows of the statuses.
 
-ghost use Rattle.std.specs.Prelude.{◌≡◌, ◌≢◌, map, Some, None, string_bytes};
+ghost use Rattle.std.specs.Prelude.{◌≡◌, ◌≢◌, ℕ, List, map, Some, None, string_bytes};
 ghost use Rattle.con_units.specs.declared.place.Size.{Size};
-ghost use Rattle.con_words.specs.Words.{form_of, typing, playing};
+ghost use Rattle.con_words.specs.Words.{form_of, typing, playing, solo};
 
 use con_host::{REPORT, TERMINAL, console_host};
 use con_outside::{MemoryFiles, MemorySink, MemorySource, NoGate};
@@ -10,7 +10,8 @@ use std::alloc::Global;
 use std::sync::Wait;
 use std::thread::Threads;
 
-/// With `type` the report's failure is no status; with `play` the terminal's is none, and nothing is shown; nor is it with no form.
+/// With `type` the report's failure is no status; with `play` the terminal's is none, and nothing is shown; nor is it with no form. With `solo`
+/// nothing is written to the second terminal.
 pub fn status<T: Threads + Wait + Sync>(
     rt: &T,
     alloc: Global,
@@ -18,11 +19,13 @@ pub fn status<T: Threads + Wait + Sync>(
     files: &mut MemoryFiles,
     link: &mut MemorySource,
     term: &mut MemorySink,
+    second: &mut MemorySink,
     report: &mut MemorySink,
 ) -> u8
     ensures typed { form_of (map string_bytes words.now) ≡ Some typing → result ≢ REPORT }
     ensures played { (size : Size) → form_of (map string_bytes words.now) ≡ Some (playing size) → result ≢ TERMINAL }
     ensures untouched { (size : Size) → form_of (map string_bytes words.now) ≡ Some (playing size) → term.new.written ≡ term.old.written }
+    ensures second_untouched { (name : List ℕ) → form_of (map string_bytes words.now) ≡ Some (solo name) → second.new.written ≡ second.old.written }
     ensures no_form { form_of (map string_bytes words.now) ≡ None → term.new.written ≡ term.old.written }
 {
     console_host(
@@ -32,6 +35,7 @@ pub fn status<T: Threads + Wait + Sync>(
         files,
         link,
         term,
+        second,
         report,
         Vec::new(alloc),
         &NoGate,

@@ -54,6 +54,9 @@ pub fn host<T: Threads + Wait + Sync, I: Source + Send, O: Sink + Send, G: Gate>
     for word in words {
         list.push(format!(in alloc; "{word}")?)?;
     }
+    let mut second = SureSink {
+        written: Bytes(Vec::new(alloc)),
+    };
     let mut report = SureSink {
         written: Bytes(Vec::new(alloc)),
     };
@@ -64,6 +67,7 @@ pub fn host<T: Threads + Wait + Sync, I: Source + Send, O: Sink + Send, G: Gate>
         &mut files,
         link,
         term,
+        &mut second,
         &mut report,
         racks,
         gate,

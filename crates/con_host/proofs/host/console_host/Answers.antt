@@ -2,17 +2,17 @@ use Rattle.std.proofs.Common.{◌≡◌, None, Some, map, string_bytes, ap, sym,
 use Rattle.std.specs.Prelude.{option_map}
 use Rattle.con_host.specs.Foretold.{IsSession}
 use Rattle.con_words.specs.Asked.{asked_of}
-use Rattle.con_words.specs.Words.{form_of, running, solo}
-use Rattle.con_host.proofs.Hosts.{no_form, no_words, same_name, same_run}
+use Rattle.con_words.specs.Words.{form_of, mirroring, running, solo}
+use Rattle.con_host.proofs.Hosts.{no_form, no_words, same_mirror, same_name, same_run}
 use Rattle.con_host.proofs.host.console_host.Goals as goal
 
 pub returns-in-Ok-None-clause-outcome : goal.returns-in-Ok-None-clause-outcome
 returns-in-Ok-None-clause-outcome g c =
     let none : None ≡ form_of (map string_bytes c.args.words.now) = ap (option_map asked_of) (sym c.in-Ok-None.field-0-is) ∙ c.in-Ok-None.ensures.form in
-    no_form _ _ _ _ _ _ _ _ _ _ none c.finish.ensures.status c.finish.ensures.front c.finish.ensures.whole c.finish.ensures.part
+    no_form _ _ _ _ _ _ _ _ _ _ _ _ none c.finish.ensures.status c.finish.ensures.front c.finish.ensures.whole c.finish.ensures.part
 
 pub returns-in-Err-clause-outcome : goal.returns-in-Err-clause-outcome
-returns-in-Err-clause-outcome g c = no_words _ _ _ _ _ _ _ _
+returns-in-Err-clause-outcome g c = no_words _ _ _ _ _ _ _ _ _ _
 
 pub returns-in-Ok-Some-Solo-clause-solo_foretold : goal.returns-in-Ok-Some-Solo-clause-solo_foretold
 returns-in-Ok-Some-Solo-clause-solo_foretold g c name session bytes end form is known says files link term report =
@@ -27,3 +27,16 @@ returns-in-Ok-Some-Run-clause-run_foretold g c name session bytes end form is kn
     let asked : Some (running here.name.now) ≡ form_of (map string_bytes c.args.words.now) = ap (option_map asked_of) (sym (here.field-0-is ∙ ap Some here.field-0-0-is)) ∙ here.ensures.form in
     let same = same_run (form_of (map string_bytes c.args.words.now)) here.name.now name asked form in
     c.host_run.ensures.foretold session bytes end (subst (λ (n : List ℕ). IsSession (g.F.Files.files c.args.files.now) n session) (sym same) is) known says files link term report
+
+pub returns-in-Ok-Some-Mirror-clause-mirror_foretold : goal.returns-in-Ok-Some-Mirror-clause-mirror_foretold
+returns-in-Ok-Some-Mirror-clause-mirror_foretold g c name session bytes end form is known says files link term second report =
+    let here = c.in-Ok-Some-Mirror in
+    let asked : Some (mirroring here.name.now) ≡ form_of (map string_bytes c.args.words.now) = ap (option_map asked_of) (sym (here.field-0-is ∙ ap Some here.field-0-0-is)) ∙ here.ensures.form in
+    let same = same_mirror (form_of (map string_bytes c.args.words.now)) here.name.now name asked form in
+    c.host_mirror.ensures.foretold session bytes end (subst (λ (n : List ℕ). IsSession (g.F.Files.files c.args.files.now) n session) (sym same) is) known says files link term second report
+
+pub returns-in-Ok-Some-Mirror-clause-no_frame : goal.returns-in-Ok-Some-Mirror-clause-no_frame
+returns-in-Ok-Some-Mirror-clause-no_frame g c other e =
+    let here = c.in-Ok-Some-Mirror in
+    let asked : Some (mirroring here.name.now) ≡ form_of (map string_bytes c.args.words.now) = ap (option_map asked_of) (sym (here.field-0-is ∙ ap Some here.field-0-0-is)) ∙ here.ensures.form in
+    absurd (other here.name.now (sym asked))

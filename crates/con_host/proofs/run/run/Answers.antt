@@ -1,3 +1,6 @@
+use Rattle.con_link.specs.Reading.{plainly}
+use Rattle.con_session.specs.Sender.{NoMore}
+use Rattle.con_host.proofs.Certain.{plain_certain}
 use Rattle.con_host.proofs.Foretelling.{left_foretold, left_no_frame, left_too_much}
 use Rattle.con_host.proofs.SessionLemmas.{ended_link, ended_term}
 use Rattle.con_host.proofs.run.run.Goals as goal
@@ -21,11 +24,11 @@ returns-clause-ran g c =
 pub returns-clause-foretold : goal.returns-clause-foretold
 returns-clause-foretold g c bytes end known says link term report =
     let told = c.tell.ensures in
-    left_foretold c.one_answer.ensures c.one_frame.ensures _ _ _ _ _ _ _ end bytes _ _ _ _ c.run_session-outcome.ensures.outcome told.status known says
+    left_foretold plainly NoMore (plain_certain c.one_answer.ensures c.one_frame.ensures) _ _ _ _ _ _ _ end bytes _ _ _ _ c.run_session-outcome.ensures.outcome told.status known says
     (λ e. link (c.run_session-outcome.ensures.link (ended_link _ _ told.status e))) (λ e. term (c.run_session-outcome.ensures.term (ended_term _ _ told.status e))) (λ e. report (told.failed e))
 
 pub returns-clause-no_frame : goal.returns-clause-no_frame
-returns-clause-no_frame g c e = left_no_frame _ _ _ _ _ _ _ _ _ _ _ c.run_session-outcome.ensures.outcome c.tell.ensures.status e
+returns-clause-no_frame g c e = left_no_frame plainly NoMore _ _ _ _ _ _ _ _ _ _ _ c.run_session-outcome.ensures.outcome c.tell.ensures.status e
 
 pub returns-clause-too_long : goal.returns-clause-too_long
-returns-clause-too_long g c e = left_too_much _ _ _ _ _ _ _ _ _ _ _ c.run_session-outcome.ensures.outcome c.tell.ensures.status e
+returns-clause-too_long g c e = left_too_much plainly NoMore (plain_certain c.one_answer.ensures c.one_frame.ensures) _ _ _ _ _ _ _ _ _ _ _ c.run_session-outcome.ensures.outcome c.tell.ensures.status e

@@ -10,3 +10,7 @@ returns-clause-played g c = λ size asked told.
 pub returns-clause-untouched : goal.returns-clause-untouched
 returns-clause-untouched g c = λ size asked.
     let same = (c.console_host.ensures.outcome.played size asked).0 in cc
+
+pub returns-clause-second_untouched : goal.returns-clause-second_untouched
+returns-clause-second_untouched g c = λ name asked.
+    let same = c.console_host.ensures.outcome.second_same (λ other e. absurd (cc)) in cc

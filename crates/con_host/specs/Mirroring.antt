@@ -1,0 +1,62 @@
+-- How a session of a file with a second terminal ends: from the bytes of its file and of its link to those of both terminals and of the report.
+use Rattle.std.specs.Prelude.{◌≡◌, ◌⊎◌, ℕ, Bool, true, false, List, Option, Some, Ok, codes}
+use Rattle.con_events.specs.Session.{Clients}
+use Rattle.con_events.specs.declared.end.End.{End}
+use Rattle.con_events.specs.declared.end.End.TheVariants as ends
+use Rattle.con_events.specs.declared.entry.Entry.{Entry}
+use Rattle.con_events.specs.declared.reply.Reply.{Reply}
+use Rattle.con_outside.specs.Outside.{then_written, WroteFront, WrotePart}
+use Rattle.con_script.specs.Document.{document}
+use Rattle.con_machine.specs.Follows.{begun}
+use Rattle.con_machine.specs.Once.{TakenOnce}
+use Rattle.con_session.specs.Second.{IsMirrorOutcome}
+use Rattle.con_trace.specs.Ending.{Ending, worded, status_of}
+use Rattle.con_trace.specs.Report.{report, said}
+use Rattle.con_host.specs.Sessions.{IsFile, NotRun, ending_after, failed_after}
+
+-- the last line of a session that ended so, and whether its second terminal failed: where all else was done, the line says that
+abbrev pub mirror_ending : End → Bool → Ending
+mirror_ending ends.Done true = worded 12 (codes "mirror")
+mirror_ending end lost = ending_after end
+
+-- the status where the report failed: of several causes the session's comes first, and then the second terminal's
+abbrev pub mirror_failed_after : End → Bool → ℕ
+mirror_failed_after ends.Done true = 12
+mirror_failed_after end lost = failed_after end
+
+-- the report of a history with its answers and ends, up to this end
+abbrev pub mirror_report : List Entry → List Reply → List ℕ → End → Bool → List ℕ
+mirror_report h rs es end lost = report (said h rs es) (mirror_ending end lost)
+
+-- the status that its last line tells; 9 for want of memory for the report; 6 where all was done, the second terminal did not fail, and the report did
+abbrev pub IsMirrorStatus : ℕ → End → Bool → Type 0
+IsMirrorStatus status end lost = (status ≡ status_of (mirror_ending end lost)) ⊎ ((status ≡ 9) ⊎ ((status ≡ 6) × (end ≡ ends.Done) × (lost ≡ false)))
+
+-- With status 6, and with 9 where the session itself came to another end, the report is never whole: not all of it was written.
+abbrev pub IsMirrorCut : ℕ → List Entry → List Reply → List ℕ → End → Bool → Option (List ℕ) → Option (List ℕ) → Type 0
+IsMirrorCut status h rs es end lost before now = (status ≡ 6) ⊎ ((status ≡ 9) × ¬ (end ≡ ends.Memory)) → WrotePart (mirror_report h rs es end lost) before now
+
+-- The session ran by turns, with a second terminal: one history, with all that such a session leaves, A and D being frames that count as Ask; the second terminal's
+-- stream with its ends, and whether it was lost; and the report, which is whole unless the report failed or there was no memory for it.
+pub record RanMirrored (status : ℕ) (session : Clients) (racks : List (List ℕ)) (before left old now was written before_report report' : Option (List ℕ)) (failed second_failed : Type 0) : Type 0 where
+  pub entries : List Entry
+  pub replies : List Reply
+  pub ends' : List ℕ
+  pub end : End
+  pub seconds : List ℕ
+  pub lost : Bool
+  pub outcome : IsMirrorOutcome session racks entries replies ends' end seconds lost before left old now was written
+  pub once : TakenOnce (begun session racks) entries
+  pub status_is : IsMirrorStatus status end lost
+  pub front : WroteFront (mirror_report entries replies ends' end lost) before_report report'
+  pub whole : ¬ (status ≡ 9) → ¬ failed → report' ≡ then_written before_report (mirror_report entries replies ends' end lost)
+  pub done : status ≡ 0 → report' ≡ then_written before_report (mirror_report entries replies ends' end lost)
+  pub cut : IsMirrorCut status entries replies ends' end lost before_report report'
+  -- all built bytes of the second terminal's stream were written with 0 and 6, and with every other status but 9, unless it failed
+  pub shown : ¬ (status ≡ 9) → (status ≡ 0) ⊎ ((status ≡ 6) ⊎ ¬ second_failed) → written ≡ then_written was outcome.leaves.more.built
+
+-- There is no session, and nothing was written to the second terminal; or the file is one, of which this came.
+abbrev pub HasMirrored : ℕ → Option (List ℕ → Option (List ℕ)) → List ℕ → Type 0 → List (List ℕ) → Option (List ℕ) → Option (List ℕ) → Option (List ℕ) → Option (List ℕ) → Option (List ℕ) → Option (List ℕ) → Option (List ℕ) → Option (List ℕ) → Type 0 → Type 0 → Type 0
+HasMirrored status files name files_failed racks before left old now was written before_report report' failed second_failed =
+    (NotRun status files name files_failed before left old now before_report report' failed × (written ≡ was))
+    ⊎ ((bytes : List ℕ) × (session : Clients) × IsFile files name bytes × (document bytes ≡ Some (Ok session)) × RanMirrored status session racks before left old now was written before_report report' failed second_failed)

@@ -1,0 +1,116 @@
+//! `mirror`: the session of a file, by turns, with a second terminal, and with its history as the report.
+
+ghost use Rattle.std.specs.Prelude.{◌≡◌, ◌≤◌, ◌<◌, ◌⊎◌, ℕ, List, Some, All, IfSome, length, map};
+ghost use Rattle.con_handlers.specs.Delivery.{memory_of};
+ghost use Rattle.con_events.specs.Session.{Clients};
+ghost use Rattle.con_events.specs.declared.end.End.{End as Ended};
+ghost use Rattle.con_outside.specs.Outside.{Rose, then_left};
+ghost use Rattle.con_host.specs.Foretold.{HasNoMirrorFrame, IsSession, MirrorForetells};
+ghost use Rattle.con_host.specs.Mirroring.{HasMirrored, RanMirrored, mirror_ending, mirror_failed_after};
+ghost use Rattle.con_host.specs.Sessions.{ending_after};
+ghost use Rattle.con_session.specs.Worker.{told_kind};
+ghost use Rattle.con_trace.specs.Ending.{ending_of, status_of};
+
+use crate::session::{Unrun, close, failed_status, last_of, session_of, tell_with};
+use con_events::{End, Session};
+use con_handlers::CtrlHandler;
+use con_link::{one_mirror_answer, one_mirror_frame};
+use con_machine::once_laws::each_record_is_taken_once;
+use con_outside::{Files, Sink, Source};
+use con_session::run_mirrored;
+use con_trace::EndLine;
+use std::alloc::Global;
+
+// The last line where all was done, but for a second terminal that may have failed.
+fn done_line(lost: bool) -> EndLine
+    ensures { ending_of result ≡ mirror_ending Ended.Done lost }
+{
+    if lost {
+        EndLine::Word(12, "mirror")
+    } else {
+        EndLine::Plain(0)
+    }
+}
+
+// The last line of a session that ended so.
+fn mirror_last_of(end: End, lost: bool) -> EndLine
+    ensures { ending_of result ≡ mirror_ending end lost }
+{
+    match end {
+        End::Done => done_line(lost),
+        _ => last_of(end),
+    }
+}
+
+// The status where the report failed: of several causes the session's comes first, and then the second terminal's.
+fn mirror_failed_status(end: End, lost: bool) -> u8
+    ensures { result ≡ mirror_failed_after end lost }
+{
+    match end {
+        End::Done => { if lost { 12 } else { 6 } }
+        _ => failed_status(end),
+    }
+}
+
+// Runs the session and writes its report.
+fn run<I: Source, O: Sink, N: Sink, R: Sink>(
+    alloc: Global,
+    session: &Session,
+    link: &mut I,
+    term: &mut O,
+    second: &mut N,
+    report: &mut R,
+    racks: Vec<Vec<Box<dyn CtrlHandler + Send>>>,
+) -> u8
+    requires few { All (λ rack. length rack.items ≤ 255) racks.items }
+    ensures ran { RanMirrored result session.now (map (λ rack. map (λ b. told_kind (memory_of (asked b) (last b) (kind b))) rack.items) racks.items) (I.left link.old) (I.left link.new) (O.written term.old) (O.written term.new) (N.written second.old) (N.written second.new) (R.written report.old) (R.written report.new) (Rose (R.faults report.old) (R.faults report.new)) (Rose (N.faults second.old) (N.faults second.new)) }
+    ensures link_failed { result ≡ 4 → Rose (I.faults link.old) (I.faults link.new) }
+    ensures term_failed { result ≡ 5 → Rose (O.faults term.old) (O.faults term.new) }
+    ensures report_failed { result ≡ 6 → Rose (R.faults report.old) (R.faults report.new) }
+    ensures second_failed { result ≡ 12 → Rose (N.faults second.old) (N.faults second.new) }
+    ensures foretold { (bytes : List ℕ) (end : Ended) → I.left link.old ≡ Some bytes → MirrorForetells bytes end → ¬ (Rose (I.faults link.old) (I.faults link.new)) → ¬ (Rose (O.faults term.old) (O.faults term.new)) → ¬ (Rose (N.faults second.old) (N.faults second.new)) → ¬ (Rose (R.faults report.old) (R.faults report.new))
+        → (result ≡ status_of (ending_after end)) ⊎ (result ≡ 9) }
+    ensures no_frame { result ≡ 8 → IfSome (I.left link.old) HasNoMirrorFrame }
+    ensures too_long { result ≡ 10 → (taken : List ℕ) × (I.left link.old ≡ then_left taken (I.left link.new)) × (16777216 < length taken) }
+    ensures never_fall { (I.faults link.old ≤ I.faults link.new) × (O.faults term.old ≤ O.faults term.new) × (N.faults second.old ≤ N.faults second.new) × (R.faults report.old ≤ R.faults report.new) }
+{
+    one_mirror_answer();
+    one_mirror_frame();
+    each_record_is_taken_once();
+    let mirrored = run_mirrored(alloc, session, link, term, second, racks);
+    let last = mirror_last_of(mirrored.outcome.end, mirrored.failed);
+    let lost = mirror_failed_status(mirrored.outcome.end, mirrored.failed);
+    tell_with(alloc, &mirrored.outcome, &last, lost, report)
+}
+
+/// Runs the session of a file by turns, with a second terminal that attaches and detaches by frames of the link: the stream to the terminal, the part of each
+/// picture that the second one shows to `second`, the history to the report.
+pub fn host_mirror<F: Files, I: Source, O: Sink, N: Sink, R: Sink>(
+    alloc: Global,
+    name: &str,
+    files: &mut F,
+    link: &mut I,
+    term: &mut O,
+    second: &mut N,
+    report: &mut R,
+    racks: Vec<Vec<Box<dyn CtrlHandler + Send>>>,
+) -> u8
+    requires few { All (λ rack. length rack.items ≤ 255) racks.items }
+    ensures outcome { HasMirrored result (F.files files.old) name.now (Rose (F.faults files.old) (F.faults files.new)) (map (λ rack. map (λ b. told_kind (memory_of (asked b) (last b) (kind b))) rack.items) racks.items) (I.left link.old) (I.left link.new) (O.written term.old) (O.written term.new) (N.written second.old) (N.written second.new) (R.written report.old) (R.written report.new) (Rose (R.faults report.old) (R.faults report.new)) (Rose (N.faults second.old) (N.faults second.new)) }
+    ensures link_failed { result ≡ 4 → Rose (I.faults link.old) (I.faults link.new) }
+    ensures term_failed { result ≡ 5 → Rose (O.faults term.old) (O.faults term.new) }
+    ensures report_failed { result ≡ 6 → Rose (R.faults report.old) (R.faults report.new) }
+    ensures second_failed { result ≡ 12 → Rose (N.faults second.old) (N.faults second.new) }
+    ensures foretold { (session : Clients) (bytes : List ℕ) (end : Ended) → IsSession (F.files files.old) name.now session → I.left link.old ≡ Some bytes → MirrorForetells bytes end
+        → ¬ (Rose (F.faults files.old) (F.faults files.new)) → ¬ (Rose (I.faults link.old) (I.faults link.new)) → ¬ (Rose (O.faults term.old) (O.faults term.new)) → ¬ (Rose (N.faults second.old) (N.faults second.new)) → ¬ (Rose (R.faults report.old) (R.faults report.new))
+        → (result ≡ status_of (ending_after end)) ⊎ (result ≡ 9) }
+    ensures no_frame { result ≡ 8 → IfSome (I.left link.old) HasNoMirrorFrame }
+    ensures too_long { result ≡ 10 → (taken : List ℕ) × (I.left link.old ≡ then_left taken (I.left link.new)) × (16777216 < length taken) }
+    ensures never_fall { (F.faults files.old ≤ F.faults files.new) × (I.faults link.old ≤ I.faults link.new) × (O.faults term.old ≤ O.faults term.new) × (N.faults second.old ≤ N.faults second.new) × (R.faults report.old ≤ R.faults report.new) }
+{
+    match session_of(alloc, name, files) {
+        Ok(session) => run(alloc, &session, link, term, second, report, racks),
+        Err(Unrun::Told(last)) => close(alloc, report, &last),
+        Err(Unrun::OutOfMemory) => 9,
+    }
+}
