@@ -94,6 +94,7 @@ pub fn painted<O: Sink>(
     ensures served { IfOk result (λ _. (desk.new.console.state.asked ≡ false) ⊎ (canvas.new.failed ≡ true)) }
     ensures tied { IfOk result (λ _. IsTied desk.new.console.state canvas.new.painter) }
     ensures fails { PainterFails (acted result) canvas.old.failed canvas.new.failed }
+    ensures still { canvas.old.failed ≡ true → term.new ≡ term.old }
     ensures failed { canvas.new.failed ≡ true → (canvas.old.failed ≡ true) ⊎ Rose (O.faults term.old) (O.faults term.new) }
     ensures never_falls { O.faults term.old ≤ O.faults term.new }
     ensures turn { (b : Begun) (size : Size) (before : Option (List ℕ)) (ps : List (List ℕ)) → desk.old.console.state ≡ run b.state desk.old.entries.items
@@ -146,6 +147,7 @@ pub fn painter_turn<O: Sink>(
     ensures served { IfOk result (λ _. (desk.new.console.state.asked ≡ false) ⊎ (canvas.new.failed ≡ true)) }
     ensures tied { IfOk result (λ _. IsTied desk.new.console.state canvas.new.painter) }
     ensures fails { PainterFails result canvas.old.failed canvas.new.failed }
+    ensures still { canvas.old.failed ≡ true → term.new ≡ term.old }
     ensures failed { canvas.new.failed ≡ true → (canvas.old.failed ≡ true) ⊎ Rose (O.faults term.old) (O.faults term.new) }
     ensures never_falls { O.faults term.old ≤ O.faults term.new }
     ensures turn { (b : Begun) (size : Size) (before : Option (List ℕ)) (ps : List (List ℕ)) → desk.old.console.state ≡ run b.state desk.old.entries.items

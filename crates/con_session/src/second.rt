@@ -134,6 +134,7 @@ pub fn follow<N: Sink>(second: &mut Second, view: &View, sink: &mut N) -> Result
     ensures turn { (s : State) (ended : Bool) (ps : List (List ℕ)) (before : Option (List ℕ)) (frames : List MirrorFrame) (h : List Entry) → view.now ≡ view_now (run s h)
         → SecondIs s ended second.old.mirror ps second.old.ends.items second.old.end before (N.written sink.old) second.old.failed frames h
         → SecondTurn result s ended second.new.mirror second.new.ends.items second.new.end before (N.written sink.new) second.new.failed frames (h ++ entry actors.Painter events.Paint ∷ []) }
+    ensures still { second.old.failed ≡ true → sink.new ≡ sink.old }
     ensures failed { second.new.failed ≡ true → (second.old.failed ≡ true) ⊎ Rose (N.faults sink.old) (N.faults sink.new) }
     ensures never_falls { N.faults sink.old ≤ N.faults sink.new }
 {
@@ -169,6 +170,7 @@ pub fn followed<N: Sink>(
     ensures turn { (s : State) (ended : Bool) (ps : List (List ℕ)) (before : Option (List ℕ)) (frames : List MirrorFrame) (h : List Entry) → IfSome shown (λ p. p.view ≡ view_now (run s h))
         → SecondIs s ended second.old.mirror ps second.old.ends.items second.old.end before (N.written sink.old) second.old.failed frames h
         → FollowTurn result shown s ended second.new.mirror second.new.ends.items second.new.end before (N.written sink.new) second.new.failed frames h }
+    ensures still { second.old.failed ≡ true → sink.new ≡ sink.old }
     ensures failed { second.new.failed ≡ true → (second.old.failed ≡ true) ⊎ Rose (N.faults sink.old) (N.faults sink.new) }
     ensures never_falls { N.faults sink.old ≤ N.faults sink.new }
 {

@@ -1,4 +1,4 @@
-use Rattle.std.proofs.Common.{sym, ap, ◌∙◌, refl, inl, inr, ◌++◌, ◌∷◌, [], List, ℕ, ◌+◌}
+use Rattle.std.proofs.Common.{◌≡◌, true, false, sym, ap, ◌∙◌, refl, inl, inr, ◌++◌, ◌∷◌, [], List, ℕ, ◌+◌}
 use Rattle.con_session.specs.CanvasLaws.{canvas_ok, canvas_failed, canvas_ends, canvas_none, canvas_rests, ends_as}
 use Rattle.con_session.specs.PaintTurns.{tied_count, tied_size, tied_rows, paints_now, failed_rests, unready_rests}
 use Rattle.con_session.specs.TiedLaws.{served_paint, served_still, tied_paint}
@@ -34,6 +34,7 @@ returns-in-Ok g c = record {
   served = inl (served_paint _ _ _ _ _ _ c.in_ok-picture.ensures.entered);
   tied = tied_paint _ _ _ _ _ _ c.in_ok-picture.picture.view c.in_ok-picture.picture.fresh _ c.in_ok-picture.ensures.entered c.in_ok-picture.ensures.pictures c.in_ok-draw.ensures.shown c.in_ok-draw.ensures.size;
   fails = c.if-canvas.false;
+  still = λ e. absurd (let z : false ≡ true = sym c.if-canvas.false ∙ e in cc);
   failed = λ e. inl e;
   never_falls = c.in-Ok.ensures.never_falls;
   acts = λ b i f. paints_now b _ _ _ i f c.if-canvas.false (sym c.if-not-ready.ensures);
@@ -54,6 +55,7 @@ returns-in-Err-Failed g c = record {
   served = inl (served_paint _ _ _ _ _ _ c.in_ok-picture.ensures.entered);
   tied = tied_paint _ _ _ _ _ _ c.in_ok-picture.picture.view c.in_ok-picture.picture.fresh _ c.in_ok-picture.ensures.entered c.in_ok-picture.ensures.pictures c.in_ok-draw.ensures.shown c.in_ok-draw.ensures.size;
   fails = c.if-canvas.false;
+  still = λ e. absurd (let z : false ≡ true = sym c.if-canvas.false ∙ e in cc);
   failed = λ e. inr (let q = c.in-Err-Failed.field-0-is in c.in-Err-Failed.ensures.failed cc);
   never_falls = c.write_whole.ensures.never_falls;
   acts = λ b i f. paints_now b _ _ _ i f c.if-canvas.false (sym c.if-not-ready.ensures);
