@@ -1,5 +1,5 @@
 // A link whose next frame comes once the frame of bytes that shows the last one was written.
-ghost use Rattle.std.specs.Prelude.{◌≡◌, ◌+◌, ◌<◌, ◌≤◌, ◌++◌, [], Some, drop, length, take};
+ghost use Rattle.std.specs.Prelude.{◌≡◌, ◌+◌, ◌-◌, ◌<◌, ◌≤◌, ◌++◌, [], Some, drop, length, take};
 
 use crate::order::Order;
 use crate::runs::host;
