@@ -1,10 +1,10 @@
 // A link whose next frame comes once the frame of bytes that shows the last one was written.
-ghost use Rattle.std.specs.Prelude.{◌≡◌, ◌+◌, ◌-◌, ◌<◌, ◌≤◌, ◌++◌, [], Some, drop, length, take};
+ghost use Rattle.std.specs.Prelude.{drop, Some};
 
 use crate::order::Order;
-use crate::runs::host;
+use crate::runs::{host, source};
 use con_host::DONE;
-use con_outside::{Failed, Fault, Sink, Source, SureSink};
+use con_outside::{Failed, Fault, Sink, Source, SureSink, SureSource};
 use con_units::Bytes;
 use std::alloc::Global;
 use std::sync::Wait;
@@ -24,7 +24,28 @@ const LINK: [u8; 16] = *b"B\0\x01qB\0\x01wB\0\x01zB\0\x01\r";
 const DOCUMENT: &str =
     "{'version':1,'size':[20,2],'clients':[{'program':'a','group':1,'calls':[['read',1,10]]}]}";
 
-// A terminal that tells which letters it was sent.
+// Tells which of the letters stand among these bytes, each once, and answers which were told by now.
+fn tell(order: &Order, told: u64, bytes: &[u8]) -> u64 {
+    let mut all = told;
+    for (letter, what) in LETTERS {
+        if all & what == 0 && bytes.contains(&letter) {
+            all |= what;
+            order.come(what);
+        }
+    }
+    all
+}
+
+// Returns when all that the frame at this place waits for has come.
+fn wait_at(order: &Order, at: usize) {
+    for (place, needs) in NEEDS {
+        if place == at {
+            order.wait(needs);
+        }
+    }
+}
+
+// A terminal that tells which letters it is sent.
 #[derive(Drop)]
 struct TellingSink<'a> {
     inner: SureSink,
@@ -38,53 +59,26 @@ impl Sink for TellingSink<'_> {
     ghost faults = { λ _. 0 };
 
     fn write(&mut self, bytes: &[u8]) -> Result<usize, Fault> {
-        let written = self.inner.write(bytes);
-        for (letter, what) in LETTERS {
-            if self.told & what == 0 && bytes.contains(&letter) {
-                self.told |= what;
-                self.order.come(what);
-            }
-        }
-        written
+        self.told = tell(self.order, self.told, bytes);
+        self.inner.write(bytes)
     }
 }
 
-// A link that gives a byte at a time, the first one of a frame once what it waits for has come.
+// A link that gives the first byte of a frame once what the frame waits for has come.
 #[derive(Drop)]
 struct WaitingSource<'a> {
-    bytes: Bytes,
-    at: usize,
+    inner: SureSource,
     order: &'a Order,
 }
 
-// Puts the byte at a place into the front of a buffer, and answers how many it is.
-fn next_byte(bytes: &[u8], at: usize, buf: &mut [u8]) -> usize
-    ensures bound { result ≤ length buf.new }
-    ensures room { result ≤ length bytes.now - at }
-    ensures taken { drop at bytes.now ≡ take result buf.new ++ drop (at + result) bytes.now }
-    ensures end { result ≡ 0 → 0 < length buf.new → drop at bytes.now ≡ [] }
-{
-    if at >= bytes.len() || buf.is_empty() {
-        return 0;
-    }
-    buf[0] = bytes[at];
-    1
-}
-
 impl Source for WaitingSource<'_> {
-    ghost left = { λ s. Some (drop s.at s.bytes) };
+    ghost left = { λ s. Some (drop s.inner.at s.inner.bytes) };
 
     ghost faults = { λ _. 0 };
 
     fn read(&mut self, buf: &mut [u8]) -> Result<usize, Failed> {
-        for (place, needs) in NEEDS {
-            if place == self.at {
-                self.order.wait(needs);
-            }
-        }
-        let n = next_byte(self.bytes.as_slice(), self.at, buf);
-        self.at += n;
-        Ok(n)
+        wait_at(self.order, self.inner.at);
+        self.inner.read(buf)
     }
 }
 
@@ -96,8 +90,7 @@ fn shows_in_turn<T: Threads + Wait + Sync>(
 ) -> Result<bool, Fail> {
     let order = Order::of(&[]);
     let mut link = WaitingSource {
-        bytes: Bytes(LINK.to_vec(alloc)?),
-        at: 0,
+        inner: source(alloc, &LINK)?,
         order: &order,
     };
     let mut term = TellingSink {
