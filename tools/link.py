@@ -22,6 +22,7 @@ The text has a line for each frame; empty lines, and what stands behind a #, are
   quiet                nothing more was typed for a while; `quiet 5` five times
   resize 100x30        the terminal's new size
   paint                a frame of output is wanted
+  attach 40x10         with `conpty mirror`, a second terminal comes; `detach`, it goes
   hangup               the terminal goes away; behind it only
   unread 00ff          bytes that are left unread
 
@@ -40,7 +41,7 @@ def make(text: str, link: str) -> int:
 
 
 def read(link: str, text: str) -> int:
-    found = read_link(base.read_bytes(link))
+    found = read_link(base.read_bytes(link), mirrored=True)
     lines = "".join(line + "\n" for line in linktext.link_text(found))
     base.write_bytes(text, lines.encode())
     if found.fault:

@@ -11,6 +11,9 @@ ESCAPE_OF = {char: "\\" + letter for letter, char in ESCAPES.items()}
 TOKEN = re.compile(r'\s*("(?:[^"\\]|\\.)*"(?=\s|$)|[^\s"]\S*)')
 ESCAPED = re.compile(r"\\(u\{([0-9A-Fa-f]{1,6})\}|.)")
 UNREAD_LINE = 32
+# Frames of a byte alone, by their words.
+ALONE = {"paint": "P", "hangup": "X", "detach": "D"}
+VERB_OF = {tag: verb for verb, tag in ALONE.items()}
 
 
 # ---- texts in quotes
@@ -198,14 +201,14 @@ def other_frames(verb: str, words: Words) -> List[Frame]:
         if not re.fullmatch("[1-9][0-9]{0,7}", number):
             raise ValueError(f"no number of 1 to 99999999: {number}")
         return [Frame("Q")] * int(number)
-    if verb == "resize":
+    if verb in ("resize", "attach"):
         token = words.take("size")
         size = size_of(token)
         if size is None:
             raise ValueError(f"no size of 1x1 to 512x256: {token}")
-        return [Frame("R", size=size)]
-    if verb in ("paint", "hangup"):
-        return [Frame("P" if verb == "paint" else "X")]
+        return [Frame("R" if verb == "resize" else "A", size=size)]
+    if verb in ALONE:
+        return [Frame(ALONE[verb])]
     raise ValueError(f"no such thing: {verb}")
 
 
@@ -306,10 +309,10 @@ def frame_texts(frames: List[Frame]) -> Iterator[str]:
     for frame in frames:
         if frame.tag == "B":
             yield next(typed)
-        elif frame.tag == "R":
-            yield f"resize {frame.size[0]}x{frame.size[1]}"
+        elif frame.tag in ("R", "A"):
+            yield f"{'resize' if frame.tag == 'R' else 'attach'} {frame.size[0]}x{frame.size[1]}"
         else:
-            yield {"Q": "quiet", "P": "paint", "X": "hangup"}[frame.tag]
+            yield "quiet" if frame.tag == "Q" else VERB_OF[frame.tag]
 
 
 def link_text(link: Link) -> Iterator[str]:

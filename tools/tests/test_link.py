@@ -14,12 +14,13 @@ def made(text: str) -> bytes:
 
 
 def back(link: bytes) -> str:
-    return "\n".join(linktext.link_text(frames.read_link(link)))
+    return "\n".join(linktext.link_text(frames.read_link(link, mirrored=True)))
 
 
 class Making(unittest.TestCase):
     def test_frames(self):
         self.assertEqual(made("quiet\nresize 100x30\npaint\nhangup\n"), b"QR\x00\x64\x00\x1ePX")
+        self.assertEqual(made("attach 100x30\ndetach"), b"A\x00\x64\x00\x1eD")
         self.assertEqual(made("# nothing\n\n  quiet 3  # three\n"), b"QQQ")
         self.assertEqual(made("hangup\nunread 42 00\n\nunread ff"), b"X\x42\x00\xff")
 
@@ -105,6 +106,7 @@ class Making(unittest.TestCase):
             "key ctrl+i": "line 1: ctrl+i is the byte of tab: write that",
             "resize 0x25": "line 1: no size of 1x1 to 512x256: 0x25",
             "resize 513x1": "line 1: no size of 1x1 to 512x256: 513x1",
+            "attach 513x1": "line 1: no size of 1x1 to 512x256: 513x1",
             "tipe": "line 1: no such thing: tipe",
             'type "a': 'line 1: a quote is not closed: "a',
             "type": "line 1: no text in quotes",
@@ -133,6 +135,7 @@ class ReadingBack(unittest.TestCase):
             back(b"QQQQB\x00\x06ls\x1b[A\rPR\x00\x3c\x00\x0cX"),
             'quiet 4\ntype "ls" + key up + key return\npaint\nresize 60x12\nhangup',
         )
+        self.assertEqual(back(b"A\0\x28\0\x0aQDX"), "attach 40x10\nquiet\ndetach\nhangup")
         self.assertEqual(back(b'B\x00\x05"\\\xc2\x85\x03'), r'type "\"\\\u{85}" + key ctrl+c')
         self.assertEqual(back(b"B\x00\x03\x1b[Z"), "key shift+tab")
 
@@ -175,6 +178,10 @@ class ReadingBack(unittest.TestCase):
         for link, fault in table.items():
             with self.subTest(link):
                 self.assertEqual(frames.read_link(link).fault, fault)
+        for link in (b"A\0\x28\0\x0a", b"D"):
+            self.assertEqual(frames.read_link(link).fault, (0, "tag"))
+            self.assertIsNone(frames.read_link(link, mirrored=True).fault)
+        self.assertEqual(frames.read_link(b"A\0\0\0\1", mirrored=True).fault, (0, "size"))
         self.assertEqual(frames.read_link(b"QXzz"), ([("Q", b"", (0, 0), 0), ("X", b"", (0, 0), 1)], None, b"zz"))
 
     def test_the_longest_link(self):
@@ -235,7 +242,7 @@ class Tool(unittest.TestCase):
         self.assertIn(b"outside what is proved", support.tool("link.py", "--help").stdout)
 
     def test_examples(self):
-        for name in ("shell", "ctrl_c", "editor"):
+        for name in ("shell", "ctrl_c", "editor", "mirror"):
             with open(support.example(name, "link"), "rb") as file:
                 link = file.read()
             read = support.tool("link.py", "read", support.example(name, "link"))
