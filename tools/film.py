@@ -167,7 +167,7 @@ def main(words: List[str]) -> int:
     got = parser.parse_args(words)
     if got.stream is not None and got.report is None:
         parser.error("a stream comes with its report")
-    session, link = read_session(got.session), read_link(base.read_bytes(got.link))
+    session, link = read_session(got.session), read_link(base.read_bytes(got.link), mirrored=got.report is not None)
     stream, report_text, name = run_of(got)
     report = read_report(report_text, name)
     check_clients(session, report, name)

@@ -24,6 +24,10 @@ class Frame(NamedTuple):
             return self.tag.encode() + self.size[0].to_bytes(2, "big") + self.size[1].to_bytes(2, "big")
         return self.tag.encode()
 
+    def counted(self) -> "Frame":
+        """What the frame counts as: those for a second terminal want a frame of output, as P does."""
+        return Frame("P", place=self.place) if self.tag in MIRRORED else self
+
 
 class Fault(NamedTuple):
     """Where no frame stands, and why, as the program tells it."""

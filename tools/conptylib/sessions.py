@@ -56,5 +56,5 @@ def check_frames(link: Link, report: Report, name: str) -> None:
         if event.name not in TERMINAL or event.name == "drained":
             continue
         frame, wanted = event.frame(), next(frames, None)
-        if frame is None or wanted is None or frame[:3] != wanted[:3]:
+        if frame is None or wanted is None or frame[:3] != wanted.counted()[:3]:
             raise ToolError(f"{name}: line {event.number}: the link has another frame here")

@@ -125,6 +125,14 @@ class Films(unittest.TestCase):
         film = film_in(self.film(session, link, self.path("stream", ran.out), self.path("report", ran.err)))
         self.assertEqual(screen(film, len(film["steps"]) - 1), SHELL_END)
 
+    def test_a_run_with_a_second_terminal_that_was_kept(self):
+        session, link = support.example("mirror", "json"), support.example("mirror", "link")
+        with open(link, "rb") as file:
+            words = [os.path.abspath(support.PROGRAM), "mirror", session]
+            ran = subprocess.run(words, stdin=file, capture_output=True, check=False, cwd=self.folder.name)
+        film = film_in(self.film(session, link, self.path("stream", ran.stdout), self.path("report", ran.stderr)))
+        self.assertEqual(screen(film, len(film["steps"]) - 1), ["fetching", "unpacking", "building a long name", "done"])
+
     def test_pictures_are_those_of_the_program(self):
         """Each picture, played by the program itself."""
         write = "\x1b[1;38;5;130m\u2588caf\u00e9\x1b[7m\x1b[48;5;20mab\x1b[0m\x1b[4mc\r\n\x1b[95md"
