@@ -3,10 +3,11 @@
 
     robustness.py [--page] [GROUP..]
 
-The groups are memory, calls, links, documents, sizes, texts, files, streams and limits, and largest, whose sessions take gigabytes; without words all but the
-last are tried, which takes some minutes. What has to come is said by the statuses of docs/FORMATS.md and the rules of docs/PROFILE.md; streams and reports of
-runs that were disturbed are a front of those of a run that was not. Prints a line for each case, and with `--page` writes them into docs/ROBUSTNESS.md, behind
-its heading "Each case". Ends with 1 where one was otherwise than it has to be. CONPTY may name another program than the one that is built here.
+The groups are memory, calls, links, documents, sizes, texts, files, streams and limits; without words these are tried, which takes some minutes. Two more are
+largest, whose sessions take gigabytes and up to half an hour each, and resizes, one session that may take hours. What has to come is said by the statuses of
+docs/FORMATS.md and the rules of docs/PROFILE.md; streams and reports of runs that were disturbed are a front of those of a run that was not. Prints a line for
+each case, and with `--page` writes them into docs/ROBUSTNESS.md, behind its heading "Each case". Ends with 1 where one was otherwise than it has to be. CONPTY
+may name another program than the one that is built here.
 
 Allocations, reads and writes fail by a library that is loaded before the program, for which there must be `cc`."""
 import argparse
@@ -385,8 +386,20 @@ def largest(room):
     cells = hostile.session([["rect-read", 2, [0, 0, 127, 127]]] * 256, clients=64, window=(128, 128))
     ran = runs.run(["solo", hostile.document(room.folder, "cells", cells)], seconds=600)
     table.expect("16,384 times `rect-read` of 16,384 cells", ran, "0", DONE)
-    ran = runs.run(["solo", room.idle], named(room, "link", hostile.filled(b"", b"Q")), seconds=600)
-    table.expect("16 MiB of `Q`", ran, "0", DONE)
+    for way in WAYS:
+        ran = runs.run([way, room.idle], named(room, "link", hostile.filled(b"", b"Q")), seconds=600)
+        table.expect(f"16 MiB of `Q`, `{way}`", ran, "0", DONE)
+        for width, height in ((80, 25), (512, 256)):
+            window = hostile.document(room.folder, "window", hostile.session([], window=(width, height)))
+            ran = runs.run([way, window], named(room, "link", hostile.filled(b"", b"P")), seconds=1_800)
+            table.expect(f"16 MiB of `P` at {width} by {height}, `{way}`", ran, "0", DONE)
+
+
+def resizes(room):
+    table.group("A link of resizes alone")
+    turned = hostile.size(1, 1) + hostile.size(512, 256)
+    ran = runs.run(["solo", room.idle], named(room, "link", hostile.filled(b"", turned)), seconds=10_000)
+    table.expect("16 MiB of a window of 1 by 1, and of 512 by 256, `solo`", ran, "0", DONE)
 
 
 # ---- texts that are typed and played
@@ -650,6 +663,7 @@ GROUPS = {
     "streams": streams,
     "limits": limits,
 }
+DEAREST = {"largest": largest, "resizes": resizes}
 PAGE = os.path.join(DOCS, "ROBUSTNESS.md")
 HEADING = "## Each case\n"
 
@@ -664,14 +678,14 @@ def write_page():
 def main():
     parser = argparse.ArgumentParser(description=__doc__, formatter_class=argparse.RawDescriptionHelpFormatter)
     parser.add_argument("--page", action="store_true")
-    parser.add_argument("groups", nargs="*", metavar="GROUP", choices=[[], *GROUPS, "largest"])
+    parser.add_argument("groups", nargs="*", metavar="GROUP", choices=[[], *GROUPS, *DEAREST])
     got = parser.parse_args()
     if not os.access(runs.PROGRAM, os.X_OK):
         sys.exit("build the program first: ./conpty type </dev/null >/dev/null")
     with tempfile.TemporaryDirectory() as folder:
         room = Room(folder)
         for name in got.groups or GROUPS:
-            {**GROUPS, "largest": largest}[name](room)
+            (GROUPS | DEAREST)[name](room)
     if got.page:
         write_page()
     print(f"{sum(not isinstance(row, str) for row in table.rows)} rows, {table.wrong} otherwise")
