@@ -2,7 +2,10 @@
 use std::env::{Env, FillError, args};
 use std::io;
 
-// The arguments behind the first, which is the name by which the program was called.
+// No form has more than five words. Where there is a sixth, the words are none, whatever stands behind it.
+const WORDS_READ: usize = 6;
+
+// The arguments behind the first, which is the name by which the program was called. Six of them tell as much as all.
 #[derive(Drop)]
 struct Behind<'a, R> {
     rt: &'a R,
@@ -10,9 +13,10 @@ struct Behind<'a, R> {
 
 impl<R: Env> Env for Behind<'_, R> {
     fn arg(&self, i: usize, buf: &mut [u8]) -> Result<usize, FillError> {
-        match i.checked_add(1) {
-            Some(place) => self.rt.arg(place, buf),
-            None => Err(FillError::NotPresent),
+        if i < WORDS_READ {
+            self.rt.arg(i + 1, buf)
+        } else {
+            Err(FillError::NotPresent)
         }
     }
 
@@ -25,8 +29,8 @@ impl<R: Env> Env for Behind<'_, R> {
     }
 }
 
-/// The words after the program's name, which may be any bytes. A word that is not UTF-8 stands in no form, and neither do no words at all: so
-/// where there is one, there are none.
+/// The words after the program's name, which may be any bytes, or the first six of them. A word that is not UTF-8 stands in no form, and neither
+/// do no words at all: so where there is one, there are none.
 pub fn words<R: Env + AllocGlobal>(rt: &R) -> io::Result<Vec<String>> {
     let alloc = rt.alloc();
     match args(&(Behind { rt }, alloc)) {
