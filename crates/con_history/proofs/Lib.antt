@@ -1,2 +1,4 @@
 pub mod Keeps
 pub mod Places
+mod Begins
+mod Summing

@@ -2,3 +2,5 @@
 pub mod Histories
 -- The code's own words: what holds of all histories at all times.
 pub mod Sound
+-- The code's own words: checksums of beginnings.
+pub mod Sums

@@ -4,6 +4,7 @@ ghost use Rattle.std.specs.List.{starts_with};
 ghost use Rattle.con_units.specs.Units.{same_units};
 ghost use Rattle.con_history.specs.Histories.{ProgramLines, newest, without, added, shortened, last_that_begins, found, is_busy};
 
+use crate::kept::{Kept, whole_sum};
 use circular_buffer::HeapCircularBuffer;
 use con_units::{OutOfMemory, Units};
 use std::alloc::Global;
@@ -13,7 +14,7 @@ use std::marker::Model;
 #[derive(Drop)]
 pub struct History {
     program: Units,
-    lines: HeapCircularBuffer<Units>,
+    lines: HeapCircularBuffer<Kept>,
 }
 
 impl Model for History {
@@ -35,14 +36,14 @@ pub fn same(a: &Units, b: &Units) -> bool
 }
 
 // Puts the oldest line last, or removes it where it is the same.
-fn turn_once(lines: &mut HeapCircularBuffer<Units>, line: &Units)
+fn turn_once(lines: &mut HeapCircularBuffer<Kept>, line: &Units)
     requires { 0 < length lines.old.items }
     ensures lines { lines.new.items ≡ drop 1 lines.old.items ++ without line.now (take 1 lines.old.items) }
     ensures capacity { lines.new.capacity ≡ lines.old.capacity }
 {
     let _len = lines.len();
     if let Some(oldest) = lines.pop_front() {
-        if same(&oldest, line) {
+        if same(oldest.units(), line) {
             return;
         }
         let _ = lines.try_push_back(oldest);
@@ -50,7 +51,7 @@ fn turn_once(lines: &mut HeapCircularBuffer<Units>, line: &Units)
 }
 
 // Removes each line that is the same.
-fn remove_same(lines: &mut HeapCircularBuffer<Units>, line: &Units)
+fn remove_same(lines: &mut HeapCircularBuffer<Kept>, line: &Units)
     ensures lines { lines.new.items ≡ without line.now lines.old.items }
     ensures capacity { lines.new.capacity ≡ lines.old.capacity }
 {
@@ -60,7 +61,7 @@ fn remove_same(lines: &mut HeapCircularBuffer<Units>, line: &Units)
 }
 
 // Puts a line last. The oldest one goes where there is no room.
-fn push(lines: &mut HeapCircularBuffer<Units>, line: Units)
+fn push(lines: &mut HeapCircularBuffer<Kept>, line: Kept)
     ensures lines { lines.new.items ≡ newest lines.old.capacity (lines.old.items ++ line ∷ []) }
     ensures capacity { lines.new.capacity ≡ lines.old.capacity }
 {
@@ -68,7 +69,7 @@ fn push(lines: &mut HeapCircularBuffer<Units>, line: Units)
 }
 
 // Moves the newest lines into an empty buffer of another capacity.
-fn move_newest(from: &mut HeapCircularBuffer<Units>, to: &mut HeapCircularBuffer<Units>)
+fn move_newest(from: &mut HeapCircularBuffer<Kept>, to: &mut HeapCircularBuffer<Kept>)
     requires { to.old.items ≡ [] }
     ensures moved { to.new.items ≡ newest to.old.capacity from.old.items }
     ensures capacity { to.new.capacity ≡ to.old.capacity }
@@ -80,7 +81,7 @@ fn move_newest(from: &mut HeapCircularBuffer<Units>, to: &mut HeapCircularBuffer
 }
 
 // The line at a place, oldest first.
-fn line_at<'a>(lines: &'a HeapCircularBuffer<Units>, k: usize) -> &'a Units
+fn line_at<'a>(lines: &'a HeapCircularBuffer<Kept>, k: usize) -> &'a Kept
     requires { k < length lines.now.items }
     ensures { (d : List ℕ) → result.now ≡ slice_index_or lines.now.items k d }
 {
@@ -92,7 +93,7 @@ fn line_at<'a>(lines: &'a HeapCircularBuffer<Units>, k: usize) -> &'a Units
 
 // The newest line, among those from `low` on and below `high`, that begins with these units.
 fn newest_match(
-    lines: &HeapCircularBuffer<Units>,
+    lines: &HeapCircularBuffer<Kept>,
     start: &[u16],
     low: usize,
     high: usize,
@@ -101,10 +102,11 @@ fn newest_match(
     requires within { high ≤ length lines.now.items }
     ensures { result ≡ last_that_begins start.now lines.now.items low (high - low) }
 {
+    let sum = whole_sum(start);
     let mut k = high;
     while low < k {
         k -= 1;
-        if line_at(lines, k).as_slice().starts_with(start) {
+        if line_at(lines, k).begins_with(start, sum) {
             return Some(k);
         }
     }
@@ -150,7 +152,7 @@ impl History {
         ensures line { (d : List ℕ) → result.now ≡ slice_index_or self.now.lines k d }
         ensures short { length result.now ≤ 1024 }
     {
-        line_at(&self.lines, k)
+        line_at(&self.lines, k).units()
     }
 
     /// Puts a line last, unless it is empty.
@@ -165,7 +167,7 @@ impl History {
         if no_duplicates {
             remove_same(lines, &line);
         }
-        push(lines, line);
+        push(lines, Kept::new(line));
     }
 
     /// The first line that begins with these units, from before `from` down and then from the newest down to `from`.
@@ -187,7 +189,7 @@ impl History {
     }
 
     /// Moves the newest lines into an empty buffer, whose capacity is the limit from then on.
-    pub fn move_into(&mut self, mut to: HeapCircularBuffer<Units>)
+    pub fn move_into(&mut self, mut to: HeapCircularBuffer<Kept>)
         requires { to.items ≡ [] }
         ensures { self.new ≡ shortened to.capacity self.old }
     {

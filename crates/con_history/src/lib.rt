@@ -18,6 +18,7 @@
 mod histories;
 mod history;
 mod info;
+mod kept;
 mod room;
 
 pub use histories::Histories;

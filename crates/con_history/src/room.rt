@@ -2,8 +2,9 @@
 ghost use Rattle.std.specs.Prelude.{◌≡◌, [], IfOk};
 
 use crate::history::History;
+use crate::kept::Kept;
 use circular_buffer::HeapCircularBuffer;
-use con_units::{OutOfMemory, Units};
+use con_units::OutOfMemory;
 use std::alloc::Global;
 use std::marker::Model;
 
@@ -25,7 +26,7 @@ impl Model for HistoryRoom {
 /// An empty buffer for lines. Contracts see how many fit.
 #[derive(Drop)]
 pub struct EmptyLines {
-    lines: HeapCircularBuffer<Units>,
+    lines: HeapCircularBuffer<Kept>,
 }
 
 impl Model for EmptyLines {
@@ -50,7 +51,7 @@ impl EmptyLines {
     }
 
     /// The buffer itself.
-    pub fn into_lines(self) -> HeapCircularBuffer<Units>
+    pub fn into_lines(self) -> HeapCircularBuffer<Kept>
         ensures empty { result.items ≡ [] }
         ensures capacity { result.capacity ≡ self }
     {

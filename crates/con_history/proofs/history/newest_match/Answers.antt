@@ -14,7 +14,7 @@ loop-k-preserved c =
     let order : low ≤ k = omega arith in
     let again : k + 1 - low ≡ c.loop-k.k - low = omega arith in
     let other : starts_with nat_eq (get_or lines k []) start ≡ false =
-    sym (c.starts_with.ensures.value ∙ ap (λ (l : List ℕ). starts_with nat_eq l start) (c.as_slice.ensures ∙ c.line_at.ensures [])) ∙ c.if-starts_with.false in
+    sym (c.begins_with.ensures ∙ ap (λ (l : List ℕ). starts_with nat_eq l start) (c.line_at.ensures [])) ∙ c.if-begins_with.false in
     record {
       low = order;
       high = omega arith;

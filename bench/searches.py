@@ -1,0 +1,59 @@
+#!/usr/bin/env python3
+"""Instructions of an F8 over a history, counted by valgrind: over how many lines, with how long a text before the caret, and where the lines differ from it.
+
+    searches.py [LINES..]
+
+A line of 1,024 units is kept so many times, 999 by default, and a text is typed. Then come 200 and 400 times F8: what the second 200 took is what F8 costs. In
+each row the lines differ from the text at the place told, or at none: then each F8 finds one. CONPTY may name another program than the one that is built here."""
+import os
+import re
+import subprocess
+import sys
+import tempfile
+from concurrent.futures import ThreadPoolExecutor
+
+import hostile
+import runs
+
+MOST, KEYS = 1_023, 200
+# How long the text is, and at which of its units the lines differ from it.
+SHAPES = [(64, None), (64, 63), (511, None), (511, 0), (511, 255), (511, 510), (MOST, None), (MOST, 0), (MOST, 479), (MOST, 959), (MOST, MOST - 1)]
+
+
+def link(lines, units, at, keys):
+    text = b"a" * units
+    kept = bytearray(b"a" * MOST + b"\r")
+    if at is not None:
+        kept[at] = ord("b")
+    return hostile.typed(bytes(kept) * lines) + b"Q" * (4 * lines) + hostile.typed(text + b"\x1b[19~" * keys)
+
+
+def counted(lines, units, at, keys):
+    calls = [["set-history", 999, 1, 0], *[["read", 1, 2_000]] * (lines + 1)]
+    with tempfile.TemporaryDirectory() as folder:
+        document, path = hostile.document(folder, "kept", hostile.session(calls)), os.path.join(folder, "link")
+        with open(path, "wb") as file:
+            file.write(link(lines, units, at, keys))
+        with open(path, "rb") as file:
+            told = subprocess.run(
+                ["valgrind", "--tool=callgrind", "--callgrind-out-file=/dev/null", runs.PROGRAM, "solo", document],
+                stdin=file, stdout=subprocess.DEVNULL, stderr=subprocess.PIPE, check=True, text=True, errors="replace",
+            )
+    return int(re.search(r"Collected : (\d+)", told.stderr).group(1))
+
+
+def main():
+    if not os.access(runs.PROGRAM, os.X_OK):
+        sys.exit("build the program first: ./conpty type </dev/null")
+    most = [int(word) for word in sys.argv[1:]] or [999]
+    jobs = [(lines, units, at, keys) for lines in most for units, at in SHAPES for keys in (KEYS, 2 * KEYS)]
+    with ThreadPoolExecutor(os.cpu_count()) as pool:
+        counts = dict(zip(jobs, pool.map(lambda job: counted(*job), jobs)))
+    print(f"{'lines':>6} {'units':>6} {'differ at':>10} {'instructions of an F8':>22}")
+    for lines in most:
+        for units, at in SHAPES:
+            each = (counts[lines, units, at, 2 * KEYS] - counts[lines, units, at, KEYS]) / KEYS
+            print(f"{lines:6} {units:6} {'nowhere' if at is None else at:>10} {each:22,.0f}")
+
+
+main()
