@@ -69,6 +69,13 @@ views s t r q c d a b one two three four = rw (one, two, three, four) refl
 sizes : (s : Size) (p : Page) → s.w ≡ p.w → s.h ≡ p.h → ◌≡◌ {A = Size} (record { w = p.w; h = p.h }) s
 sizes s p wide tall = rw (← wide, ← tall) refl
 
+-- the view of its parts
+pub window_is : (p : Page) (size : Size) (cursor : Coord) (visible : Bool) (g : Picture) (left top : ℕ) (rows : List Glyph) → size.w ≡ p.w → size.h ≡ p.h → cursor ≡ cursor_in p → visible ≡ cursor_shown p → g ≡ p.grid → left ≡ p.left → top ≡ p.top
+    → rows ≡ rows_in g.width g.cells left top size.w size.h → ◌≡◌ {A = View} (record { size = size; rows = rows; cursor = cursor; visible = visible }) (view_of p)
+window_is p size cursor visible g left top rows wide tall place shows grid at_left at_top are =
+    let here : rows_in g.width g.cells left top size.w size.h ≡ rows_in p.grid.width p.grid.cells p.left p.top p.w p.h = rw (grid, at_left, at_top, wide, tall) refl in
+    views size _ rows _ cursor _ visible _ (sym (sizes size p wide tall)) (are ∙ here) place shows
+
 -- the view is another one, where its size, cursor or visibility is
 pub other_frame : (p : Page) (v : View) (r : Bool) (size : Size) (cursor : Coord) (visible : Bool) → size.w ≡ p.w → size.h ≡ p.h → cursor ≡ cursor_in p → visible ≡ cursor_shown p
     → (r ≡ true) ↔ ((v.size ≡ size) × (v.cursor ≡ cursor) × (v.visible ≡ visible)) → r ≡ false → (false ≡ true) ↔ (view_of p ≡ v)

@@ -12,7 +12,7 @@
 //!   [`Screens::alternate_on`] and [`Screens::alternate_off`] switch by themselves.
 //! - [`Screens::resize_room`] takes the memory of a resize of the window, and [`Screens::resize_all`] does it
 //!   (`specs/Resize.antt`).
-//! - [`Screens::view`] is the window of the active buffer (`specs/View.antt`).
+//! - [`Screens::view`] is the window of the active buffer (`specs/View.antt`); [`Screens::renewed`] makes it of the view that was known last.
 //!
 //! Every call needs buffers within their bounds (`AreBuffers`) and leaves such; [`Screens::screen_mut`] lends a screen
 //! that must keep its window's size, and [`is_kept_when_lent`] says that one with the same sides leaves such buffers too.

@@ -12,7 +12,7 @@ use crate::resize::{fit_slots, resize_slots};
 use crate::room::NewBuffer;
 use crate::shows::{is_stamped, shows_view};
 use crate::slot;
-use crate::view::window_of;
+use crate::view::{renewed, window_of};
 use con_screen::{Answers, Screen};
 use con_units::{BufferId, Cell, Code, OutOfMemory, Size, View};
 use std::alloc::Global;
@@ -281,6 +281,21 @@ impl Screens {
             h: self.h,
         };
         window_of(shown, window, rows)
+    }
+
+    /// What the console shows, in the place of the view that was shown when the number of the active buffer's screen was last raised, at
+    /// the window's present place. Only rows that are stamped with the number are read.
+    pub fn renewed(&self, last: View) -> View
+        requires buffers { AreBuffers self.now }
+        requires known { WasShown (sides (screen_at self.now self.now.active).page) (screen_at self.now self.now.active).page.left (screen_at self.now self.now.active).page.top last }
+        ensures view { result ≡ view_of (screen_at self.now self.now.active).page }
+        ensures size { (result.size.w ≡ self.now.w) × (result.size.h ≡ self.now.h) }
+    {
+        let window = Size {
+            w: self.w,
+            h: self.h,
+        };
+        renewed(self.screen(self.active()), window, last)
     }
 
     /// Raises the number of a buffer's shown screen, or leaves it. Where it is raised, the view at this moment is known

@@ -1,8 +1,11 @@
 //! The window of a screen.
-ghost use Rattle.std.specs.Prelude.{◌≡◌, ℕ, ◌+◌, ◌-◌, ◌*◌, ◌<◌, ◌≤◌, ◌^◌, [], pos, vec_capacity};
-ghost use Rattle.con_grid.specs.Picture.{IsPicture};
+ghost use Rattle.std.specs.Prelude.{◌≡◌, ℕ, ◌+◌, ◌-◌, ◌*◌, ◌<◌, ◌≤◌, ◌^◌, ◌++◌, [], pos, length, take, drop, vec_capacity};
+ghost use Rattle.con_units.specs.View.{row_of, row_part};
+ghost use Rattle.con_grid.specs.Picture.{IsPicture, IsUntouched};
 ghost use Rattle.con_screen.specs.Page.{IsPage};
+ghost use Rattle.con_screen.specs.Alternate.{sides};
 ghost use Rattle.con_screens.specs.View.{view_of, is_from, rows_in, cursor_in, cursor_shown};
+ghost use Rattle.con_screens.specs.Stamps.{WasShown};
 
 use con_grid::Grid;
 use con_screen::Screen;
@@ -22,6 +25,60 @@ fn read_window(grid: &Grid, left: usize, top: usize, w: usize, h: usize, out: &m
             out.push_reserved(grid.at((top + y) * width + (left + x)));
         }
     }
+}
+
+// Writes so many cells of a grid, from a place on, over those from another place on.
+fn read_row(grid: &Grid, at: usize, cells: &mut [Cell], from: usize, n: usize)
+    requires near { at < 2 ^ 32 }
+    requires inside { at + n ≤ length grid.now.cells }
+    requires room { from + n ≤ length cells.old }
+    ensures { cells.new ≡ take from cells.old ++ (take n (drop at grid.now.cells) ++ drop (from + n) cells.old) }
+{
+    for x in 0..n {
+        cells[from + x] = grid.at(at + x);
+    }
+}
+
+// The same of cells of one row, which are there already where the row is untouched.
+fn renew_row(grid: &Grid, y: u16, at: usize, cells: &mut [Cell], from: usize, n: usize)
+    requires below { y < grid.now.height }
+    requires near { at < 2 ^ 32 }
+    requires inside { at + n ≤ length grid.now.cells }
+    requires room { from + n ≤ length cells.old }
+    requires known { IsUntouched grid.now y → take n (drop at grid.now.cells) ≡ take n (drop from cells.old) }
+    ensures { cells.new ≡ take from cells.old ++ (take n (drop at grid.now.cells) ++ drop (from + n) cells.old) }
+{
+    if grid.stamp(y) < grid.now() {
+        return;
+    }
+    read_row(grid, at, cells, from, n);
+}
+
+// Makes cells those of a window, row by row, where those of rows that are untouched are there already.
+fn renew_rows(grid: &Grid, left: usize, top: usize, size: Size, cells: &mut [Cell])
+    requires right { left + size.w ≤ grid.now.width }
+    requires bottom { top + size.h ≤ grid.now.height }
+    requires count { length cells.old ≡ size.h * size.w }
+    requires known { (y : ℕ) → y < size.h → IsUntouched grid.now (top + y) → row_part grid.now.width grid.now.cells left size.w (top + y) ≡ row_of size.w cells.old y }
+    ensures { cells.new ≡ rows_in grid.now.width grid.now.cells left top size.w size.h }
+{
+    let width = grid.size().w as usize;
+    let w = size.w as usize;
+    for y in 0..size.h as usize {
+        let row = top + y;
+        renew_row(grid, row as u16, row * width + left, cells, y * w, w);
+    }
+}
+
+// The same of cells in a vector.
+fn renew_cells(grid: &Grid, left: usize, top: usize, size: Size, cells: &mut Vec<Cell>)
+    requires right { left + size.w ≤ grid.now.width }
+    requires bottom { top + size.h ≤ grid.now.height }
+    requires count { length cells.old.items ≡ size.h * size.w }
+    requires known { (y : ℕ) → y < size.h → IsUntouched grid.now (top + y) → row_part grid.now.width grid.now.cells left size.w (top + y) ≡ row_of size.w cells.old.items y }
+    ensures { cells.new.items ≡ rows_in grid.now.width grid.now.cells left top size.w size.h }
+{
+    renew_rows(grid, left, top, size, cells.as_mut_slice());
 }
 
 fn is_from(first: usize, n: usize, at: usize) -> bool
@@ -101,5 +158,26 @@ pub fn window_of(screen: &Screen, size: Size, rows: Vec<Cell>) -> View
         rows: Rows(rows),
         cursor,
         visible,
+    }
+}
+
+/// The window of a screen, in the place of the view that was shown when the number of its grid was last raised. Only rows that are
+/// stamped are read.
+pub fn renewed(screen: &Screen, size: Size, last: View) -> View
+    requires page { IsPage screen.now.page }
+    requires wide { size.w ≡ screen.now.page.w }
+    requires tall { size.h ≡ screen.now.page.h }
+    requires known { WasShown (sides screen.now.page) screen.now.page.left screen.now.page.top last }
+    ensures { result ≡ view_of screen.now.page }
+{
+    let mut rows = last.rows;
+    let (left, top) = corner(screen);
+    let (cursor, shown) = cursor_of(screen, size);
+    renew_cells(screen.grid(), left, top, size, &mut rows.0);
+    View {
+        size,
+        rows,
+        cursor,
+        visible: shown,
     }
 }
