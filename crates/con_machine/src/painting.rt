@@ -43,8 +43,8 @@ impl Console {
         let fresh = is_fresh(self.resized, &self.painted);
         let known = showing::is_known(&self.screens, self.seen);
         let all = marks_all(fresh, known);
-        let view = showing::view(alloc, &self.screens)?;
-        let kept = showing::view(alloc, &self.screens)?;
+        let view = showing::view_behind(alloc, &self.screens, self.seen, &self.painted)?;
+        let kept = showing::copied(alloc, &view)?;
         let marks = showing::marks(alloc, &self.screens, view.size.h, all)?;
         Ok(PaintRoom {
             view,

@@ -12,7 +12,7 @@ ghost use Rattle.con_machine.specs.Marks.{seen_at};
 use crate::seen::Seen;
 use crate::setters;
 use con_screens::Screens;
-use con_units::{Marks, OutOfMemory, Size, View, index_of};
+use con_units::{Marks, OutOfMemory, Rows, Size, View, index_of};
 use std::alloc::Global;
 
 // Where the view is seen.
@@ -77,6 +77,46 @@ pub(crate) fn view(alloc: Global, screens: &Screens) -> Result<View, OutOfMemory
         return Err(OutOfMemory);
     };
     Ok(screens.view(room))
+}
+
+/// A view's copy.
+pub(crate) fn copied(alloc: Global, view: &View) -> Result<View, OutOfMemory>
+    ensures { IfOk result (λ v. v ≡ view.now) }
+{
+    let Ok(cells) = Vec::from_slice(alloc, view.rows.as_slice()) else {
+        return Err(OutOfMemory);
+    };
+    Ok(View {
+        size: view.size,
+        rows: Rows(cells),
+        cursor: view.cursor,
+        visible: view.visible,
+    })
+}
+
+/// The view, in memory of its own. Where it is seen in the same place as that which was painted last, it is a copy of that one in which
+/// stamped rows are read anew.
+pub(crate) fn view_behind(
+    alloc: Global,
+    screens: &Screens,
+    seen: Option<Seen>,
+    painted: &Option<View>,
+) -> Result<View, OutOfMemory>
+    requires buffers { AreBuffers screens.now }
+    requires seen { IsPainted (all_remembered screens.now) seen painted.now }
+    ensures view { IfOk result (λ v. v ≡ view_of (page_at screens.now screens.now.active)) }
+    ensures tall { IfOk result (λ v. v.size.h ≡ screens.now.h) }
+{
+    if !is_known(screens, seen) {
+        return view(alloc, screens);
+    }
+    match painted {
+        None => view(alloc, screens),
+        Some(last) => {
+            let copy = copied(alloc, last)?;
+            Ok(screens.renewed(copy))
+        }
+    }
 }
 
 fn is_marked(screens: &Screens, all: bool, y: u16) -> bool

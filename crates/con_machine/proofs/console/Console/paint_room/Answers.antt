@@ -13,7 +13,7 @@ returns-clause-room c =
     let r : PaintRoom = record { view = c.in_ok-view.view; kept = c.in_ok-kept.kept; marks = c.in_ok-marks.marks; fresh = c.is_fresh-fresh.result } in
     subst (λ (v : Held). IsPaintRoom v.state r) c.self.view_is (record {
       view = view;
-      kept = c.in_ok-kept.ensures.view;
+      kept = c.in_ok-kept.ensures ∙ view;
       marks = marks_are (state_of c.self.inside) c.self.inside.seen c.in_ok-view.view.size.h c.in_ok-marks.marks c.is_fresh-fresh.result
           c.is_known-known.result c.marks_all-all.result c.self.invariant.buffers c.self.invariant.seen_was (ap (λ (v : View). v.size.h) view)
           c.is_fresh-fresh.ensures c.is_known-known.ensures c.marks_all-all.ensures c.in_ok-marks.ensures.count c.in_ok-marks.ensures.all
