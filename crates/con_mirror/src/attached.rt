@@ -1,5 +1,5 @@
 //! A terminal that is attached.
-ghost use Rattle.std.specs.Prelude.{◌≡◌, ◌+◌, ◌*◌, ◌≤◌, ◌++◌, true, length, drop, replicate, IfOk};
+ghost use Rattle.std.specs.Prelude.{◌≡◌, ◌+◌, ◌*◌, ◌≤◌, ◌++◌, length, drop, IfOk};
 ghost use Rattle.std.specs.Vec.{vec_len, vec_capacity};
 ghost use Rattle.con_units.specs.Limits.{IsWindow};
 ghost use Rattle.con_units.specs.View.{IsWhole};
@@ -13,7 +13,8 @@ use con_paint::Painter;
 use con_units::{Coord, Marks, OutOfMemory, Rows, Size, View};
 use std::alloc::Global;
 
-/// A terminal that is attached: its painter, the part that it was shown last, and a mark for each of its rows.
+/// A terminal that is attached: its painter, the part that it was shown last, and a mark for each of its rows, where it became another
+/// one then.
 #[derive(Drop)]
 pub struct Attached {
     pub painter: Painter,
@@ -34,7 +35,7 @@ fn blanks(alloc: Global, size: Size) -> Result<Rows, OutOfMemory>
 
 // A mark for each row of a size.
 fn all_marked(alloc: Global, size: Size) -> Result<Marks, OutOfMemory>
-    ensures { IfOk result (λ marks. marks ≡ replicate size.h true) }
+    ensures { IfOk result (λ marks. length marks ≡ size.h) }
 {
     match Vec::from_elem(alloc, true, size.h as usize) {
         Ok(marks) => Ok(Marks(marks)),
@@ -76,7 +77,7 @@ impl Attached {
         ensures quiet { IsShown self.old.painter (part view.now (size_in self.old.painter)) → out.new.items ≡ out.old.items }
         ensures capacity { vec_capacity out.new ≡ vec_capacity out.old }
     {
-        put_part(&mut self.shown, view);
+        put_part(&mut self.shown, &mut self.marks, view);
         self.painter.paint(&self.shown, &self.marks, out);
     }
 }

@@ -1,25 +1,31 @@
-use Rattle.con_mirror.proofs.AttachedLemmas.{attached_on, mirrors, now_shown, was_shown, whole_part}
+use Rattle.con_mirror.proofs.AttachedLemmas.{attached_on, marks_count, mirrors, now_shown, unmarked_row, was_shown, whole_part}
 use Rattle.con_mirror.proofs.attached.Attached.paint.Goals as goal
 
 pub paint-requires-clause-view : goal.paint-requires-clause-view
-paint-requires-clause-view c = whole_part c.args.self.now c.args.view.now c.put_part.new.shown c.requires.attached c.put_part.ensures
+paint-requires-clause-view c = whole_part c.args.self.now c.args.view.now c.put_part.new.shown c.requires.attached c.put_part.ensures.part
+
+pub paint-requires-clause-marks : goal.paint-requires-clause-marks
+paint-requires-clause-marks c = marks_count c.args.self.now c.put_part.new.marks c.requires.attached c.put_part.ensures.count
+
+pub paint-requires-clause-marked : goal.paint-requires-clause-marked
+paint-requires-clause-marked c = unmarked_row c.args.self.now c.put_part.new.shown c.put_part.new.marks c.requires.attached c.put_part.ensures.same
 
 pub returns-clause-attached : goal.returns-clause-attached
 returns-clause-attached c =
     let size = c.paint.ensures.size in
-    attached_on c.args.self.now c.args.view.now c.put_part.new.shown c.paint.new.self c.requires.attached c.put_part.ensures size.0 size.1
+    attached_on c.args.self.now c.args.view.now c.put_part.new.shown c.paint.new.self c.put_part.new.marks c.requires.attached c.put_part.ensures.part size.0 size.1 c.put_part.ensures.count c.paint.ensures.shown
 
 pub returns-clause-paints : goal.returns-clause-paints
 returns-clause-paints c =
     let frame = c.paint.ensures in
-    mirrors c.args.self.now c.args.view.now c.put_part.new.shown c.paint.new.self _ c.requires.attached c.put_part.ensures
+    mirrors c.args.self.now c.args.view.now c.put_part.new.shown c.paint.new.self _ c.requires.attached c.put_part.ensures.part
     frame.size.0 frame.size.1 frame.paints frame.shown
 
 pub returns-clause-shown : goal.returns-clause-shown
 returns-clause-shown c =
     let frame = c.paint.ensures in
-    now_shown c.args.self.now c.args.view.now c.put_part.new.shown c.paint.new.self c.requires.attached c.put_part.ensures frame.size.0 frame.size.1 frame.shown
+    now_shown c.args.self.now c.args.view.now c.put_part.new.shown c.paint.new.self c.requires.attached c.put_part.ensures.part frame.size.0 frame.size.1 frame.shown
 
 pub returns-clause-quiet : goal.returns-clause-quiet
 returns-clause-quiet c = λ was.
-    c.paint.ensures.quiet (was_shown c.args.self.now c.args.view.now c.put_part.new.shown c.requires.attached c.put_part.ensures was)
+    c.paint.ensures.quiet (was_shown c.args.self.now c.args.view.now c.put_part.new.shown c.requires.attached c.put_part.ensures.part was)
