@@ -3,8 +3,8 @@
 
     searches.py [LINES..]
 
-A line of 1,024 units is kept so many times, 999 by default, and a text is typed. Then come 200 and 400 times F8: what the second 200 took is what F8 costs. In
-each row the lines differ from the text at the place told, or at none: then each F8 finds one. CONPTY may name another program than the one that is built here."""
+A line of 1,023 units is kept so many times, 999 by default, and a text is typed. Then come 200 and 400 times F8: what the second 200 took is what F8 costs. In
+each row the lines differ from the text at the place told, or at none: then each F8 finds one. CONPTY may name another program than the one built here."""
 import os
 import re
 import subprocess
