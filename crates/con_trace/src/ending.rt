@@ -59,7 +59,7 @@ fn quoted(alloc: Global, text: String) -> Result<String, OutOfMemory>
 impl Line {
     /// Any text.
     #[tactic(auto, using(crate::proofs::Puts::values))]
-    fn any_text(&mut self, alloc: Global, text: String) -> Result<(), OutOfMemory>
+    pub fn any_text(&mut self, alloc: Global, text: String) -> Result<(), OutOfMemory>
         ensures { IfOk result (λ _. self.new ≡ put self.old (string (string_bytes text))) }
     {
         let shown = quoted(alloc, text)?;

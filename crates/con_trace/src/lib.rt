@@ -1,8 +1,9 @@
 //! Reports: a line for each event of a session with its answer, and a last line that tells the status.
 //!
-//! [`write_entry`] writes the line of an entry and its reply to any sink, [`write_end`] the last line. A line is one compact JSON array
-//! and a line feed, `[ACTOR,NAME,[ARGUMENTS],REPLY]`; units, words and bytes stand in it as one text of hexadecimal digits. The bytes
-//! that were written are exactly `line_text` of `specs/Line`, or `ending_text` of `specs/Ending`; after a refusal a front of them.
+//! [`write_entry`] writes the line of an entry and its reply to any sink, [`write_end`] the last line, and [`write_audit`] the one line
+//! that an audit tells. A line is one compact JSON array and a line feed, `[ACTOR,NAME,[ARGUMENTS],REPLY]`; units, words and bytes stand
+//! in it as one text of hexadecimal digits. The bytes that were written are exactly `line_text` of `specs/Line`, `ending_text` of
+//! `specs/Ending`, or `found_text` of `specs/Audit`; after a refusal a front of them.
 //!
 //! [`read`] gives back the [`Trace`] that a report determines (`IsReport` of `specs/Report`), and refuses any other text with its first wrong
 //! line ([`TraceFault`]). [`report_tells`] is the law that a report determines the history, the replies, the lengths after pictures
@@ -15,6 +16,7 @@
 #![tactic(auto)]
 
 pub mod answers;
+pub mod audit;
 pub mod cursor;
 pub mod ending;
 pub mod entry;
@@ -32,6 +34,7 @@ pub mod shows;
 pub mod trace;
 pub mod unhex;
 
+pub use audit::{AuditLine, write_audit};
 pub use ending::{EndLine, write_end};
 pub use entry::write_entry;
 pub use form::Form;
