@@ -3,18 +3,10 @@ use Rattle.std.specs.Prelude.{ℕ, zero, suc, ◌+◌, Bool, List, [], ◌∷◌
 use Rattle.con_units.specs.declared.code.Code.{Code}
 use Rattle.con_units.specs.declared.code.Code.TheVariants as code
 use Rattle.std.specs.List.{list_all}
-use Rattle.con_handlers.specs.Answers.{raised, answer}
+use Rattle.con_handlers.specs.Answers.{answer}
+use Rattle.con_handlers.specs.Memory.{Memory, after_event}
 use Rattle.con_handlers.specs.declared.chain.Delivered.{Delivered}
 use Rattle.con_handlers.specs.declared.chain.Delivered.TheVariants as outcome
-
--- what a handler remembers
-pub record Memory : Type 0 where
-  pub asked : ℕ
-  pub last : ℕ
-  pub kind : ℕ
-
-abbrev pub memory_of : ℕ → ℕ → ℕ → Memory
-memory_of asked last kind = record { asked = asked; last = last; kind = kind }
 
 abbrev pub newer_or : Bool → Option ℕ → Option ℕ
 newer_or b (Some i) = Some (i + 1)
@@ -36,9 +28,6 @@ delivered bs = delivered_by (newest bs)
 -- the handlers from this one on are asked: all, where none answers true
 abbrev pub asked_from : List Bool → ℕ
 asked_from bs = unwrap_or (newest bs) 0
-
-abbrev pub after_event : ℕ → Memory → Memory
-after_event event m = record { asked = raised m.asked; last = event; kind = m.kind }
 
 abbrev pub remembered : ℕ → ℕ → List Memory → List Memory
 remembered event k [] = []

@@ -1,7 +1,8 @@
 // The chain.
 ghost use Rattle.std.specs.Prelude.{◌≡◌, ◌==◌, [], ◌++◌, ◌∷◌, ◌≤◌, length, remove, OnOk, OnErr, IfErr};
-ghost use Rattle.con_handlers.specs.Delivery.{memory_of, after_event, Delivers, removal};
 ghost use Rattle.con_handlers.specs.Answers.{answer};
+ghost use Rattle.con_handlers.specs.Delivery.{Delivers, removal};
+ghost use Rattle.con_handlers.specs.Memory.{after_event};
 
 use crate::handler::CtrlHandler;
 use con_units::Code;
@@ -28,15 +29,15 @@ pub struct Unadded {
 
 fn ask(handler: &mut Box<dyn CtrlHandler + Send>, event: u32) -> bool
     ensures answers { result ≡ will handler.old event }
-    ensures memory { memory_of (asked handler.new) (last handler.new) (kind handler.new) ≡ after_event event (memory_of (asked handler.old) (last handler.old) (kind handler.old)) }
-    ensures by_kind { 1 ≤ kind handler.old → will handler.old event ≡ answer (kind handler.old) (asked handler.old) event }
+    ensures memory { memory handler.new ≡ after_event event (memory handler.old) }
+    ensures by_kind { 1 ≤ (memory handler.old).kind
+        → will handler.old event ≡ answer (memory handler.old).kind (memory handler.old).asked event }
 {
     handler.handle(event)
 }
 
 fn deliver_to(handlers: &mut [Box<dyn CtrlHandler + Send>], event: u32) -> Delivered
-    ensures { Delivers (λ b. will b event) (λ b. memory_of (asked b) (last b) (kind b)) event
-        handlers.old handlers.new result }
+    ensures { Delivers (λ b. will b event) memory event handlers.old handlers.new result }
 {
     let mut at = handlers.len();
     while at > 0 {
@@ -102,8 +103,7 @@ impl Chain {
 
     /// Asks from the newest down to the first that answers true.
     pub fn deliver(&mut self, event: u32) -> Delivered
-        ensures { Delivers (λ b. will b event)
-            (λ b. memory_of (asked b) (last b) (kind b)) event
+        ensures { Delivers (λ b. will b event) memory event
             self.old.handlers.items self.new.handlers.items result }
     {
         deliver_to(self.handlers.as_mut_slice(), event)

@@ -1,7 +1,7 @@
 //! Handlers of control events, and the chain in which a process asks them.
 //!
-//! A handler is whatever implements [`CtrlHandler`]. Contracts see four meanings of it: how often it was asked, the last event,
-//! what it will answer, and its kind. A [`Chain`] is the list of the boxes that were added, oldest first.
+//! A handler is whatever implements [`CtrlHandler`]. Contracts see two meanings of it: what it remembers, which is how often it
+//! was asked, the last event and its kind, and what it will answer. A [`Chain`] is the list of the boxes that were added, oldest first.
 //!
 //! - [`Chain::deliver`] asks from the newest down to the first that answers true.
 //! - [`Chain::remove`] drops a handler; [`Chain::add`] is the only call that takes memory, and hands the box back where there is none.

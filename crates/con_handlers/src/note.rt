@@ -1,5 +1,6 @@
 // Kind 2.
 ghost use Rattle.std.specs.Prelude.{◌≡◌, false};
+ghost use Rattle.con_handlers.specs.Memory.{memory_of};
 
 use crate::handler::{CtrlHandler, one_more};
 
@@ -11,13 +12,9 @@ pub struct Note {
 }
 
 impl CtrlHandler for Note {
-    ghost asked = { λ h. h.asked };
-
-    ghost last = { λ h. h.last };
+    ghost memory = { λ h. memory_of h.asked h.last 2 };
 
     ghost will = { λ _ _. false };
-
-    ghost kind = { λ _. 2 };
 
     fn handle(&mut self, event: u32) -> bool {
         self.asked = one_more(self.asked);
@@ -29,7 +26,7 @@ impl CtrlHandler for Note {
 impl Note {
     /// One that was never asked.
     pub fn new() -> Note
-        ensures { ⟦<Note as CtrlHandler>⟧.asked result ≡ 0 }
+        ensures { (⟦<Note as CtrlHandler>⟧.memory result).asked ≡ 0 }
     {
         Note { asked: 0, last: 0 }
     }

@@ -1,5 +1,6 @@
 // Kind 3.
 ghost use Rattle.std.specs.Prelude.{◌≡◌, ◌==◌};
+ghost use Rattle.con_handlers.specs.Memory.{memory_of};
 
 use crate::handler::{CtrlHandler, one_more};
 
@@ -11,13 +12,9 @@ pub struct Once {
 }
 
 impl CtrlHandler for Once {
-    ghost asked = { λ h. h.asked };
-
-    ghost last = { λ h. h.last };
+    ghost memory = { λ h. memory_of h.asked h.last 3 };
 
     ghost will = { λ h _. h.asked == 0 };
-
-    ghost kind = { λ _. 3 };
 
     fn handle(&mut self, event: u32) -> bool {
         let first = self.asked == 0;
@@ -30,7 +27,7 @@ impl CtrlHandler for Once {
 impl Once {
     /// One that was never asked.
     pub fn new() -> Once
-        ensures { ⟦<Once as CtrlHandler>⟧.asked result ≡ 0 }
+        ensures { (⟦<Once as CtrlHandler>⟧.memory result).asked ≡ 0 }
     {
         Once { asked: 0, last: 0 }
     }

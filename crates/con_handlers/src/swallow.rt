@@ -1,5 +1,6 @@
 // Kind 1.
 ghost use Rattle.std.specs.Prelude.{◌≡◌, true};
+ghost use Rattle.con_handlers.specs.Memory.{memory_of};
 
 use crate::handler::{CtrlHandler, one_more};
 
@@ -11,13 +12,9 @@ pub struct Swallow {
 }
 
 impl CtrlHandler for Swallow {
-    ghost asked = { λ h. h.asked };
-
-    ghost last = { λ h. h.last };
+    ghost memory = { λ h. memory_of h.asked h.last 1 };
 
     ghost will = { λ _ _. true };
-
-    ghost kind = { λ _. 1 };
 
     fn handle(&mut self, event: u32) -> bool {
         self.asked = one_more(self.asked);
@@ -29,7 +26,7 @@ impl CtrlHandler for Swallow {
 impl Swallow {
     /// One that was never asked.
     pub fn new() -> Swallow
-        ensures { ⟦<Swallow as CtrlHandler>⟧.asked result ≡ 0 }
+        ensures { (⟦<Swallow as CtrlHandler>⟧.memory result).asked ≡ 0 }
     {
         Swallow { asked: 0, last: 0 }
     }

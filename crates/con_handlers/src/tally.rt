@@ -1,5 +1,6 @@
 // Kind 4.
 ghost use Rattle.std.specs.Prelude.{◌≡◌, ◌==◌, not};
+ghost use Rattle.con_handlers.specs.Memory.{memory_of};
 
 use crate::handler::{CtrlHandler, one_more};
 
@@ -11,13 +12,9 @@ pub struct Tally {
 }
 
 impl CtrlHandler for Tally {
-    ghost asked = { λ h. h.asked };
-
-    ghost last = { λ h. h.last };
+    ghost memory = { λ h. memory_of h.asked h.last 4 };
 
     ghost will = { λ _ event. not (event == 0) };
-
-    ghost kind = { λ _. 4 };
 
     fn handle(&mut self, event: u32) -> bool {
         self.asked = one_more(self.asked);
@@ -29,7 +26,7 @@ impl CtrlHandler for Tally {
 impl Tally {
     /// One that was never asked.
     pub fn new() -> Tally
-        ensures { ⟦<Tally as CtrlHandler>⟧.asked result ≡ 0 }
+        ensures { (⟦<Tally as CtrlHandler>⟧.memory result).asked ≡ 0 }
     {
         Tally { asked: 0, last: 0 }
     }

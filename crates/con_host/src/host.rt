@@ -1,7 +1,6 @@
 //! The top call.
 
 ghost use Rattle.std.specs.Prelude.{◌≡◌, ◌≢◌, ℕ, ◌+◌, ◌<◌, ◌≤◌, ◌⊎◌, ◌↔◌, List, [], All, length, map, Option, Some, None, IfSome, IsNone, IsTrue, string_bytes};
-ghost use Rattle.con_handlers.specs.Delivery.{memory_of};
 ghost use Rattle.con_outside.specs.Outside.{Rose, then_left};
 ghost use Rattle.con_session.specs.Worker.{told_kind};
 ghost use Rattle.con_events.specs.Session.{Clients};
@@ -54,7 +53,7 @@ pub fn console_host<
     gate: &G,
 ) -> u8
     requires few { All (λ rack. length rack.items ≤ 255) racks.items }
-    ensures outcome { Hosted result (form_of (map string_bytes words.now)) (F.files files.old) (Rose (F.faults files.old) (F.faults files.new)) (map (λ rack. map (λ b. told_kind (memory_of (asked b) (last b) (kind b))) rack.items) racks.items) (I.left link.old) (I.left link.new) (O.written term.old) (O.written term.new) (N.written second.old) (N.written second.new) (R.written report.old) (R.written report.new) (Rose (R.faults report.old) (R.faults report.new)) (Rose (N.faults second.old) (N.faults second.new)) }
+    ensures outcome { Hosted result (form_of (map string_bytes words.now)) (F.files files.old) (Rose (F.faults files.old) (F.faults files.new)) (map (λ rack. map (λ b. told_kind (memory b)) rack.items) racks.items) (I.left link.old) (I.left link.new) (O.written term.old) (O.written term.new) (N.written second.old) (N.written second.new) (R.written report.old) (R.written report.new) (Rose (R.faults report.old) (R.faults report.new)) (Rose (N.faults second.old) (N.faults second.new)) }
     ensures usage { result ≡ USAGE → form_of (map string_bytes words.now) ≡ None }
     ensures no_form { form_of (map string_bytes words.now) ≡ None → (result ≡ USAGE) ⊎ (result ≡ 9) }
     ensures link_failed { result ≡ LINK → Rose (I.faults link.old) (I.faults link.new) }

@@ -1,7 +1,6 @@
 //! `solo`: the session of a file, by turns, with its history as the report.
 
 ghost use Rattle.std.specs.Prelude.{◌≡◌, ◌≤◌, ◌<◌, ◌⊎◌, ℕ, List, Some, All, IfSome, length, map};
-ghost use Rattle.con_handlers.specs.Delivery.{memory_of};
 ghost use Rattle.con_events.specs.Session.{Clients};
 ghost use Rattle.con_events.specs.declared.end.End.{End as Ended};
 ghost use Rattle.con_outside.specs.Outside.{Rose, then_left};
@@ -29,7 +28,7 @@ fn run<I: Source, O: Sink, R: Sink>(
     racks: Vec<Vec<Box<dyn CtrlHandler + Send>>>,
 ) -> u8
     requires few { All (λ rack. length rack.items ≤ 255) racks.items }
-    ensures ran { RanByTurns result session.now (map (λ rack. map (λ b. told_kind (memory_of (asked b) (last b) (kind b))) rack.items) racks.items) (I.left link.old) (I.left link.new) (O.written term.old) (O.written term.new) (R.written report.old) (R.written report.new) (Rose (R.faults report.old) (R.faults report.new)) }
+    ensures ran { RanByTurns result session.now (map (λ rack. map (λ b. told_kind (memory b)) rack.items) racks.items) (I.left link.old) (I.left link.new) (O.written term.old) (O.written term.new) (R.written report.old) (R.written report.new) (Rose (R.faults report.old) (R.faults report.new)) }
     ensures link_failed { result ≡ 4 → Rose (I.faults link.old) (I.faults link.new) }
     ensures term_failed { result ≡ 5 → Rose (O.faults term.old) (O.faults term.new) }
     ensures report_failed { result ≡ 6 → Rose (R.faults report.old) (R.faults report.new) }
@@ -57,7 +56,7 @@ pub fn host_solo<F: Files, I: Source, O: Sink, R: Sink>(
     racks: Vec<Vec<Box<dyn CtrlHandler + Send>>>,
 ) -> u8
     requires few { All (λ rack. length rack.items ≤ 255) racks.items }
-    ensures outcome { Soloed result (F.files files.old) name.now (Rose (F.faults files.old) (F.faults files.new)) (map (λ rack. map (λ b. told_kind (memory_of (asked b) (last b) (kind b))) rack.items) racks.items) (I.left link.old) (I.left link.new) (O.written term.old) (O.written term.new) (R.written report.old) (R.written report.new) (Rose (R.faults report.old) (R.faults report.new)) }
+    ensures outcome { Soloed result (F.files files.old) name.now (Rose (F.faults files.old) (F.faults files.new)) (map (λ rack. map (λ b. told_kind (memory b)) rack.items) racks.items) (I.left link.old) (I.left link.new) (O.written term.old) (O.written term.new) (R.written report.old) (R.written report.new) (Rose (R.faults report.old) (R.faults report.new)) }
     ensures link_failed { result ≡ 4 → Rose (I.faults link.old) (I.faults link.new) }
     ensures term_failed { result ≡ 5 → Rose (O.faults term.old) (O.faults term.new) }
     ensures report_failed { result ≡ 6 → Rose (R.faults report.old) (R.faults report.new) }

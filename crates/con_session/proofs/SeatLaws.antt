@@ -11,7 +11,7 @@ use Rattle.con_events.specs.declared.event.Event.{Event}
 use Rattle.con_events.specs.declared.reply.Reply.{Reply}
 use Rattle.con_events.specs.declared.script.Script.{Script}
 use Rattle.con_events.specs.declared.script.Step.{Step}
-use Rattle.con_handlers.specs.Delivery.{Memory}
+use Rattle.con_handlers.specs.Memory.{Memory}
 use Rattle.con_machine.specs.Client.{Client, Stance, GoesOn, MayLeave, MustLeave, Gone, MayBy}
 use Rattle.con_machine.specs.RoundLaws.{turns_more, entries_more, broken_off}
 use Rattle.con_machine.specs.Rounds.{Begun, AreTurns, IsTurn, clients_from, client_at, entry_of, entries_of, is_nobody}

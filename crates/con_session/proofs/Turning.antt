@@ -3,7 +3,7 @@ use Rattle.std.proofs.Common.{◌≡◌, ◌⊎◌, ℕ, zero, suc, ◌+◌, ◌
 use Rattle.std.specs.Prelude.{not, ◌&&◌, nat_lt, nat_le}
 use Rattle.std.proofs.lemmas.Bool.{and_parts}
 use Rattle.std.proofs.lemmas.Bool.Decides.{nat_tests}
-use Rattle.con_handlers.specs.Delivery.{Memory}
+use Rattle.con_handlers.specs.Memory.{Memory}
 use Rattle.con_units.specs.declared.place.Size.{Size}
 use Rattle.con_link.specs.Reading.{Reading}
 use Rattle.con_paint.specs.Painter.{Kept}

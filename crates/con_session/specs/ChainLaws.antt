@@ -9,7 +9,8 @@ use Rattle.std.proofs.lemmas.List.{get_or-set_other, length-map}
 use Rattle.std.proofs.Math.ListN.{get_or-map}
 use Rattle.con_units.specs.declared.code.Code.{Code}
 use Rattle.con_units.specs.declared.code.Code.TheVariants as code
-use Rattle.con_handlers.specs.Delivery.{Memory, removal}
+use Rattle.con_handlers.specs.Delivery.{removal}
+use Rattle.con_handlers.specs.Memory.{Memory}
 use Rattle.con_machine.specs.Chain.{Handler, without_handler}
 use Rattle.con_machine.specs.Follows.{kinds_of}
 use Rattle.con_machine.specs.Rounds.{Begun}

@@ -11,7 +11,7 @@ use Rattle.con_events.specs.declared.entry.Entry.{Entry}
 use Rattle.con_events.specs.declared.event.Event.TheVariants as events
 use Rattle.con_events.specs.declared.reply.Reply.{Reply}
 use Rattle.con_events.specs.declared.script.Step.{Step}
-use Rattle.con_handlers.specs.Delivery.{Memory}
+use Rattle.con_handlers.specs.Memory.{Memory}
 use Rattle.con_machine.specs.Added.{adds, has_added}
 use Rattle.con_machine.specs.Chain.{Handler, with_handler, without_handler}
 use Rattle.con_machine.specs.Client.{Client, GoesOn, next_event, entered, is_fail, chained}

@@ -1,6 +1,6 @@
 -- Clients at the beginning of a session.
 use Rattle.std.specs.Prelude.{◌≡◌, ℕ, ◌+◌, false, List, [], ◌∷◌, get_or}
-use Rattle.con_handlers.specs.Delivery.{Memory}
+use Rattle.con_handlers.specs.Memory.{Memory}
 use Rattle.con_machine.specs.Follows.{kinds_of}
 use Rattle.con_machine.specs.Rounds.{Begun}
 use Rattle.con_session.specs.Worker.{HandsStand}

@@ -8,7 +8,8 @@ use Rattle.con_events.specs.declared.actor.Actor.TheVariants as actors
 use Rattle.con_events.specs.declared.entry.Entry.{Entry}
 use Rattle.con_events.specs.declared.event.Event.{Event}
 use Rattle.con_events.specs.declared.reply.Reply.{Reply}
-use Rattle.con_handlers.specs.Delivery.{Memory, asked_from}
+use Rattle.con_handlers.specs.Delivery.{asked_from}
+use Rattle.con_handlers.specs.Memory.{Memory}
 use Rattle.con_machine.specs.Added.{adds, has_added}
 use Rattle.con_machine.specs.Chain.{Handler, answers_to, asked_once, delivered_to}
 use Rattle.con_machine.specs.Client.{Client, client_after}

@@ -1,6 +1,6 @@
 -- A session by turns, between its turns and between its rounds.
 use Rattle.std.specs.Prelude.{◌≡◌, ◌⊎◌, ℕ, ◌+◌, ◌<◌, Bool, true, false, List, [], ◌++◌, length, map, Option, Result, Ok, Err}
-use Rattle.con_handlers.specs.Delivery.{Memory}
+use Rattle.con_handlers.specs.Memory.{Memory}
 use Rattle.con_units.specs.declared.code.OutOfMemory.{OutOfMemory}
 use Rattle.con_link.specs.Reading.{Reading, plainly}
 use Rattle.con_paint.specs.Painter.{Kept}

@@ -9,7 +9,7 @@ use Rattle.con_events.specs.declared.reply.Reply.{Reply}
 use Rattle.con_events.specs.declared.reply.Reply.TheVariants as replies
 use Rattle.con_events.specs.declared.script.Step.{Step}
 use Rattle.con_units.specs.declared.code.OutOfMemory.{OutOfMemory}
-use Rattle.con_handlers.specs.Delivery.{Memory}
+use Rattle.con_handlers.specs.Memory.{Memory}
 use Rattle.con_procs.specs.Procs.{is_attached}
 use Rattle.con_readers.specs.Reads.{is_open, has_done}
 use Rattle.con_machine.specs.Chain.{delivered_to, is_handled}

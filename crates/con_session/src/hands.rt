@@ -2,7 +2,6 @@
 ghost use Rattle.std.specs.Prelude.{◌≡◌, ◌==◌, ℕ, Bool, true, false, List, [], Some, None, map, length, ◌≤◌, get_or, slice_set, IfOk, if◌then◌else◌};
 ghost use Rattle.std.specs.List.{position, remove};
 ghost use Rattle.std.specs.Option.{option_map};
-ghost use Rattle.con_handlers.specs.Delivery.{memory_of};
 ghost use Rattle.con_machine.specs.Chain.{Handler, delivered_to, is_handled, with_handler, without_handler};
 ghost use Rattle.con_machine.specs.Follows.{kinds_of};
 ghost use Rattle.con_machine.specs.Rounds.{Begun};
@@ -70,8 +69,8 @@ impl Hands {
     /// The handlers of a client that has added none.
     pub fn new(alloc: Global, rack: Vec<Box<dyn CtrlHandler + Send>>) -> Result<Hands, OutOfMemory>
         requires { 0 ≤ length rack.items }
-        ensures stand { IfOk result (λ hands. (b : Begun) (p : ℕ) → kinds_of b.racks p ≡ map (λ b. told_kind (memory_of (asked b) (last b) (kind b))) rack.items
-            → HandsStand b p [] hands.places.items (map (λ b. memory_of (asked b) (last b) (kind b)) hands.chain.handlers.items) (map (λ o. told_in (option_map (λ b. memory_of (asked b) (last b) (kind b)) o)) hands.rack.items)) }
+        ensures stand { IfOk result (λ hands. (b : Begun) (p : ℕ) → kinds_of b.racks p ≡ map (λ b. told_kind (memory b)) rack.items
+            → HandsStand b p [] hands.places.items (map memory hands.chain.handlers.items) (map (λ o. told_in (option_map memory o)) hands.rack.items)) }
     {
         let rack = filled(alloc, rack)?;
         Ok(Hands {
@@ -84,8 +83,8 @@ impl Hands {
     /// Asks the chain. Whether a handler handled the event.
     pub fn deliver(&mut self, event: u32) -> bool
         requires { 0 ≤ event }
-        ensures handled { (hs : List Handler) (doubtful : Bool) → HandsAre hs doubtful self.old.places.items (map (λ b. memory_of (asked b) (last b) (kind b)) self.old.chain.handlers.items)
-            → (doubtful ≡ false → result ≡ is_handled hs event) × HandsAre (delivered_to hs event) doubtful self.new.places.items (map (λ b. memory_of (asked b) (last b) (kind b)) self.new.chain.handlers.items) }
+        ensures handled { (hs : List Handler) (doubtful : Bool) → HandsAre hs doubtful self.old.places.items (map memory self.old.chain.handlers.items)
+            → (doubtful ≡ false → result ≡ is_handled hs event) × HandsAre (delivered_to hs event) doubtful self.new.places.items (map memory self.new.chain.handlers.items) }
         ensures rack { self.new.rack.items ≡ self.old.rack.items }
     {
         match self.chain.deliver(event) {
@@ -97,9 +96,9 @@ impl Hands {
     /// Puts the handler at this place of the rack last in the chain. The rack has it no more.
     pub fn add(&mut self, place: u32) -> Result<(), OutOfMemory>
         requires { 0 ≤ place }
-        ensures added { IfOk result (λ done. (hs : List Handler) (doubtful : Bool) → HandsAre hs doubtful self.old.places.items (map (λ b. memory_of (asked b) (last b) (kind b)) self.old.chain.handlers.items)
-            → HandsAre (with_handler hs place (get_or (map (λ o. told_in (option_map (λ b. memory_of (asked b) (last b) (kind b)) o)) self.old.rack.items) place 0)) (if get_or (map (λ o. told_in (option_map (λ b. memory_of (asked b) (last b) (kind b)) o)) self.old.rack.items) place 0 == 0 then true else doubtful) self.new.places.items (map (λ b. memory_of (asked b) (last b) (kind b)) self.new.chain.handlers.items)) }
-        ensures rest { IfOk result (λ done. (i : ℕ) → (i == place) ≡ false → get_or (map (λ o. told_in (option_map (λ b. memory_of (asked b) (last b) (kind b)) o)) self.new.rack.items) i 0 ≡ get_or (map (λ o. told_in (option_map (λ b. memory_of (asked b) (last b) (kind b)) o)) self.old.rack.items) i 0) }
+        ensures added { IfOk result (λ done. (hs : List Handler) (doubtful : Bool) → HandsAre hs doubtful self.old.places.items (map memory self.old.chain.handlers.items)
+            → HandsAre (with_handler hs place (get_or (map (λ o. told_in (option_map memory o)) self.old.rack.items) place 0)) (if get_or (map (λ o. told_in (option_map memory o)) self.old.rack.items) place 0 == 0 then true else doubtful) self.new.places.items (map memory self.new.chain.handlers.items)) }
+        ensures rest { IfOk result (λ done. (i : ℕ) → (i == place) ≡ false → get_or (map (λ o. told_in (option_map memory o)) self.new.rack.items) i 0 ≡ get_or (map (λ o. told_in (option_map memory o)) self.old.rack.items) i 0) }
     {
         let Some(handler) = taken(&mut self.rack, place as usize) else {
             return Ok(());
@@ -118,8 +117,8 @@ impl Hands {
     #[tactic(auto, using(crate::specs::ChainLaws::removed_hands))]
     pub fn remove(&mut self, place: u32)
         requires { 0 ≤ place }
-        ensures removed { (hs : List Handler) (doubtful : Bool) → stand_once (places_in hs) ≡ true → HandsAre hs doubtful self.old.places.items (map (λ b. memory_of (asked b) (last b) (kind b)) self.old.chain.handlers.items)
-            → HandsAre (without_handler hs place) doubtful self.new.places.items (map (λ b. memory_of (asked b) (last b) (kind b)) self.new.chain.handlers.items) }
+        ensures removed { (hs : List Handler) (doubtful : Bool) → stand_once (places_in hs) ≡ true → HandsAre hs doubtful self.old.places.items (map memory self.old.chain.handlers.items)
+            → HandsAre (without_handler hs place) doubtful self.new.places.items (map memory self.new.chain.handlers.items) }
         ensures rack { self.new.rack.items ≡ self.old.rack.items }
     {
         let Some(index) = index_of(self.places.as_slice(), place) else {

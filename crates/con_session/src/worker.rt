@@ -1,6 +1,5 @@
 //! A client's worker: what it enters in its turn.
 ghost use Rattle.std.specs.Prelude.{◌≡◌, ◌==◌, ◌||◌, ◌<◌, ℕ, Bool, true, false, not, List, Some, None, map, drop, length, IfOk, OnErr};
-ghost use Rattle.con_handlers.specs.Delivery.{memory_of};
 ghost use Rattle.con_machine.specs.Client.{MayBy, next_event};
 ghost use Rattle.con_machine.specs.Rounds.{Begun, IsTurn, client_at};
 ghost use Rattle.con_machine.specs.Step.{is_ready};
@@ -93,8 +92,8 @@ pub fn take_ctrl(
     requires some { is_ready desk.old.console.state (Actor.Client p) Event.TakeCtrl ≡ true }
     ensures ran { Ran desk.old.console.state desk.new.console.state desk.old.entries.items desk.new.entries.items }
     ensures turn { (b : Begun) → ClientIs b p desk.old.console.state desk.old.entries.items steps.now worker.old
-        → HandsStand b p desk.old.entries.items hands.old.places.items (map (λ b. memory_of (asked b) (last b) (kind b)) hands.old.chain.handlers.items) (map (λ o. told_in (option_map (λ b. memory_of (asked b) (last b) (kind b)) o)) hands.old.rack.items)
-        → HandsTurn result b p desk.old.console.state desk.new.console.state desk.old.entries.items desk.new.entries.items desk.old.replies.items desk.new.replies.items steps.now worker.new hands.new.places.items (map (λ b. memory_of (asked b) (last b) (kind b)) hands.new.chain.handlers.items) (map (λ o. told_in (option_map (λ b. memory_of (asked b) (last b) (kind b)) o)) hands.new.rack.items) }
+        → HandsStand b p desk.old.entries.items hands.old.places.items (map memory hands.old.chain.handlers.items) (map (λ o. told_in (option_map memory o)) hands.old.rack.items)
+        → HandsTurn result b p desk.old.console.state desk.new.console.state desk.old.entries.items desk.new.entries.items desk.old.replies.items desk.new.replies.items steps.now worker.new hands.new.places.items (map memory hands.new.chain.handlers.items) (map (λ o. told_in (option_map memory o)) hands.new.rack.items) }
 {
     let _ = steps.len();
     match desk.enter(Actor::Client(p), Event::TakeCtrl)? {
@@ -177,8 +176,8 @@ pub fn call_add(
     requires none { is_ready desk.old.console.state (Actor.Client p) Event.TakeCtrl ≡ false }
     ensures ran { Ran desk.old.console.state desk.new.console.state desk.old.entries.items desk.new.entries.items }
     ensures turn { (b : Begun) → ClientIs b p desk.old.console.state desk.old.entries.items steps.now worker.old → Event.Call (Call.HandlerAdd place) ≡ next_event (client_at b desk.old.entries.items p).left
-        → HandsStand b p desk.old.entries.items hands.old.places.items (map (λ b. memory_of (asked b) (last b) (kind b)) hands.old.chain.handlers.items) (map (λ o. told_in (option_map (λ b. memory_of (asked b) (last b) (kind b)) o)) hands.old.rack.items)
-        → HandsTurn result b p desk.old.console.state desk.new.console.state desk.old.entries.items desk.new.entries.items desk.old.replies.items desk.new.replies.items steps.now worker.new hands.new.places.items (map (λ b. memory_of (asked b) (last b) (kind b)) hands.new.chain.handlers.items) (map (λ o. told_in (option_map (λ b. memory_of (asked b) (last b) (kind b)) o)) hands.new.rack.items) }
+        → HandsStand b p desk.old.entries.items hands.old.places.items (map memory hands.old.chain.handlers.items) (map (λ o. told_in (option_map memory o)) hands.old.rack.items)
+        → HandsTurn result b p desk.old.console.state desk.new.console.state desk.old.entries.items desk.new.entries.items desk.old.replies.items desk.new.replies.items steps.now worker.new hands.new.places.items (map memory hands.new.chain.handlers.items) (map (λ o. told_in (option_map memory o)) hands.new.rack.items) }
 {
     let _ = steps.len();
     let call = Call::HandlerAdd(place);
@@ -207,8 +206,8 @@ pub fn call_remove(
     requires none { is_ready desk.old.console.state (Actor.Client p) Event.TakeCtrl ≡ false }
     ensures ran { Ran desk.old.console.state desk.new.console.state desk.old.entries.items desk.new.entries.items }
     ensures turn { (b : Begun) → ClientIs b p desk.old.console.state desk.old.entries.items steps.now worker.old → Event.Call (Call.HandlerRemove place) ≡ next_event (client_at b desk.old.entries.items p).left
-        → HandsStand b p desk.old.entries.items hands.old.places.items (map (λ b. memory_of (asked b) (last b) (kind b)) hands.old.chain.handlers.items) (map (λ o. told_in (option_map (λ b. memory_of (asked b) (last b) (kind b)) o)) hands.old.rack.items)
-        → HandsTurn result b p desk.old.console.state desk.new.console.state desk.old.entries.items desk.new.entries.items desk.old.replies.items desk.new.replies.items steps.now worker.new hands.new.places.items (map (λ b. memory_of (asked b) (last b) (kind b)) hands.new.chain.handlers.items) (map (λ o. told_in (option_map (λ b. memory_of (asked b) (last b) (kind b)) o)) hands.new.rack.items) }
+        → HandsStand b p desk.old.entries.items hands.old.places.items (map memory hands.old.chain.handlers.items) (map (λ o. told_in (option_map memory o)) hands.old.rack.items)
+        → HandsTurn result b p desk.old.console.state desk.new.console.state desk.old.entries.items desk.new.entries.items desk.old.replies.items desk.new.replies.items steps.now worker.new hands.new.places.items (map memory hands.new.chain.handlers.items) (map (λ o. told_in (option_map memory o)) hands.new.rack.items) }
 {
     let _ = steps.len();
     let call = Call::HandlerRemove(place);
@@ -236,8 +235,8 @@ fn call_step(
     requires none { is_ready desk.old.console.state (Actor.Client p) Event.TakeCtrl ≡ false }
     ensures ran { Ran desk.old.console.state desk.new.console.state desk.old.entries.items desk.new.entries.items }
     ensures turn { (b : Begun) → ClientIs b p desk.old.console.state desk.old.entries.items steps.now worker.old → Event.Call call.now ≡ next_event (client_at b desk.old.entries.items p).left
-        → HandsStand b p desk.old.entries.items hands.old.places.items (map (λ b. memory_of (asked b) (last b) (kind b)) hands.old.chain.handlers.items) (map (λ o. told_in (option_map (λ b. memory_of (asked b) (last b) (kind b)) o)) hands.old.rack.items)
-        → HandsTurn result b p desk.old.console.state desk.new.console.state desk.old.entries.items desk.new.entries.items desk.old.replies.items desk.new.replies.items steps.now worker.new hands.new.places.items (map (λ b. memory_of (asked b) (last b) (kind b)) hands.new.chain.handlers.items) (map (λ o. told_in (option_map (λ b. memory_of (asked b) (last b) (kind b)) o)) hands.new.rack.items) }
+        → HandsStand b p desk.old.entries.items hands.old.places.items (map memory hands.old.chain.handlers.items) (map (λ o. told_in (option_map memory o)) hands.old.rack.items)
+        → HandsTurn result b p desk.old.console.state desk.new.console.state desk.old.entries.items desk.new.entries.items desk.old.replies.items desk.new.replies.items steps.now worker.new hands.new.places.items (map memory hands.new.chain.handlers.items) (map (λ o. told_in (option_map memory o)) hands.new.rack.items) }
 {
     match call {
         Call::HandlerAdd(place) => call_add(desk, worker, hands, steps, p, *place),
@@ -263,8 +262,8 @@ pub fn next_step(
     requires none { is_ready desk.old.console.state (Actor.Client p) Event.TakeCtrl ≡ false }
     ensures ran { Ran desk.old.console.state desk.new.console.state desk.old.entries.items desk.new.entries.items }
     ensures turn { (b : Begun) → ClientIs b p desk.old.console.state desk.old.entries.items steps.now worker.old
-        → HandsStand b p desk.old.entries.items hands.old.places.items (map (λ b. memory_of (asked b) (last b) (kind b)) hands.old.chain.handlers.items) (map (λ o. told_in (option_map (λ b. memory_of (asked b) (last b) (kind b)) o)) hands.old.rack.items)
-        → HandsTurn result b p desk.old.console.state desk.new.console.state desk.old.entries.items desk.new.entries.items desk.old.replies.items desk.new.replies.items steps.now worker.new hands.new.places.items (map (λ b. memory_of (asked b) (last b) (kind b)) hands.new.chain.handlers.items) (map (λ o. told_in (option_map (λ b. memory_of (asked b) (last b) (kind b)) o)) hands.new.rack.items) }
+        → HandsStand b p desk.old.entries.items hands.old.places.items (map memory hands.old.chain.handlers.items) (map (λ o. told_in (option_map memory o)) hands.old.rack.items)
+        → HandsTurn result b p desk.old.console.state desk.new.console.state desk.old.entries.items desk.new.entries.items desk.old.replies.items desk.new.replies.items steps.now worker.new hands.new.places.items (map memory hands.new.chain.handlers.items) (map (λ o. told_in (option_map memory o)) hands.new.rack.items) }
 {
     let _ = hands.places.len();
     if worker.at >= steps.len() {

@@ -10,7 +10,7 @@ use Rattle.con_events.specs.declared.event.Event.{Event}
 use Rattle.con_events.specs.declared.event.Event.TheVariants as events
 use Rattle.con_events.specs.declared.event.Wanted.{Wanted}
 use Rattle.con_events.specs.declared.script.Step.{Step}
-use Rattle.con_handlers.specs.Delivery.{Memory}
+use Rattle.con_handlers.specs.Memory.{Memory}
 use Rattle.con_machine.specs.Added.{has_added}
 use Rattle.con_machine.specs.Chain.{Handler, with_handler, without_handler, delivered_to, is_handled}
 use Rattle.con_machine.specs.Client.{Client, GoesOn, MayBy, due, next_event, is_fail, chained}

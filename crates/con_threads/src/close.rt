@@ -1,7 +1,6 @@
 //! The end of a session whose threads have returned.
 ghost use Rattle.std.specs.Prelude.{◌≡◌, ◌≢◌, ◌⊎◌, ◌≤◌, ℕ, ◌∷◌, true, false, [], List, Option, None, length, map, All};
 ghost use Rattle.std.specs.Option.{option_map};
-ghost use Rattle.con_handlers.specs.Delivery.{memory_of};
 ghost use Rattle.con_outside.specs.Outside.{Rose};
 ghost use Rattle.con_events.specs.Session.{Clients};
 ghost use Rattle.con_machine.specs.Follows.{begun};
@@ -112,9 +111,9 @@ pub fn finished<R: Wait, O: Sink>(
     term: &mut O,
     clients: usize,
 ) -> Outcome
-    requires back { AreBack (λ c. record { scribe = c.scribe; steps = c.steps.now; number = c.number; broken = c.broken; worker = c.seat.worker; places = c.seat.hands.places.items; memories = map (λ b. memory_of (asked (b.vtable, b.value)) (last (b.vtable, b.value)) (kind (b.vtable, b.value))) c.seat.hands.chain.handlers.items; slots = map (λ o. told_in (option_map (λ b. memory_of (asked (b.vtable, b.value)) (last (b.vtable, b.value)) (kind (b.vtable, b.value))) o)) c.seat.hands.rack.items }) (book_id book) clients opening edges.side edges.painter edges.put edges.writer crew.items }
+    requires back { AreBack (λ c. record { scribe = c.scribe; steps = c.steps.now; number = c.number; broken = c.broken; worker = c.seat.worker; places = c.seat.hands.places.items; memories = map (λ b. memory (b.vtable, b.value)) c.seat.hands.chain.handlers.items; slots = map (λ o. told_in (option_map (λ b. memory (b.vtable, b.value)) o)) c.seat.hands.rack.items }) (book_id book) clients opening edges.side edges.painter edges.put edges.writer crew.items }
     ensures outcome { (session : Clients) (racks : List (List ℕ)) (before left old : Option (List ℕ)) → (view_of opening).start.state ≡ begun session racks → length session.scripts ≡ clients
-        → EdgesGo (begins session racks None) before left old (O.written term.old) edges.side edges.painter edges.put edges.writer → CrewGoes (λ c. record { scribe = c.scribe; steps = c.steps.now; number = c.number; broken = c.broken; worker = c.seat.worker; places = c.seat.hands.places.items; memories = map (λ b. memory_of (asked (b.vtable, b.value)) (last (b.vtable, b.value)) (kind (b.vtable, b.value))) c.seat.hands.chain.handlers.items; slots = map (λ o. told_in (option_map (λ b. memory_of (asked (b.vtable, b.value)) (last (b.vtable, b.value)) (kind (b.vtable, b.value))) o)) c.seat.hands.rack.items }) (begins session racks None) crew.entry.items
+        → EdgesGo (begins session racks None) before left old (O.written term.old) edges.side edges.painter edges.put edges.writer → CrewGoes (λ c. record { scribe = c.scribe; steps = c.steps.now; number = c.number; broken = c.broken; worker = c.seat.worker; places = c.seat.hands.places.items; memories = map (λ b. memory (b.vtable, b.value)) c.seat.hands.chain.handlers.items; slots = map (λ o. told_in (option_map (λ b. memory (b.vtable, b.value)) o)) c.seat.hands.rack.items }) (begins session racks None) crew.entry.items
         → Leaves session racks result.entries result.replies result.ends result.end before left old (O.written term.new) }
     ensures link { result.end ≡ End.Link → edges.side.side.end ≡ End.Link }
     ensures term { result.end ≡ End.Term → (edges.writer.failed ≡ true) ⊎ Rose (O.faults term.old) (O.faults term.new) ⊎ ((edges.side.side.end ≡ End.Term) × (edges.side.broken ≡ false)) }

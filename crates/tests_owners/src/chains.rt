@@ -1,6 +1,7 @@
 //! What no session shows of handlers: which one handles, and that each is dropped once.
 ghost use Rattle.std.specs.Prelude.{◌≡◌};
 ghost use Rattle.con_handlers.specs.Answers.{raised};
+ghost use Rattle.con_handlers.specs.Memory.{memory_of};
 
 use con_handlers::handler::one_more;
 use con_handlers::{Chain, CtrlHandler, Delivered, Note, Tally};
@@ -32,13 +33,9 @@ impl Drop for Watched {
 }
 
 impl CtrlHandler for Watched {
-    ghost asked = { λ h. h.asked };
-
-    ghost last = { λ h. h.last };
+    ghost memory = { λ h. memory_of h.asked h.last 0 };
 
     ghost will = { λ h _. h.answer };
-
-    ghost kind = { λ _. 0 };
 
     fn handle(&mut self, event: u32) -> bool {
         self.seen.fetch_add(1, Ordering::SeqCst);

@@ -1,7 +1,6 @@
 -- The clients of the seats so far.
 use Rattle.std.proofs.Common.{◌≡◌, ◌+◌, ◌≤◌, length, map, option_map, vec_len, vec_capacity}
 use Rattle.std.specs.Vec.Iter.{into_iter_items, into_iter_len}
-use Rattle.con_handlers.specs.Delivery.{memory_of}
 use Rattle.con_session.specs.Worker.{told_in}
 use Rattle.con_book.specs.Passes.{pass_id, view_of}
 use Rattle.con_threads.proofs.Crewing.{AreSeated}
@@ -12,6 +11,6 @@ invariant-loop-seat g l = record {
   at : l.at ≡ vec_len l.crew;
   count : vec_len l.crew + into_iter_len l.seat-iterator ≡ length l.scripts;
   room : vec_len l.crew + into_iter_len l.seat-iterator ≤ vec_capacity l.crew;
-  seated : AreSeated (λ c. record { scribe = c.scribe; steps = c.steps.now; number = c.number; broken = c.broken; worker = c.seat.worker; places = c.seat.hands.places.items; memories = map (λ x. memory_of ((goal.CtrlHandler-dyn g (x.vtable, x.value)).asked x.value) ((goal.CtrlHandler-dyn g (x.vtable, x.value)).last x.value) ((goal.CtrlHandler-dyn g (x.vtable, x.value)).kind x.value)) c.seat.hands.chain.handlers.items; slots = map (λ o. told_in (option_map (λ x. memory_of ((goal.CtrlHandler-dyn g (x.vtable, x.value)).asked x.value) ((goal.CtrlHandler-dyn g (x.vtable, x.value)).last x.value) ((goal.CtrlHandler-dyn g (x.vtable, x.value)).kind x.value)) o)) c.seat.hands.rack.items })
+  seated : AreSeated (λ c. record { scribe = c.scribe; steps = c.steps.now; number = c.number; broken = c.broken; worker = c.seat.worker; places = c.seat.hands.places.items; memories = map (λ x. (goal.CtrlHandler-dyn g (x.vtable, x.value)).memory x.value) c.seat.hands.chain.handlers.items; slots = map (λ o. told_in (option_map (λ x. (goal.CtrlHandler-dyn g (x.vtable, x.value)).memory x.value) o)) c.seat.hands.rack.items })
       (λ c. c.seat) (pass_id l.fn.opening) (view_of l.fn.opening).start l.scripts l.fn.seats.items l.opening l.crew.items (into_iter_items l.seat-iterator);
 }

@@ -7,7 +7,6 @@ use mir.Syntax.{named}
 use Rattle.std.proofs.Common.{rules, map, option_map, ◌∷◌, []}
 use Rattle.con_book.specs.contracts.book.Book as book
 use Rattle.con_events.specs.contracts.event.Event as event
-use Rattle.con_handlers.specs.Delivery.{memory_of}
 use Rattle.con_machine.specs.contracts.room.Room as room
 use Rattle.con_session.specs.contracts.desk.Brief as brief
 use Rattle.con_session.specs.Worker.{told_in}
@@ -40,6 +39,6 @@ returns g c = record {
   each = λ i d lt.
       let h = c.each_beside.ensures i d lt in
       let call = h.1.call in
-      served_as (λ c'. record { scribe = c'.scribe; steps = c'.steps.now; number = c'.number; broken = c'.broken; worker = c'.seat.worker; places = c'.seat.hands.places.items; memories = map (λ x. memory_of ((goal.CtrlHandler-dyn g (x.vtable, x.value)).asked x.value) ((goal.CtrlHandler-dyn g (x.vtable, x.value)).last x.value) ((goal.CtrlHandler-dyn g (x.vtable, x.value)).kind x.value)) c'.seat.hands.chain.handlers.items; slots = map (λ o. told_in (option_map (λ x. memory_of ((goal.CtrlHandler-dyn g (x.vtable, x.value)).asked x.value) ((goal.CtrlHandler-dyn g (x.vtable, x.value)).last x.value) ((goal.CtrlHandler-dyn g (x.vtable, x.value)).kind x.value)) o)) c'.seat.hands.rack.items })
+      served_as (λ c'. record { scribe = c'.scribe; steps = c'.steps.now; number = c'.number; broken = c'.broken; worker = c'.seat.worker; places = c'.seat.hands.places.items; memories = map (λ x. (goal.CtrlHandler-dyn g (x.vtable, x.value)).memory x.value) c'.seat.hands.chain.handlers.items; slots = map (λ o. told_in (option_map (λ x. (goal.CtrlHandler-dyn g (x.vtable, x.value)).memory x.value) o)) c'.seat.hands.rack.items })
       h.1.argument.now h.1.after_call.now _ _ h.1.argument_is h.1.left (search rules);
 }

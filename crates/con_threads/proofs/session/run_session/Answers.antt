@@ -1,5 +1,4 @@
 use Rattle.std.proofs.Common.{rules, arith, ap, map, ◌∙◌}
-use Rattle.con_handlers.specs.Delivery.{memory_of}
 use Rattle.con_session.specs.OpeningLaws.{sizes_same}
 use Rattle.con_session.specs.Worker.{told_kind}
 use Rattle.con_threads.specs.declared.ledger.Page.{Page}
@@ -21,4 +20,4 @@ returns-clause-outcome g c = c.play.ensures.outcome c.args.session.now _ (ap (λ
     (c.in-Ok-made.ensures.crew_goes _ _ (state_begun _ _ _ _ c.in-Ok.ensures.state (sizes_same _ _ c.args.racks.items)) c.scripts-scripts.ensures.value c.in-Ok.ensures.fresh)
 
 pub returns-clause-term : goal.returns-clause-term
-returns-clause-term g c = λ t. was_fine _ _ c.in-Ok-made.ensures.fine.1 (c.play.ensures.term c.args.session.now _ (ap (λ (p : Page). p.state) c.in-Ok-made.ensures.start ∙ (state_begun _ (map (λ rack. map (λ x. told_kind (memory_of ((goal.CtrlHandler-dyn g (x.vtable, x.value)).asked x.value) ((goal.CtrlHandler-dyn g (x.vtable, x.value)).last x.value) ((goal.CtrlHandler-dyn g (x.vtable, x.value)).kind x.value))) rack.items) c.args.racks.items) _ _ c.in-Ok.ensures.state (sizes_same _ _ c.args.racks.items))) (c.in-Ok-made.ensures.go _ _ _ _ (state_begun _ (map (λ rack. map (λ x. told_kind (memory_of ((goal.CtrlHandler-dyn g (x.vtable, x.value)).asked x.value) ((goal.CtrlHandler-dyn g (x.vtable, x.value)).last x.value) ((goal.CtrlHandler-dyn g (x.vtable, x.value)).kind x.value))) rack.items) c.args.racks.items) _ _ c.in-Ok.ensures.state (sizes_same _ _ c.args.racks.items))) t)
+returns-clause-term g c = λ t. was_fine _ _ c.in-Ok-made.ensures.fine.1 (c.play.ensures.term c.args.session.now _ (ap (λ (p : Page). p.state) c.in-Ok-made.ensures.start ∙ (state_begun _ (map (λ rack. map (λ x. told_kind ((goal.CtrlHandler-dyn g (x.vtable, x.value)).memory x.value)) rack.items) c.args.racks.items) _ _ c.in-Ok.ensures.state (sizes_same _ _ c.args.racks.items))) (c.in-Ok-made.ensures.go _ _ _ _ (state_begun _ (map (λ rack. map (λ x. told_kind ((goal.CtrlHandler-dyn g (x.vtable, x.value)).memory x.value)) rack.items) c.args.racks.items) _ _ c.in-Ok.ensures.state (sizes_same _ _ c.args.racks.items))) t)

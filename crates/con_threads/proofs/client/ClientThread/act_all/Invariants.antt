@@ -1,7 +1,6 @@
 -- The client has followed its script further.
 use Rattle.std.proofs.Common.{map}
 use Rattle.std.specs.Option.{option_map}
-use Rattle.con_handlers.specs.Delivery.{memory_of}
 use Rattle.con_session.specs.Worker.{told_in}
 use Rattle.con_threads.specs.Clients.{HasServed}
 use Rattle.con_threads.proofs.client.ClientThread.act_all.Given as goal
@@ -16,8 +15,8 @@ invariant-loop g l =
       broken = l.fn.self.broken;
       worker = l.fn.self.seat.worker;
       places = l.fn.self.seat.hands.places.items;
-      memories = map (λ x. memory_of ((goal.CtrlHandler-dyn g (x.vtable, x.value)).asked x.value) ((goal.CtrlHandler-dyn g (x.vtable, x.value)).last x.value) ((goal.CtrlHandler-dyn g (x.vtable, x.value)).kind x.value)) l.fn.self.seat.hands.chain.handlers.items;
-      slots = map (λ o. told_in (option_map (λ x. memory_of ((goal.CtrlHandler-dyn g (x.vtable, x.value)).asked x.value) ((goal.CtrlHandler-dyn g (x.vtable, x.value)).last x.value) ((goal.CtrlHandler-dyn g (x.vtable, x.value)).kind x.value)) o)) l.fn.self.seat.hands.rack.items;
+      memories = map (λ x. (goal.CtrlHandler-dyn g (x.vtable, x.value)).memory x.value) l.fn.self.seat.hands.chain.handlers.items;
+      slots = map (λ o. told_in (option_map (λ x. (goal.CtrlHandler-dyn g (x.vtable, x.value)).memory x.value) o)) l.fn.self.seat.hands.rack.items;
     })
     (record {
       scribe = l.self.scribe;
@@ -26,7 +25,7 @@ invariant-loop g l =
       broken = l.self.broken;
       worker = l.self.seat.worker;
       places = l.self.seat.hands.places.items;
-      memories = map (λ x. memory_of ((goal.CtrlHandler-dyn g (x.vtable, x.value)).asked x.value) ((goal.CtrlHandler-dyn g (x.vtable, x.value)).last x.value) ((goal.CtrlHandler-dyn g (x.vtable, x.value)).kind x.value)) l.self.seat.hands.chain.handlers.items;
-      slots = map (λ o. told_in (option_map (λ x. memory_of ((goal.CtrlHandler-dyn g (x.vtable, x.value)).asked x.value) ((goal.CtrlHandler-dyn g (x.vtable, x.value)).last x.value) ((goal.CtrlHandler-dyn g (x.vtable, x.value)).kind x.value)) o)) l.self.seat.hands.rack.items;
+      memories = map (λ x. (goal.CtrlHandler-dyn g (x.vtable, x.value)).memory x.value) l.self.seat.hands.chain.handlers.items;
+      slots = map (λ o. told_in (option_map (λ x. (goal.CtrlHandler-dyn g (x.vtable, x.value)).memory x.value) o)) l.self.seat.hands.rack.items;
     })
     × (goal.iterator-loop g).can_next l.iterator' × (goal.iterator-loop g).is_finite l.iterator'
