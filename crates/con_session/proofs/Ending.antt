@@ -23,7 +23,7 @@ use Rattle.con_machine.specs.Turns.{sent, has_ended, paints}
 use Rattle.con_machine.specs.Whole.{HaveAllLeft}
 use Rattle.con_session.specs.Outcome.{IsOutcomeBy}
 use Rattle.con_session.specs.Sender.{end_for, FailsBy}
-use Rattle.con_session.specs.Seats.{AllStand, AllFollow}
+use Rattle.con_session.specs.Seats.{AllStandBy, AllFollow}
 use Rattle.con_session.specs.Solo.{Moment, GoesBy, AllIdle, StopsBy, begins, end_by}
 use Rattle.con_session.specs.Standing.{ClientStands}
 use Rattle.con_session.proofs.Going.{failing, fails_now}
@@ -101,7 +101,7 @@ whole_outcome R M Then session racks scripts before old m goes (last, are, nobod
 -- nobody has anything left to do
 pub outcome_whole : (R : Reading) (M Then : List R.One → List Entry → Type 0) (session : Clients) (racks : List (List ℕ)) (scripts : List Script) (before old : Option (List ℕ)) (m : Moment) (end : End) → end ≡ end_by m.failed m.side.end
     → ((f : Option ℕ) → FailsBy m.failed f (paints m.entries) → GoesBy R M (begins session racks f) scripts before old m × AllIdle (begins session racks f) m.entries)
-    → ((b : Begun) (s : State) (h : List Entry) → AllStand b s h scripts m.workers m.places m.memories m.slots → AllFollow b h (length scripts))
+    → ((b : Begun) (s : State) (h : List Entry) → AllStandBy b s h scripts m.workers m.places m.memories m.slots → AllFollow b h (length scripts))
     → ((fs : List R.One) → M fs m.entries → Then fs m.entries)
     → IsOutcomeBy R Then session racks m.entries m.replies m.ends end before m.left old m.written
 outcome_whole R M Then session racks scripts before old m end e all follow then' =
@@ -149,7 +149,7 @@ handed_none R Then session racks before old h rs es end eh er ee en more = hande
 
 pub handed_whole : (R : Reading) (M Then : List R.One → List Entry → Type 0) (session : Clients) (racks : List (List ℕ)) (scripts : List Script) (before old : Option (List ℕ)) (m : Moment) (h : List Entry) (rs : List Reply) (es : List ℕ) (end other : End)
     → ((f : Option ℕ) → FailsBy m.failed f (paints m.entries) → GoesBy R M (begins session racks f) scripts before old m × AllIdle (begins session racks f) m.entries)
-    → h ≡ m.entries → rs ≡ m.replies → es ≡ m.ends → end ≡ other → other ≡ end_by m.failed m.side.end → ((b : Begun) (s : State) (g : List Entry) → AllStand b s g scripts m.workers m.places m.memories m.slots → AllFollow b g (length scripts))
+    → h ≡ m.entries → rs ≡ m.replies → es ≡ m.ends → end ≡ other → other ≡ end_by m.failed m.side.end → ((b : Begun) (s : State) (g : List Entry) → AllStandBy b s g scripts m.workers m.places m.memories m.slots → AllFollow b g (length scripts))
     → ((fs : List R.One) → M fs m.entries → Then fs m.entries)
     → IsOutcomeBy R Then session racks h rs es end before m.left old m.written
 handed_whole R M Then session racks scripts before old m h rs es end other all eh er ee en eo follow then' = handed R Then session racks before m.left old m.written h m.entries rs m.replies es m.ends end other eh er ee en (outcome_whole R M Then session racks scripts before old m other eo all follow then')

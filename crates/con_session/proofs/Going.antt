@@ -22,7 +22,7 @@ use Rattle.con_machine.specs.State.{State}
 use Rattle.con_machine.specs.Turns.{paints, sent, has_ended, is_terminal, is_paint}
 use Rattle.con_session.specs.Desk.{Rests, Stands, entry}
 use Rattle.con_session.specs.Painting.{CanvasIs, CanvasEnds, EntersPaint, PaintTurn, PainterFails, PainterActs}
-use Rattle.con_session.specs.Seats.{AllStand, AllFollow, ClientsTurn}
+use Rattle.con_session.specs.Seats.{AllStandBy, AllFollow, ClientsTurnBy}
 use Rattle.con_session.specs.Sender.{LinkBy, LinkEndsBy, SenderTurn, FailsBy}
 use Rattle.con_session.specs.Solo.{AllIdle, Moment, HoldsBy, GoesBy, HasRounds, BreaksOff, StopsBy, RoundTurnBy, RoundsTurnBy, fails_at}
 use Rattle.con_session.specs.declared.terminal.Side.{Side}
@@ -60,7 +60,7 @@ pub record Turned (R : Reading) (M0 M1 M2 : List R.One → List Entry → Type 0
   -- what more is known of the frames goes on behind the clients' entries, and becomes this behind the painter's turn
   pub closed : (fs : List R.One) (h : List Entry) (x : Entry) → is_terminal x.actor ≡ false → is_paint x.event ≡ false → M1 fs h → M1 fs (h ++ x ∷ [])
   pub follow : s2 ≡ run start h2 → (fs : List R.One) → M1 fs h2 → M2 fs h3
-  pub enter : (b : Begun) → AllStand b s1 h1 scripts m.workers m.places m.memories m.slots → ClientsTurn (Ok entered) b s1 s2 h1 h2 r1 r2 n scripts ws places ms slots
+  pub enter : (b : Begun) → AllStandBy b s1 h1 scripts m.workers m.places m.memories m.slots → ClientsTurnBy (Ok entered) b s1 s2 h1 h2 r1 r2 n scripts ws places ms slots
   pub fails : PainterFails (Ok painted) m.failed failed
   pub acts : (b : Begun) → s2 ≡ run b.state h2 → FailsBy m.failed b.failed (paints h2) → PainterActs (Ok painted) b h2
   pub paint : (b : Begun) (size : Size) (old : Option (List ℕ)) (ps : List (List ℕ)) → s2 ≡ run b.state h2 → CanvasIs b h2 size m.kept ps m.ends m.end old m.written m.failed → PaintTurn (Ok painted) b s2 s3 h2 h3 r2 r3 size kept ps es end old written failed
@@ -148,7 +148,7 @@ broken_by b h g last (rounds, are, e) t i =
 pub sent_err : (R : Reading) (M0 Then : List R.One → List Entry → Type 0) (b : Begun) (scripts : List Script) (before old : Option (List ℕ)) (m : Moment) (s : State) (h : List Entry) (rs : List Reply) (left : Option (List ℕ)) (e : OutOfMemory)
     → ((c : Begun) → FailsBy m.failed c.failed (paints m.entries) → has_ended false (sent m.entries) ≡ m.side.ended → SenderTurn (Err e) c m.state s m.entries h m.replies rs)
     → ((z : Option (List ℕ)) → LinkBy R M0 m.entries m.side m.failed z m.left m.taken → LinkEndsBy R Then h z left)
-    → ((c : Begun) → AllStand c m.state m.entries scripts m.workers m.places m.memories m.slots → AllFollow c m.entries (length scripts))
+    → ((c : Begun) → AllStandBy c m.state m.entries scripts m.workers m.places m.memories m.slots → AllFollow c m.entries (length scripts))
     → ((f : Option ℕ) → FailsBy m.failed f (paints m.entries) → GoesBy R M0 (fails_at b f) scripts before old m) → (f : Option ℕ) → FailsBy m.failed f (paints h)
     → StopsBy R Then (fails_at b f) before old h rs m.ends left m.written m.failed
 sent_err R M0 Then b scripts before old m s h rs left e turn link follow all f k =
@@ -182,7 +182,7 @@ pub entered_err : (R : Reading) (M0 M1 Then : List R.One → List Entry → Type
     → ((z : Option (List ℕ)) → LinkBy R M0 m.entries m.side m.failed z m.left m.taken → LinkBy R M1 h1 side m.failed z left taken)
     → ((fs : List R.One) (h : List Entry) (x : Entry) → is_terminal x.actor ≡ false → is_paint x.event ≡ false → M1 fs h → M1 fs (h ++ x ∷ []))
     → ((fs : List R.One) (h : List Entry) → M1 fs h → Then fs h)
-    → ((c : Begun) → AllStand c s1 h1 scripts m.workers m.places m.memories m.slots → ClientsTurn (Err e) c s1 s2 h1 h2 r1 r2 n scripts ws places ms slots)
+    → ((c : Begun) → AllStandBy c s1 h1 scripts m.workers m.places m.memories m.slots → ClientsTurnBy (Err e) c s1 s2 h1 h2 r1 r2 n scripts ws places ms slots)
     → ((f : Option ℕ) → FailsBy m.failed f (paints m.entries) → GoesBy R M0 (fails_at b f) scripts before old m) → (f : Option ℕ) → FailsBy m.failed f (paints h2)
     → StopsBy R Then (fails_at b f) before old h2 r2 m.ends left m.written m.failed
 entered_err R M0 M1 Then b scripts before old m s1 h1 r1 side taken left s2 h2 r2 ws places ms slots n sent' e count turn link closed ends enter all f k =
@@ -240,7 +240,7 @@ numbered_either n s t h g rs qs (inl r) k = ap (λ (z : List Entry). are_of_sess
 numbered_either n s t h g rs qs (inr x) k = numbered_on n h g (entry actors.Painter events.Paint) x.enters.entries k refl
 
 all_either : (b : Begun) (s t : State) (h g : List Entry) (rs qs : List Reply) (scripts : List Script) (ws : List Worker) (places : List (List ℕ)) (ms : List (List Memory)) (slots : List (List ℕ)) → (Rests s t h g rs qs ⊎ EntersPaint s t h g rs qs)
-    → AllStand b s h scripts ws places ms slots → AllStand b t g scripts ws places ms slots
+    → AllStandBy b s h scripts ws places ms slots → AllStandBy b t g scripts ws places ms slots
 all_either b s t h g rs qs scripts ws places ms slots (inl r) k = all_still b s t h g rs qs scripts ws places ms slots r k
 all_either b s t h g rs qs scripts ws places ms slots (inr x) k = all_other b s t h g rs qs actors.Painter events.Paint scripts ws places ms slots refl x.enters k
 
@@ -266,11 +266,11 @@ pub painted_err : (R : Reading) (M0 M1 Then : List R.One → List Entry → Type
     → ((z : Option (List ℕ)) → LinkBy R M0 m.entries m.side m.failed z m.left m.taken → LinkBy R M1 h1 side m.failed z left taken)
     → ((fs : List R.One) (h : List Entry) (x : Entry) → is_terminal x.actor ≡ false → is_paint x.event ≡ false → M1 fs h → M1 fs (h ++ x ∷ []))
     → ((fs : List R.One) (h : List Entry) → M1 fs h → Then fs h) → ((fs : List R.One) (h : List Entry) → M1 fs h → Then fs (h ++ entry actors.Painter events.Paint ∷ []))
-    → ((c : Begun) → AllStand c s1 h1 scripts m.workers m.places m.memories m.slots → ClientsTurn (Ok entered) c s1 s2 h1 h2 r1 r2 n scripts ws places ms slots)
+    → ((c : Begun) → AllStandBy c s1 h1 scripts m.workers m.places m.memories m.slots → ClientsTurnBy (Ok entered) c s1 s2 h1 h2 r1 r2 n scripts ws places ms slots)
     → PainterFails (Err e) m.failed failed
     → ((c : Begun) → s2 ≡ run c.state h2 → FailsBy m.failed c.failed (paints h2) → PainterActs (Err e) c h2)
     → ((c : Begun) (size : Size) (z : Option (List ℕ)) (ps : List (List ℕ)) → s2 ≡ run c.state h2 → CanvasIs c h2 size m.kept ps m.ends m.end z m.written m.failed → PaintTurn (Err e) c s2 s3 h2 h3 r2 r3 size kept ps es end z written failed)
-    → ((c : Begun) (s : State) (h : List Entry) → AllStand c s h scripts ws places ms slots → AllFollow c h (length scripts))
+    → ((c : Begun) (s : State) (h : List Entry) → AllStandBy c s h scripts ws places ms slots → AllFollow c h (length scripts))
     → ((f : Option ℕ) → FailsBy m.failed f (paints m.entries) → GoesBy R M0 (fails_at b f) scripts before old m) → (f : Option ℕ) → FailsBy failed f (paints h3)
     → StopsBy R Then (fails_at b f) before old h3 r3 es left written failed
 painted_err R M0 M1 Then b scripts before old m s1 h1 r1 side taken left s2 h2 r2 ws places ms slots n s3 h3 r3 kept es end failed written sent' entered e count turn link closed ends past enter fails acts paint follow all f k =
@@ -316,7 +316,7 @@ painted_err R M0 M1 Then b scripts before old m s1 h1 r1 side taken left s2 h2 r
 pub followed_err : (R : Reading) (M0 M1 Then : List R.One → List Entry → Type 0) (b : Begun) (scripts : List Script) (before old : Option (List ℕ)) (m : Moment) (s1 : State) (h1 : List Entry) (r1 : List Reply) (side : Side) (taken : ℕ) (left : Option (List ℕ)) (s2 : State) (h2 : List Entry) (r2 : List Reply)
     (ws : List Worker) (places : List (List ℕ)) (ms : List (List Memory)) (slots : List (List ℕ)) (n : ℕ) (s3 : State) (h3 : List Entry) (r3 : List Reply) (kept : Kept) (es : List ℕ) (end : ℕ) (failed : Bool) (written : Option (List ℕ)) (sent' entered painted : Bool)
     → Turned R M0 M1 Then b.state scripts m s1 h1 r1 side taken left s2 h2 r2 ws places ms slots n s3 h3 r3 kept es end failed written sent' entered painted
-    → ((c : Begun) (s : State) (h : List Entry) → AllStand c s h scripts ws places ms slots → AllFollow c h (length scripts))
+    → ((c : Begun) (s : State) (h : List Entry) → AllStandBy c s h scripts ws places ms slots → AllFollow c h (length scripts))
     → ((f : Option ℕ) → FailsBy m.failed f (paints m.entries) → GoesBy R M0 (fails_at b f) scripts before old m) → (f : Option ℕ) → FailsBy failed f (paints h3)
     → StopsBy R Then (fails_at b f) before old h3 r3 es left written failed
 followed_err R M0 M1 Then b scripts before old m s1 h1 r1 side taken left s2 h2 r2 ws places ms slots n s3 h3 r3 kept es end failed written sent' entered painted t stand all f k =

@@ -13,7 +13,7 @@ use Rattle.con_machine.specs.Rounds.{Begun, is_memory}
 use Rattle.con_machine.specs.State.{State}
 use Rattle.con_machine.specs.Turns.{paints}
 use Rattle.con_session.specs.Outcome.{IsOutcomeBy}
-use Rattle.con_session.specs.Seats.{AllStand, AllFollow}
+use Rattle.con_session.specs.Seats.{AllStandBy, AllFollow}
 use Rattle.con_session.specs.Second.{IsMirrorOutcome, Mirrors, Seconded}
 use Rattle.con_session.specs.SecondLaws.{second_begins}
 use Rattle.con_session.specs.Sender.{FailsBy}
@@ -56,7 +56,7 @@ mirror_none session racks before old was o p seconds xs lost was' i eh er ee en 
 pub mirror_whole : (session : Clients) (racks : List (List ℕ)) (scripts : List Script) (before old was : Option (List ℕ)) (m : Moment) (ended : Bool) (kept : Option Kept) (es : List ℕ) (upto : ℕ) (now : Option (List ℕ)) (lost : Bool) (o p : Outcome) (seconds : List ℕ) (lost' : Bool) (other : End)
     → ((f : Option ℕ) → FailsBy m.failed f (paints m.entries) → GoesBy mirrored (Seconded (begun session racks) ended kept es upto was now lost) (begins session racks f) scripts before old m × AllIdle (begins session racks f) m.entries)
     → o ≡ p → p.entries ≡ m.entries → p.replies ≡ m.replies → p.ends ≡ m.ends → p.end ≡ other → other ≡ end_by m.failed m.side.end
-    → ((b : Begun) (s : State) (g : List Entry) → AllStand b s g scripts m.workers m.places m.memories m.slots → AllFollow b g (length scripts)) → seconds ≡ es → lost' ≡ lost
+    → ((b : Begun) (s : State) (g : List Entry) → AllStandBy b s g scripts m.workers m.places m.memories m.slots → AllFollow b g (length scripts)) → seconds ≡ es → lost' ≡ lost
     → IsMirrorOutcome session racks o.entries o.replies o.ends o.end seconds lost' before m.left old m.written was now
 mirror_whole session racks scripts before old was m ended kept es upto now lost o p seconds lost' other all i eh er ee en eo follow e l =
     let s = begun session racks in

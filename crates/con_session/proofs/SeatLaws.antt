@@ -18,9 +18,9 @@ use Rattle.con_machine.specs.Rounds.{Begun, AreTurns, IsTurn, clients_from, clie
 use Rattle.con_machine.specs.State.{State}
 use Rattle.con_machine.specs.Turns.{is_client}
 use Rattle.con_session.specs.Desk.{Enters, Rests, Stands, entry}
-use Rattle.con_session.specs.Seats.{Seated, AllStand, HaveTurns, AllFollow, ClientsTurn}
+use Rattle.con_session.specs.Seats.{Seated, AllStandBy, HaveTurns, AllFollow, ClientsTurnBy}
 use Rattle.con_session.specs.Standing.{ClientStands, is_here}
-use Rattle.con_session.specs.Worker.{IsWorker, HandsStand, ClientIs, Acts, HandsTurn}
+use Rattle.con_session.specs.Worker.{IsWorker, HandsStandBy, ClientIs, Acts, HandsTurnBy}
 use Rattle.con_session.specs.declared.worker.Worker.{Worker}
 use Rattle.con_session.specs.DeskLaws.{entered_run, stands_one, stands_still}
 use Rattle.con_session.specs.RackLaws.{hands_other}
@@ -36,7 +36,7 @@ seated_other b k s t h g rs qs a e script w places ms slots n en c =
     let same : client_at b g (k + 1) ≡ client_at b h (k + 1) = ap (λ (z : List Entry). client_at b z (k + 1)) en.entries ∙ client_other b h x (k + 1) n in
     let P : List Entry → Type 0 = λ z. ClientStands b z (k + 1) in
     let Q : Client → Type 0 = λ z. IsWorker z script.steps w in
-    let R : List Entry → Type 0 = λ z. HandsStand b (k + 1) z places ms slots in
+    let R : List Entry → Type 0 = λ z. HandsStandBy b (k + 1) z places ms slots in
     record {
       is = record {
         state = entered_run b.state s t h g rs qs a e c.is.state en;
@@ -60,7 +60,7 @@ acted_stands b p s t h g rs qs a c =
 
 -- its own entry
 seated_own : (b : Begun) (k : ℕ) (s t : State) (h g : List Entry) (rs qs : List Reply) (script : Script) (w v : Worker) (places xs : List ℕ) (ms m : List Memory) (slots ys : List ℕ) → Seated b k s h script w places ms slots
-    → Acts b (k + 1) s t h g rs qs → IsWorker (client_at b g (k + 1)) script.steps v → HandsStand b (k + 1) g xs m ys → Seated b k t g script v xs m ys
+    → Acts b (k + 1) s t h g rs qs → IsWorker (client_at b g (k + 1)) script.steps v → HandsStandBy b (k + 1) g xs m ys → Seated b k t g script v xs m ys
 seated_own b k s t h g rs qs script w v places xs ms m slots ys c a i are = record {
   is = record { state = entered_run b.state s t h g rs qs (actors.Client (k + 1)) a.event c.is.state a.enters; stands = acted_stands b (k + 1) s t h g rs qs a c.is.stands; worker = i };
   hands = are;
@@ -87,11 +87,11 @@ no_client actors.Terminal p n = refl
 no_client actors.Painter p n = refl
 
 pub all_other : (b : Begun) (s t : State) (h g : List Entry) (rs qs : List Reply) (a : Actor) (e : Event) (scripts : List Script) (ws : List Worker) (places : List (List ℕ)) (ms : List (List Memory)) (slots : List (List ℕ)) → is_no_client a ≡ true → Enters s t h g rs qs a e
-    → AllStand b s h scripts ws places ms slots → AllStand b t g scripts ws places ms slots
+    → AllStandBy b s h scripts ws places ms slots → AllStandBy b t g scripts ws places ms slots
 all_other b s t h g rs qs a e scripts ws places ms slots n en all = λ k script w xs m ys i j l o q. seated_other b k s t h g rs qs a e script w xs m ys (no_client a (k + 1) n) en (all k script w xs m ys i j l o q)
 
 pub all_still : (b : Begun) (s t : State) (h g : List Entry) (rs qs : List Reply) (scripts : List Script) (ws : List Worker) (places : List (List ℕ)) (ms : List (List Memory)) (slots : List (List ℕ)) → Rests s t h g rs qs
-    → AllStand b s h scripts ws places ms slots → AllStand b t g scripts ws places ms slots
+    → AllStandBy b s h scripts ws places ms slots → AllStandBy b t g scripts ws places ms slots
 all_still b s t h g rs qs scripts ws places ms slots r all = λ k script w xs m ys i j l o q. seated_still b k s t h g rs qs script w xs m ys r (all k script w xs m ys i j l o q)
 
 -- ---- lists with one place written
@@ -156,11 +156,11 @@ abbrev pub AllOf : {A : Type 0} → (A → Worker) → (A → List ℕ) → (A �
 AllOf {A} worker places mems slots b s h scripts seats = (k : ℕ) (x : A) → slice_get seats k ≡ Some x → (script : Script) → slice_get scripts k ≡ Some script → Seated b k s h script (worker x) (places x) (mems x) (slots x)
 
 from_all : {A : Type 0} (worker : A → Worker) (places : A → List ℕ) (mems : A → List Memory) (slots : A → List ℕ) (b : Begun) (s : State) (h : List Entry) (scripts : List Script) (seats : List A)
-    → AllStand b s h scripts (map worker seats) (map places seats) (map mems seats) (map slots seats) → AllOf worker places mems slots b s h scripts seats
+    → AllStandBy b s h scripts (map worker seats) (map places seats) (map mems seats) (map slots seats) → AllOf worker places mems slots b s h scripts seats
 from_all worker places mems slots b s h scripts seats all = λ k x e script i. all k script (worker x) (places x) (mems x) (slots x) i (get_map worker seats k x e) (get_map places seats k x e) (get_map mems seats k x e) (get_map slots seats k x e)
 
 to_all : {A : Type 0} (worker : A → Worker) (places : A → List ℕ) (mems : A → List Memory) (slots : A → List ℕ) (b : Begun) (s : State) (h : List Entry) (scripts : List Script) (seats : List A)
-    → AllOf worker places mems slots b s h scripts seats → AllStand b s h scripts (map worker seats) (map places seats) (map mems seats) (map slots seats)
+    → AllOf worker places mems slots b s h scripts seats → AllStandBy b s h scripts (map worker seats) (map places seats) (map mems seats) (map slots seats)
 to_all {A} worker places mems slots b s h scripts seats all = λ k script w xs m ys i ew ep em es.
     let f = get_back worker seats k w ew in
     let x : A = f.0 in let e : slice_get seats k ≡ Some x = f.1 in
@@ -175,7 +175,7 @@ to_all {A} worker places mems slots b s h scripts seats all = λ k script w xs m
 -- behind a turn of client k + 1
 all_acted : {A : Type 0} (worker : A → Worker) (places : A → List ℕ) (mems : A → List Memory) (slots : A → List ℕ) (b : Begun) (s t : State) (h g : List Entry) (rs qs : List Reply) (k : ℕ) (scripts : List Script) (seats : List A) (old new : A) (script : Script) (entered : Bool)
     → k < length seats → slice_get scripts k ≡ Some script → slice_get seats k ≡ Some old → AllOf worker places mems slots b s h scripts seats
-    → HandsTurn (Ok entered) b (k + 1) s t h g rs qs script.steps (worker new) (places new) (mems new) (slots new)
+    → HandsTurnBy (Ok entered) b (k + 1) s t h g rs qs script.steps (worker new) (places new) (mems new) (slots new)
     → AllOf worker places mems slots b t g scripts (slice_set seats k new)
 all_acted {A} worker places mems slots b s t h g rs qs k scripts seats old new script true l gs go all (a, i, are) = λ j x e.
     let P : ℕ → A → Type 0 = λ j y. (other : Script) → slice_get scripts j ≡ Some other → Seated b j t g other (worker y) (places y) (mems y) (slots y) in
@@ -247,8 +247,8 @@ or_false false = refl
 -- the turn of client k + 1 behind those before it
 step_by : {A : Type 0} (worker : A → Worker) (places : A → List ℕ) (mems : A → List Memory) (slots : A → List ℕ) (b : Begun) (s0 s t : State) (h0 h g : List Entry) (rs0 rs qs : List Reply) (k : ℕ) (scripts : List Script) (script : Script) (seats : List A) (old new : A) (acted entered : Bool)
     → k < length seats → slice_get scripts k ≡ Some script → slice_get seats k ≡ Some old → (had : HaveTurns false b s0 s h0 h rs0 rs k) → is_nobody had.turns ≡ not acted → AllOf worker places mems slots b s h scripts seats
-    → HandsTurn (Ok entered) b (k + 1) s t h g rs qs script.steps (worker new) (places new) (mems new) (slots new)
-    → ClientsTurn (Ok (acted || entered)) b s0 t h0 g rs0 qs (k + 1) scripts (map worker (slice_set seats k new)) (map places (slice_set seats k new)) (map mems (slice_set seats k new)) (map slots (slice_set seats k new))
+    → HandsTurnBy (Ok entered) b (k + 1) s t h g rs qs script.steps (worker new) (places new) (mems new) (slots new)
+    → ClientsTurnBy (Ok (acted || entered)) b s0 t h0 g rs0 qs (k + 1) scripts (map worker (slice_set seats k new)) (map places (slice_set seats k new)) (map mems (slice_set seats k new)) (map slots (slice_set seats k new))
 step_by worker places mems slots b s0 s t h0 h g rs0 rs qs k scripts script seats old new acted true l gs go had n all turn =
     let a = turn.0 in (
       had_more b s0 s t h0 h g rs0 rs qs k (Some a.event) a.turn a.enters.entries (stands_one b.state s t h g rs qs (actors.Client (k + 1)) a.event a.enters a.ready) had,
@@ -266,14 +266,14 @@ step_by worker places mems slots b s0 s t h0 h g rs0 rs qs k scripts script seat
 
 pub clients_step : {A : Type 0} (worker : A → Worker) (places : A → List ℕ) (mems : A → List Memory) (slots : A → List ℕ) (b : Begun) (s0 s t : State) (h0 h g : List Entry) (rs0 rs qs : List Reply) (k : ℕ) (scripts : List Script) (script : Script) (steps : List Step) (seats : List A) (old new : A) (acted entered : Bool)
     → k < length seats → k < length scripts → old ≡ slice_index_or seats k old → script ≡ slice_index_or scripts k script → steps ≡ script.steps
-    → (ClientIs b (k + 1) s h steps (worker (slice_index_or seats k old)) → HandsStand b (k + 1) h (places (slice_index_or seats k old)) (mems (slice_index_or seats k old)) (slots (slice_index_or seats k old))
-    → HandsTurn (Ok entered) b (k + 1) s t h g rs qs steps (worker new) (places new) (mems new) (slots new))
-    → ClientsTurn (Ok acted) b s0 s h0 h rs0 rs k scripts (map worker seats) (map places seats) (map mems seats) (map slots seats)
-    → ClientsTurn (Ok (acted || entered)) b s0 t h0 g rs0 qs (k + 1) scripts (map worker (slice_set seats k new)) (map places (slice_set seats k new)) (map mems (slice_set seats k new)) (map slots (slice_set seats k new))
+    → (ClientIs b (k + 1) s h steps (worker (slice_index_or seats k old)) → HandsStandBy b (k + 1) h (places (slice_index_or seats k old)) (mems (slice_index_or seats k old)) (slots (slice_index_or seats k old))
+    → HandsTurnBy (Ok entered) b (k + 1) s t h g rs qs steps (worker new) (places new) (mems new) (slots new))
+    → ClientsTurnBy (Ok acted) b s0 s h0 h rs0 rs k scripts (map worker seats) (map places seats) (map mems seats) (map slots seats)
+    → ClientsTurnBy (Ok (acted || entered)) b s0 t h0 g rs0 qs (k + 1) scripts (map worker (slice_set seats k new)) (map places (slice_set seats k new)) (map mems (slice_set seats k new)) (map slots (slice_set seats k new))
 clients_step {A} worker places mems slots b s0 s t h0 h g rs0 rs qs k scripts script steps seats old new acted entered ls lc io ic is turn (had, n, all) =
     let gs = get_at scripts k script lc ic in let go = get_at seats k old ls io in
-    let Y : A → Type 0 = λ y. ClientIs b (k + 1) s h steps (worker y) → HandsStand b (k + 1) h (places y) (mems y) (slots y) → HandsTurn (Ok entered) b (k + 1) s t h g rs qs steps (worker new) (places new) (mems new) (slots new) in
-    let Z : List Step → Type 0 = λ z. ClientIs b (k + 1) s h z (worker old) → HandsStand b (k + 1) h (places old) (mems old) (slots old) → HandsTurn (Ok entered) b (k + 1) s t h g rs qs z (worker new) (places new) (mems new) (slots new) in
+    let Y : A → Type 0 = λ y. ClientIs b (k + 1) s h steps (worker y) → HandsStandBy b (k + 1) h (places y) (mems y) (slots y) → HandsTurnBy (Ok entered) b (k + 1) s t h g rs qs steps (worker new) (places new) (mems new) (slots new) in
+    let Z : List Step → Type 0 = λ z. ClientIs b (k + 1) s h z (worker old) → HandsStandBy b (k + 1) h (places old) (mems old) (slots old) → HandsTurnBy (Ok entered) b (k + 1) s t h g rs qs z (worker new) (places new) (mems new) (slots new) in
     let each = from_all worker places mems slots b s h scripts seats all in
     let one = each k old go script gs in
     step_by worker places mems slots b s0 s t h0 h g rs0 rs qs k scripts script seats old new acted entered ls gs go had n each (subst Z is (subst Y (sym io) turn) one.is one.hands)
@@ -330,21 +330,21 @@ clients_stop b s0 s t h0 h g rs0 rs qs k n l (inr a) had all = (
   λ j m. follow_acted b k n s t h g rs qs a all j m (k == j) refl,
 )
 
-stopped : (b : Begun) (s t : State) (h g : List Entry) (rs qs : List Reply) (n : ℕ) (scripts : List Script) (ws : List Worker) (places : List (List ℕ)) (ms : List (List Memory)) (slots : List (List ℕ)) (result : Result Bool OutOfMemory) → IsErr result → HaveTurns true b s t h g rs qs n × AllFollow b g n → ClientsTurn result b s t h g rs qs n scripts ws places ms slots
+stopped : (b : Begun) (s t : State) (h g : List Entry) (rs qs : List Reply) (n : ℕ) (scripts : List Script) (ws : List Worker) (places : List (List ℕ)) (ms : List (List Memory)) (slots : List (List ℕ)) (result : Result Bool OutOfMemory) → IsErr result → HaveTurns true b s t h g rs qs n × AllFollow b g n → ClientsTurnBy result b s t h g rs qs n scripts ws places ms slots
 stopped b s t h g rs qs n scripts ws places ms slots (Ok acted) i x = absurd (cc)
 stopped b s t h g rs qs n scripts ws places ms slots (Err e) i x = x
 
 pub clients_fail : {A : Type 0} (worker : A → Worker) (places : A → List ℕ) (mems : A → List Memory) (slots : A → List ℕ) (b : Begun) (s0 s t : State) (h0 h g : List Entry) (rs0 rs qs : List Reply) (k : ℕ) (scripts : List Script) (script : Script) (steps : List Step) (seats : List A) (old : A) (acted : Bool)
     (n : ℕ) (ws : List Worker) (pls : List (List ℕ)) (mss : List (List Memory)) (sls : List (List ℕ)) (result : Result Bool OutOfMemory) → IsErr result → n ≡ length seats → length scripts ≡ length seats
     → k < length seats → k < length scripts → old ≡ slice_index_or seats k old → script ≡ slice_index_or scripts k script → steps ≡ script.steps
-    → (ClientIs b (k + 1) s h steps (worker (slice_index_or seats k old)) → HandsStand b (k + 1) h (places (slice_index_or seats k old)) (mems (slice_index_or seats k old)) (slots (slice_index_or seats k old))
+    → (ClientIs b (k + 1) s h steps (worker (slice_index_or seats k old)) → HandsStandBy b (k + 1) h (places (slice_index_or seats k old)) (mems (slice_index_or seats k old)) (slots (slice_index_or seats k old))
     → Rests s t h g rs qs ⊎ Acts b (k + 1) s t h g rs qs)
-    → ClientsTurn (Ok acted) b s0 s h0 h rs0 rs k scripts (map worker seats) (map places seats) (map mems seats) (map slots seats)
-    → ClientsTurn result b s0 t h0 g rs0 qs n scripts ws pls mss sls
+    → ClientsTurnBy (Ok acted) b s0 s h0 h rs0 rs k scripts (map worker seats) (map places seats) (map mems seats) (map slots seats)
+    → ClientsTurnBy result b s0 t h0 g rs0 qs n scripts ws pls mss sls
 clients_fail {A} worker places mems slots b s0 s t h0 h g rs0 rs qs k scripts script steps seats old acted n ws pls mss sls result err en el ls lc io ic is turn (had, nobody, all) =
     let gs = get_at scripts k script lc ic in let go = get_at seats k old ls io in
-    let Y : A → Type 0 = λ y. ClientIs b (k + 1) s h steps (worker y) → HandsStand b (k + 1) h (places y) (mems y) (slots y) → Rests s t h g rs qs ⊎ Acts b (k + 1) s t h g rs qs in
-    let Z : List Step → Type 0 = λ z. ClientIs b (k + 1) s h z (worker old) → HandsStand b (k + 1) h (places old) (mems old) (slots old) → Rests s t h g rs qs ⊎ Acts b (k + 1) s t h g rs qs in
+    let Y : A → Type 0 = λ y. ClientIs b (k + 1) s h steps (worker y) → HandsStandBy b (k + 1) h (places y) (mems y) (slots y) → Rests s t h g rs qs ⊎ Acts b (k + 1) s t h g rs qs in
+    let Z : List Step → Type 0 = λ z. ClientIs b (k + 1) s h z (worker old) → HandsStandBy b (k + 1) h (places old) (mems old) (slots old) → Rests s t h g rs qs ⊎ Acts b (k + 1) s t h g rs qs in
     let N : ℕ → Type 0 = λ z. HaveTurns true b s0 t h0 g rs0 qs z × AllFollow b g z in
     let each = from_all worker places mems slots b s h scripts seats all in
     let one = each k old go script gs in
@@ -353,9 +353,9 @@ clients_fail {A} worker places mems slots b s0 s t h0 h g rs0 rs qs k scripts sc
 
 -- before the first turn, and behind the last one
 
-pub clients_none : (b : Begun) (s : State) (h : List Entry) (rs : List Reply) (scripts : List Script) (ws : List Worker) (places : List (List ℕ)) (ms : List (List Memory)) (slots : List (List ℕ)) → AllStand b s h scripts ws places ms slots → ClientsTurn (Ok false) b s s h h rs rs 0 scripts ws places ms slots
+pub clients_none : (b : Begun) (s : State) (h : List Entry) (rs : List Reply) (scripts : List Script) (ws : List Worker) (places : List (List ℕ)) (ms : List (List Memory)) (slots : List (List ℕ)) → AllStandBy b s h scripts ws places ms slots → ClientsTurnBy (Ok false) b s s h h rs rs 0 scripts ws places ms slots
 clients_none b s h rs scripts ws places ms slots all = (record { turns = []; are = tt; entries = sym (append_none h); stands = λ k. k }, refl, all)
 
-pub clients_done : (b : Begun) (s t : State) (h g : List Entry) (rs qs : List Reply) (acted : Bool) (k n : ℕ) (scripts : List Script) (ws : List Worker) (places : List (List ℕ)) (ms : List (List Memory)) (slots : List (List ℕ)) → k ≡ n → ClientsTurn (Ok acted) b s t h g rs qs k scripts ws places ms slots
-    → ClientsTurn (Ok acted) b s t h g rs qs n scripts ws places ms slots
-clients_done b s t h g rs qs acted k n scripts ws places ms slots e x = let P : ℕ → Type 0 = λ z. ClientsTurn (Ok acted) b s t h g rs qs z scripts ws places ms slots in subst P e x
+pub clients_done : (b : Begun) (s t : State) (h g : List Entry) (rs qs : List Reply) (acted : Bool) (k n : ℕ) (scripts : List Script) (ws : List Worker) (places : List (List ℕ)) (ms : List (List Memory)) (slots : List (List ℕ)) → k ≡ n → ClientsTurnBy (Ok acted) b s t h g rs qs k scripts ws places ms slots
+    → ClientsTurnBy (Ok acted) b s t h g rs qs n scripts ws places ms slots
+clients_done b s t h g rs qs acted k n scripts ws places ms slots e x = let P : ℕ → Type 0 = λ z. ClientsTurnBy (Ok acted) b s t h g rs qs z scripts ws places ms slots in subst P e x

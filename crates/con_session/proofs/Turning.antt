@@ -25,7 +25,7 @@ use Rattle.con_machine.specs.Step.{is_ready}
 use Rattle.con_machine.specs.Turns.{moved, paints, is_paint, is_terminal}
 use Rattle.con_session.specs.Desk.{Stands, entry}
 use Rattle.con_session.specs.Painting.{CanvasIs, PaintTurn, PainterFails, PainterActs}
-use Rattle.con_session.specs.Seats.{ClientsTurn, HaveTurns}
+use Rattle.con_session.specs.Seats.{ClientsTurnBy, HaveTurns}
 use Rattle.con_session.specs.Sender.{LinkBy, SenderTurn}
 use Rattle.con_session.specs.Solo.{AsksStand, HoldsBy, Moment}
 use Rattle.con_session.specs.declared.terminal.Side.{Side}
@@ -178,7 +178,7 @@ clients_keep broken b s t h g rs qs n all P l st one had k =
     subst P (sym had.entries) (along_clients all b.state P one h r (subst Q had.entries (had.stands st).legal) (from_clients all 0 n had.turns (omega arith)) k)
 
 pub entered_holds : (R : Reading) (M : List R.One → List Entry → Type 0) (b : Begun) (scripts : List Script) (before old : Option (List ℕ)) (m : Moment) (t : State) (g : List Entry) (qs : List Reply) (ws : List Worker) (places : List (List ℕ)) (ms : List (List Memory)) (slots : List (List ℕ)) (n : ℕ) (entered : Bool)
-    → n ≡ length scripts → ClientsTurn (Ok entered) b m.state t m.entries g m.replies qs n scripts ws places ms slots
+    → n ≡ length scripts → ClientsTurnBy (Ok entered) b m.state t m.entries g m.replies qs n scripts ws places ms slots
     → ((fs : List R.One) (h : List Entry) (x : Entry) → is_terminal x.actor ≡ false → is_paint x.event ≡ false → M fs h → M fs (h ++ x ∷ []))
     → HoldsBy R M b scripts before old m → HoldsBy R M b scripts before old (record m { state = t; entries = g; replies = qs; workers = ws; places = places; memories = ms; slots = slots })
 entered_holds R M b scripts before old m t g qs ws places ms slots n entered e (had, nobody, all) closed k =

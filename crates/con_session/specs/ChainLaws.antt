@@ -14,7 +14,7 @@ use Rattle.con_handlers.specs.Memory.{Memory}
 use Rattle.con_machine.specs.Chain.{Handler, without_handler}
 use Rattle.con_machine.specs.Follows.{kinds_of}
 use Rattle.con_machine.specs.Rounds.{Begun}
-use Rattle.con_session.specs.Worker.{HandsAre, HandsStand, told_kind, told_in, places_in, stand_once}
+use Rattle.con_session.specs.Worker.{HandsAreBy, HandsStandBy, told_kind, told_in, places_in, stand_once}
 
 -- ---- what the slots of a rack hold
 
@@ -95,8 +95,8 @@ all_remove p (x ∷ xs) (suc k) a = let z = apart (p x) (list_all p xs) a in bot
     both a b e f = rw (e, f) refl
 
 -- the first place that is this one, or the end
-pub removed_at : {B : Type 0} (memory : B → Memory) (hs : List Handler) (doubtful : Bool) (places : List ℕ) (old : List B) (i n : ℕ) → n ≡ position_or_len (λ y. y == i) places → stand_once (places_in hs) ≡ true → HandsAre hs doubtful places (map memory old)
-    → HandsAre (without_handler hs i) doubtful (remove places n) (map memory (remove old n))
+pub removed_at : {B : Type 0} (memory : B → Memory) (hs : List Handler) (doubtful : Bool) (places : List ℕ) (old : List B) (i n : ℕ) → n ≡ position_or_len (λ y. y == i) places → stand_once (places_in hs) ≡ true → HandsAreBy hs doubtful places (map memory old)
+    → HandsAreBy (without_handler hs i) doubtful (remove places n) (map memory (remove old n))
 removed_at memory hs doubtful places old i n e once are =
     let at : doubtful ≡ false → without_handler hs i ≡ remove hs n = λ f. without_is hs i once ∙ ap (λ (k : ℕ). remove hs k) (ap (position_or_len (λ y. y == i)) (are.places' f) ∙ sym e) in
     let now : map memory (remove old n) ≡ remove (map memory old) n = map_remove memory old n in record {
@@ -106,13 +106,13 @@ removed_at memory hs doubtful places old i n e once are =
       known = λ f. ap (list_all (λ m. nat_lt 0 m.kind)) now ∙ all_remove (λ m. nat_lt 0 m.kind) (map memory old) n (are.known f);
     }
 
-pub removed_hands : {B : Type 0} (memory : B → Memory) (hs : List Handler) (doubtful : Bool) (places : List ℕ) (old : List B) (i k : ℕ) → position (λ y. y == i) places ≡ Some k → stand_once (places_in hs) ≡ true → HandsAre hs doubtful places (map memory old)
-    → HandsAre (without_handler hs i) doubtful (remove places k) (map memory (remove old k))
+pub removed_hands : {B : Type 0} (memory : B → Memory) (hs : List Handler) (doubtful : Bool) (places : List ℕ) (old : List B) (i k : ℕ) → position (λ y. y == i) places ≡ Some k → stand_once (places_in hs) ≡ true → HandsAreBy hs doubtful places (map memory old)
+    → HandsAreBy (without_handler hs i) doubtful (remove places k) (map memory (remove old k))
 removed_hands memory hs doubtful places old i k e once are =
     removed_at memory hs doubtful places old i k (sym (found_by (nat_lt (position_or_len (λ y. y == i) places) (length places)) (position_or_len (λ y. y == i) places) k e)) once are
 
 -- a place that no handler of the chain has
-pub absent_hands : (hs : List Handler) (doubtful : Bool) (places : List ℕ) (ms : List Memory) (i : ℕ) → position (λ y. y == i) places ≡ None → stand_once (places_in hs) ≡ true → HandsAre hs doubtful places ms → HandsAre (without_handler hs i) doubtful places ms
+pub absent_hands : (hs : List Handler) (doubtful : Bool) (places : List ℕ) (ms : List Memory) (i : ℕ) → position (λ y. y == i) places ≡ None → stand_once (places_in hs) ≡ true → HandsAreBy hs doubtful places ms → HandsAreBy (without_handler hs i) doubtful places ms
 absent_hands hs doubtful places ms i e once are =
     let n = position_or_len (λ y. y == i) places in
     let past : length places ≤ n = ltb-false n (length places) (none_by (nat_lt n (length places)) n e) in
@@ -142,7 +142,7 @@ pub full_slots : {B : Type 0} (memory : B → Memory) (xs : List B) → slots_of
 full_slots memory [] = refl
 full_slots memory (x ∷ xs) = ap (λ (ks : List ℕ). told_kind (memory x) ∷ ks) (full_slots memory xs)
 
-pub first_hands : {B : Type 0} (memory : B → Memory) (xs : List B) (rack : List (Option B)) (b : Begun) (p : ℕ) → rack ≡ map Some xs → kinds_of b.racks p ≡ map (λ x. told_kind (memory x)) xs → HandsStand b p [] [] [] (slots_of memory rack)
+pub first_hands : {B : Type 0} (memory : B → Memory) (xs : List B) (rack : List (Option B)) (b : Begun) (p : ℕ) → rack ≡ map Some xs → kinds_of b.racks p ≡ map (λ x. told_kind (memory x)) xs → HandsStandBy b p [] [] [] (slots_of memory rack)
 first_hands memory xs rack b p e k = record {
   chain = record { places' = λ f. refl; kinds = λ f. refl; asked = λ f. refl; known = λ f. refl };
   rack = record {

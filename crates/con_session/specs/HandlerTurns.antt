@@ -22,7 +22,7 @@ use Rattle.con_machine.specs.State.{State}
 use Rattle.con_machine.specs.Step.{step, is_ready}
 use Rattle.con_machine.specs.Turns.{Turn, turns, turn_of, is_pending}
 use Rattle.con_session.specs.Desk.{Enters, entry, brief_of, is_refused}
-use Rattle.con_session.specs.Worker.{IsStance, IsWorker, ClientIs, Acts, ClientTurn, HandsAre, HandsStand, HandsTurn, IsRack, places_in}
+use Rattle.con_session.specs.Worker.{IsStance, IsWorker, ClientIs, Acts, ClientTurn, HandsAreBy, HandsStandBy, HandsTurnBy, IsRack, places_in}
 use Rattle.con_session.specs.RackLaws.{own_turns, rack_added, rack_removed, without}
 use Rattle.con_session.specs.StepLaws.{due_next, drop_one, refused_is}
 use Rattle.con_session.specs.WorkerLaws.{own_is, going_may, due_may, call_ready, step_turn, none_pending, with_hands}
@@ -80,8 +80,8 @@ fails_by granted brief r g e = sym (ap not (g ∙ ap (λ (x : Brief). not (is_re
 
 pub refused_turn : (b : Begun) (p : ℕ) (s t : State) (h g : List Entry) (rs qs : List Reply) (steps : List Step) (w : Worker) (call : Call) (places : List ℕ) (ms : List Memory) (slots : List ℕ) → is_fail (step s (actors.Client p) (events.Call call)).reply ≡ true
     → ClientIs b p s h steps w → w.gone ≡ false → w.leaving ≡ false → w.reading ≡ false → is_ready s (actors.Client p) events.TakeCtrl ≡ false → events.Call call ≡ next_event (client_at b h p).left
-    → Enters s t h g rs qs (actors.Client p) (events.Call call) → HandsStand b p h places ms slots
-    → HandsTurn (Ok true) b p s t h g rs qs steps (record w { at = w.at + 1 }) places ms slots
+    → Enters s t h g rs qs (actors.Client p) (events.Call call) → HandsStandBy b p h places ms slots
+    → HandsTurnBy (Ok true) b p s t h g rs qs steps (record w { at = w.at + 1 }) places ms slots
 refused_turn b p s t h g rs qs steps w call places ms slots f k n l r u d en are =
     let ev = events.Call call in
     let c = client_at b h p in
@@ -106,10 +106,10 @@ adds_here place j r f = by (place == j) (is_fail r) f
 pub added_turn : (b : Begun) (p : ℕ) (s t : State) (h g : List Entry) (rs qs : List Reply) (steps : List Step) (w : Worker) (place : ℕ) (places now : List ℕ) (ms after' : List Memory) (slots left : List ℕ)
     → is_fail (step s (actors.Client p) (events.Call (calls.HandlerAdd place))).reply ≡ false
     → ClientIs b p s h steps w → w.gone ≡ false → w.leaving ≡ false → w.reading ≡ false → is_ready s (actors.Client p) events.TakeCtrl ≡ false → events.Call (calls.HandlerAdd place) ≡ next_event (client_at b h p).left
-    → Enters s t h g rs qs (actors.Client p) (events.Call (calls.HandlerAdd place)) → HandsStand b p h places ms slots
-    → HandsAre (with_handler (client_at b h p).chain place (get_or slots place 0)) (if get_or slots place 0 == 0 then true else (client_at b h p).doubtful) now after'
+    → Enters s t h g rs qs (actors.Client p) (events.Call (calls.HandlerAdd place)) → HandsStandBy b p h places ms slots
+    → HandsAreBy (with_handler (client_at b h p).chain place (get_or slots place 0)) (if get_or slots place 0 == 0 then true else (client_at b h p).doubtful) now after'
     → ((i : ℕ) → (i == place) ≡ false → get_or left i 0 ≡ get_or slots i 0)
-    → HandsTurn (Ok true) b p s t h g rs qs steps (record w { at = w.at + 1 }) now after' left
+    → HandsTurnBy (Ok true) b p s t h g rs qs steps (record w { at = w.at + 1 }) now after' left
 added_turn b p s t h g rs qs steps w place places now ms after' slots left f k n l r u d en are new same =
     let call = calls.HandlerAdd place in
     let ev = events.Call call in
@@ -122,8 +122,8 @@ added_turn b p s t h g rs qs steps w place places now ms after' slots left f k n
     let first : has_added place (turns b.state p h) ≡ false = added_first b.state h p place ev (adds_here place place (step (run b.state h) (actors.Client p) ev).reply done ∙ Rattle.std.proofs.Common.eq-eqb place place refl) in
     let kind : get_or slots place 0 ≡ get_or c.kinds place 0 = are.rack.left place first in
     let e : client_at b g p ≡ record (chained (record c { left = drop 1 c.left; stance = GoesOn }) call) { pending = pending } = own_is b p s t h g rs qs ev k.state en ∙ ap (λ (z : Client). record z { pending = pending }) (granted_entry c call reply f) in
-    let P : ℕ → Type 0 = λ z. HandsAre (with_handler c.chain place z) (if z == 0 then true else c.doubtful) now after' in
-    let S : Client → Type 0 = λ z. HandsAre z.chain z.doubtful now after' in
+    let P : ℕ → Type 0 = λ z. HandsAreBy (with_handler c.chain place z) (if z == 0 then true else c.doubtful) now after' in
+    let S : Client → Type 0 = λ z. HandsAreBy z.chain z.doubtful now after' in
     let T : List Turn → Type 0 = λ ts. IsRack ts c.kinds left (places_in c.chain ++ place ∷ []) in
     let U : List ℕ → Type 0 = λ xs. IsRack (turns b.state p g) c.kinds left xs in
     let V : Client → Type 0 = λ z. IsRack (turns b.state p g) z.kinds left (places_in z.chain) in
@@ -147,9 +147,9 @@ places_without (h ∷ hs) place = by (not (h.place == place)) (places_without hs
 pub removed_turn : (b : Begun) (p : ℕ) (s t : State) (h g : List Entry) (rs qs : List Reply) (steps : List Step) (w : Worker) (place : ℕ) (places now : List ℕ) (ms after' : List Memory) (slots : List ℕ)
     → is_fail (step s (actors.Client p) (events.Call (calls.HandlerRemove place))).reply ≡ false
     → ClientIs b p s h steps w → w.gone ≡ false → w.leaving ≡ false → w.reading ≡ false → is_ready s (actors.Client p) events.TakeCtrl ≡ false → events.Call (calls.HandlerRemove place) ≡ next_event (client_at b h p).left
-    → Enters s t h g rs qs (actors.Client p) (events.Call (calls.HandlerRemove place)) → HandsStand b p h places ms slots
-    → HandsAre (without_handler (client_at b h p).chain place) (client_at b h p).doubtful now after'
-    → HandsTurn (Ok true) b p s t h g rs qs steps (record w { at = w.at + 1 }) now after' slots
+    → Enters s t h g rs qs (actors.Client p) (events.Call (calls.HandlerRemove place)) → HandsStandBy b p h places ms slots
+    → HandsAreBy (without_handler (client_at b h p).chain place) (client_at b h p).doubtful now after'
+    → HandsTurnBy (Ok true) b p s t h g rs qs steps (record w { at = w.at + 1 }) now after' slots
 removed_turn b p s t h g rs qs steps w place places now ms after' slots f k n l r u d en are new =
     let call = calls.HandlerRemove place in
     let ev = events.Call call in
@@ -158,7 +158,7 @@ removed_turn b p s t h g rs qs steps w place places now ms after' slots f k n l 
     let pending = is_pending ((step s (actors.Client p) ev).after) p in
     let x = turn_of (run b.state h) p (entry (actors.Client p) ev) in
     let e : client_at b g p ≡ record (chained (record c { left = drop 1 c.left; stance = GoesOn }) call) { pending = pending } = own_is b p s t h g rs qs ev k.state en ∙ ap (λ (z : Client). record z { pending = pending }) (granted_entry c call reply f) in
-    let S : Client → Type 0 = λ z. HandsAre z.chain z.doubtful now after' in
+    let S : Client → Type 0 = λ z. HandsAreBy z.chain z.doubtful now after' in
     let T : List Turn → Type 0 = λ ts. IsRack ts c.kinds slots (without place (places_in c.chain)) in
     let U : List ℕ → Type 0 = λ xs. IsRack (turns b.state p g) c.kinds slots xs in
     let V : Client → Type 0 = λ z. IsRack (turns b.state p g) z.kinds slots (places_in z.chain) in
@@ -175,6 +175,6 @@ removed_turn b p s t h g rs qs steps w place places now ms after' slots f k n l 
 pub wanting_turn : (r : Result Bool OutOfMemory) (b : Begun) (p : ℕ) (s t : State) (h g : List Entry) (rs qs : List Reply) (steps : List Step) (w : Worker) (call : Call) (v : Worker) (places : List ℕ) (ms : List Memory) (slots : List ℕ) → IsErr r
     → ClientIs b p s h steps w → w.gone ≡ false → w.leaving ≡ false → w.reading ≡ false → is_ready s (actors.Client p) events.TakeCtrl ≡ false → events.Call call ≡ next_event (client_at b h p).left
     → Enters s t h g rs qs (actors.Client p) (events.Call call)
-    → HandsTurn r b p s t h g rs qs steps v places ms slots
+    → HandsTurnBy r b p s t h g rs qs steps v places ms slots
 wanting_turn (Ok done) b p s t h g rs qs steps w call v places ms slots e k n l r u d en = absurd (cc)
 wanting_turn (Err err) b p s t h g rs qs steps w call v places ms slots e k n l r u d en = inr (call_acts b p s t h g rs qs steps w call k n l r u d en)

@@ -13,6 +13,8 @@ pub mod Painting
 pub mod Opening
 pub mod Solo
 pub mod Outcome
+-- The same of the structs that hold handlers, as contracts say it.
+pub mod Held
 -- A second terminal: what it is to show, and what an outcome has of it.
 pub mod Seconds
 pub mod Second

@@ -22,50 +22,50 @@ use Rattle.con_machine.specs.PresenceLaws.{single_none}
 use Rattle.con_machine.specs.Rounds.{Begun, client_at}
 use Rattle.con_machine.specs.State.{State, opening}
 use Rattle.con_machine.specs.Turns.{paints}
-use Rattle.con_session.specs.Opening.{AreFresh, fresh}
+use Rattle.con_session.specs.Opening.{AreFreshBy, fresh}
 use Rattle.con_session.specs.Painting.{CanvasIs, IsTied, KeepsView}
-use Rattle.con_session.specs.Seats.{AllStand, AllFollow, Seated}
+use Rattle.con_session.specs.Seats.{AllStandBy, AllFollow, Seated}
 use Rattle.con_session.specs.Sender.{FailsBy, LinkBy, LinkIs, NoMore, SideStands}
 use Rattle.con_session.specs.Solo.{GoesBy, Moment, begins, fails_at}
 use Rattle.con_session.specs.Standing.{ClientStands}
-use Rattle.con_session.specs.Worker.{HandsStand, IsWorker}
+use Rattle.con_session.specs.Worker.{HandsStandBy, IsWorker}
 use Rattle.con_session.specs.declared.terminal.Side.{Side}
 use Rattle.con_session.specs.declared.worker.Worker.{Worker}
 
 -- ---- clients that have entered nothing
 
 -- one more
-pub fresh_more : {A : Type 0} (worker : A → Worker) (places : A → List ℕ) (mems : A → List Memory) (slots : A → List ℕ) (racks : List (List ℕ)) (k : ℕ) (xs : List A) (x : A) → AreFresh worker places mems slots racks k xs
-    → worker x ≡ fresh → ((b : Begun) (p : ℕ) → kinds_of b.racks p ≡ get_or racks (k + length xs) [] → HandsStand b p [] (places x) (mems x) (slots x)) → AreFresh worker places mems slots racks k (xs ++ x ∷ [])
+pub fresh_more : {A : Type 0} (worker : A → Worker) (places : A → List ℕ) (mems : A → List Memory) (slots : A → List ℕ) (racks : List (List ℕ)) (k : ℕ) (xs : List A) (x : A) → AreFreshBy worker places mems slots racks k xs
+    → worker x ≡ fresh → ((b : Begun) (p : ℕ) → kinds_of b.racks p ≡ get_or racks (k + length xs) [] → HandsStandBy b p [] (places x) (mems x) (slots x)) → AreFreshBy worker places mems slots racks k (xs ++ x ∷ [])
 fresh_more worker places mems slots racks k [] x f w h =
-    let P : ℕ → Type 0 = λ z. (b : Begun) (p : ℕ) → kinds_of b.racks p ≡ get_or racks z [] → HandsStand b p [] (places x) (mems x) (slots x) in
+    let P : ℕ → Type 0 = λ z. (b : Begun) (p : ℕ) → kinds_of b.racks p ≡ get_or racks z [] → HandsStandBy b p [] (places x) (mems x) (slots x) in
     (w, subst P (let e : k + 0 ≡ k = omega arith in e) h, tt)
 fresh_more worker places mems slots racks k (y ∷ ys) x (u, v, f) w h =
-    let P : ℕ → Type 0 = λ z. (b : Begun) (p : ℕ) → kinds_of b.racks p ≡ get_or racks z [] → HandsStand b p [] (places x) (mems x) (slots x) in
+    let P : ℕ → Type 0 = λ z. (b : Begun) (p : ℕ) → kinds_of b.racks p ≡ get_or racks z [] → HandsStandBy b p [] (places x) (mems x) (slots x) in
     (u, v, fresh_more worker places mems slots racks (k + 1) ys x f w (subst P (let e : k + suc (length ys) ≡ k + 1 + length ys = omega arith in e) h))
 
 -- the first of them
-pub fresh_take : {A : Type 0} (worker : A → Worker) (places : A → List ℕ) (mems : A → List Memory) (slots : A → List ℕ) (racks : List (List ℕ)) (k : ℕ) (xs : List A) (n : ℕ) → AreFresh worker places mems slots racks k xs → AreFresh worker places mems slots racks k (take n xs)
+pub fresh_take : {A : Type 0} (worker : A → Worker) (places : A → List ℕ) (mems : A → List Memory) (slots : A → List ℕ) (racks : List (List ℕ)) (k : ℕ) (xs : List A) (n : ℕ) → AreFreshBy worker places mems slots racks k xs → AreFreshBy worker places mems slots racks k (take n xs)
 fresh_take worker places mems slots racks k [] zero f = tt
 fresh_take worker places mems slots racks k [] (suc n) f = tt
 fresh_take worker places mems slots racks k (x ∷ xs) zero f = tt
 fresh_take worker places mems slots racks k (x ∷ xs) (suc n) (u, v, f) = (u, v, fresh_take worker places mems slots racks (k + 1) xs n f)
 
 -- each of them
-pub fresh_at : {A : Type 0} (worker : A → Worker) (places : A → List ℕ) (mems : A → List Memory) (slots : A → List ℕ) (racks : List (List ℕ)) (k : ℕ) (xs : List A) → AreFresh worker places mems slots racks k xs
+pub fresh_at : {A : Type 0} (worker : A → Worker) (places : A → List ℕ) (mems : A → List Memory) (slots : A → List ℕ) (racks : List (List ℕ)) (k : ℕ) (xs : List A) → AreFreshBy worker places mems slots racks k xs
     → (j : ℕ) (w : Worker) (ps : List ℕ) (m : List Memory) (ys : List ℕ) → slice_get (map worker xs) j ≡ Some w → slice_get (map places xs) j ≡ Some ps → slice_get (map mems xs) j ≡ Some m → slice_get (map slots xs) j ≡ Some ys
-    → (w ≡ fresh) × ((b : Begun) (p : ℕ) → kinds_of b.racks p ≡ get_or racks (k + j) [] → HandsStand b p [] ps m ys)
+    → (w ≡ fresh) × ((b : Begun) (p : ℕ) → kinds_of b.racks p ≡ get_or racks (k + j) [] → HandsStandBy b p [] ps m ys)
 fresh_at worker places mems slots racks k [] f j w ps m ys a b c d = absurd (cc)
 fresh_at worker places mems slots racks k (x ∷ xs) (u, v, f) zero w ps m ys a b c d =
     let q0 : worker x ≡ w = cc in let q1 : places x ≡ ps = cc in let q2 : mems x ≡ m = cc in let q3 : slots x ≡ ys = cc in
-    let P : ℕ → Type 0 = λ z. (b : Begun) (p : ℕ) → kinds_of b.racks p ≡ get_or racks z [] → HandsStand b p [] (places x) (mems x) (slots x) in
-    let A : List ℕ → Type 0 = λ z. (b : Begun) (p : ℕ) → kinds_of b.racks p ≡ get_or racks (k + 0) [] → HandsStand b p [] z (mems x) (slots x) in
-    let B : List Memory → Type 0 = λ z. (b : Begun) (p : ℕ) → kinds_of b.racks p ≡ get_or racks (k + 0) [] → HandsStand b p [] ps z (slots x) in
-    let C : List ℕ → Type 0 = λ z. (b : Begun) (p : ℕ) → kinds_of b.racks p ≡ get_or racks (k + 0) [] → HandsStand b p [] ps m z in
+    let P : ℕ → Type 0 = λ z. (b : Begun) (p : ℕ) → kinds_of b.racks p ≡ get_or racks z [] → HandsStandBy b p [] (places x) (mems x) (slots x) in
+    let A : List ℕ → Type 0 = λ z. (b : Begun) (p : ℕ) → kinds_of b.racks p ≡ get_or racks (k + 0) [] → HandsStandBy b p [] z (mems x) (slots x) in
+    let B : List Memory → Type 0 = λ z. (b : Begun) (p : ℕ) → kinds_of b.racks p ≡ get_or racks (k + 0) [] → HandsStandBy b p [] ps z (slots x) in
+    let C : List ℕ → Type 0 = λ z. (b : Begun) (p : ℕ) → kinds_of b.racks p ≡ get_or racks (k + 0) [] → HandsStandBy b p [] ps m z in
     (sym q0 ∙ u, subst C q3 (subst B q2 (subst A q1 (subst P (let e : k ≡ k + 0 = omega arith in e) v))))
 fresh_at worker places mems slots racks k (x ∷ xs) (u, v, f) (suc j) w ps m ys a b c d =
     let r = fresh_at worker places mems slots racks (k + 1) xs f j w ps m ys a b c d in
-    let P : ℕ → Type 0 = λ z. (b : Begun) (p : ℕ) → kinds_of b.racks p ≡ get_or racks z [] → HandsStand b p [] ps m ys in
+    let P : ℕ → Type 0 = λ z. (b : Begun) (p : ℕ) → kinds_of b.racks p ≡ get_or racks z [] → HandsStandBy b p [] ps m ys in
     (r.0, subst P (let e : k + 1 + j ≡ k + suc j = omega arith in e) r.1)
 
 -- ---- the sizes of racks
@@ -95,7 +95,7 @@ opens_stands session racks f k l =
     }
 
 pub seated_fresh : (session : Clients) (racks : List (List ℕ)) (f : Option ℕ) (k : ℕ) (script : Script) (w : Worker) (places : List ℕ) (ms : List Memory) (slots : List ℕ) → k < length session.scripts → slice_get session.scripts k ≡ Some script → w ≡ fresh
-    → ((b : Begun) (p : ℕ) → kinds_of b.racks p ≡ get_or racks (0 + k) [] → HandsStand b p [] places ms slots) → Seated (begins session racks f) k (begun session racks) [] script w places ms slots
+    → ((b : Begun) (p : ℕ) → kinds_of b.racks p ≡ get_or racks (0 + k) [] → HandsStandBy b p [] places ms slots) → Seated (begins session racks f) k (begun session racks) [] script w places ms slots
 seated_fresh session racks f k script w places ms slots l e i hands =
     let b = begins session racks f in
     let n : k + 1 - 1 ≡ k = omega arith in
@@ -111,8 +111,8 @@ get_below [] k x e = absurd (cc)
 get_below (y ∷ ys) zero x e = omega arith
 get_below (y ∷ ys) (suc k) x e = let l = get_below ys k x e in omega arith
 
-pub all_fresh : {A : Type 0} (worker : A → Worker) (places : A → List ℕ) (mems : A → List Memory) (slots : A → List ℕ) (session : Clients) (racks : List (List ℕ)) (f : Option ℕ) (seats : List A) → AreFresh worker places mems slots racks 0 seats
-    → AllStand (begins session racks f) (begun session racks) [] session.scripts (map worker seats) (map places seats) (map mems seats) (map slots seats)
+pub all_fresh : {A : Type 0} (worker : A → Worker) (places : A → List ℕ) (mems : A → List Memory) (slots : A → List ℕ) (session : Clients) (racks : List (List ℕ)) (f : Option ℕ) (seats : List A) → AreFreshBy worker places mems slots racks 0 seats
+    → AllStandBy (begins session racks f) (begun session racks) [] session.scripts (map worker seats) (map places seats) (map mems seats) (map slots seats)
 all_fresh worker places mems slots session racks f seats are = λ k script w xs m ys e a b c d.
     let q = fresh_at worker places mems slots racks 0 seats are k w xs m ys a b c d in
     seated_fresh session racks f k script w xs m ys (get_below session.scripts k script e) e q.0 q.1
@@ -164,7 +164,7 @@ open_canvas session racks f kept old failed =
 
 -- a session begins
 pub opens_goes : {A : Type 0} (R : Reading) (More : List R.One → List Entry → Type 0) (worker : A → Worker) (places : A → List ℕ) (mems : A → List Memory) (slots : A → List ℕ) (session : Clients) (racks : List (List ℕ)) (f : Option ℕ) (before old : Option (List ℕ)) (seats : List A) (kept : Kept) (s : State)
-    → s ≡ begun session racks → AreFresh worker places mems slots racks 0 seats → More [] []
+    → s ≡ begun session racks → AreFreshBy worker places mems slots racks 0 seats → More [] []
     → GoesBy R More (begins session racks f) session.scripts before old (record {
       state = s;
       entries = [];
@@ -185,7 +185,7 @@ pub opens_goes : {A : Type 0} (R : Reading) (More : List R.One → List Entry �
 opens_goes R More worker places mems slots session racks f before old seats kept s e are more =
     let b = begins session racks f in
     let o = opens session racks in
-    let A : State → Type 0 = λ z. AllStand b z [] session.scripts (map worker seats) (map places seats) (map mems seats) (map slots seats) in
+    let A : State → Type 0 = λ z. AllStandBy b z [] session.scripts (map worker seats) (map places seats) (map mems seats) (map slots seats) in
     record {
       holds = record {
         scripts' = refl;
@@ -231,7 +231,7 @@ get_map f (y ∷ ys) zero x e = let q : y ≡ x = cc in ap (λ (z : _). Some (f 
 get_map f (y ∷ ys) (suc k) x e = get_map f ys k x e
 
 pub all_follow : {A : Type 0} (worker : A → Worker) (places : A → List ℕ) (mems : A → List Memory) (slots : A → List ℕ) (scripts : List Script) (seats : List A) → length scripts ≡ length seats → (b : Begun) (s : State) (h : List Entry)
-    → AllStand b s h scripts (map worker seats) (map places seats) (map mems seats) (map slots seats) → AllFollow b h (length scripts)
+    → AllStandBy b s h scripts (map worker seats) (map places seats) (map mems seats) (map slots seats) → AllFollow b h (length scripts)
 all_follow worker places mems slots scripts seats e b s h all = λ k l.
     let (script, i) = some_at scripts k l in
     let (x, j) = some_at seats k (omega (arith, e)) in
@@ -262,15 +262,15 @@ pushed {A} xs ys zs x e i = let P : List A → Type 0 = λ z. zs ≡ z ++ x ∷ 
 pub pushed_length : {A : Type 0} (xs zs : List A) (x : A) → zs ≡ xs ++ x ∷ [] → length zs ≡ length xs + 1
 pushed_length {A} xs zs x e = ap (λ (z : List A). length z) e ∙ length-append xs (x ∷ [])
 
-pub fresh_pushed : {A : Type 0} (worker : A → Worker) (places : A → List ℕ) (mems : A → List Memory) (slots : A → List ℕ) (racks : List (List ℕ)) (xs zs : List A) (x : A) → zs ≡ xs ++ x ∷ [] → AreFresh worker places mems slots racks 0 xs
-    → worker x ≡ fresh → ((b : Begun) (p : ℕ) → kinds_of b.racks p ≡ get_or racks (0 + length xs) [] → HandsStand b p [] (places x) (mems x) (slots x)) → AreFresh worker places mems slots racks 0 zs
-fresh_pushed {A} worker places mems slots racks xs zs x e f w h = let P : List A → Type 0 = λ z. AreFresh worker places mems slots racks 0 z in subst P (sym e) (fresh_more worker places mems slots racks 0 xs x f w h)
+pub fresh_pushed : {A : Type 0} (worker : A → Worker) (places : A → List ℕ) (mems : A → List Memory) (slots : A → List ℕ) (racks : List (List ℕ)) (xs zs : List A) (x : A) → zs ≡ xs ++ x ∷ [] → AreFreshBy worker places mems slots racks 0 xs
+    → worker x ≡ fresh → ((b : Begun) (p : ℕ) → kinds_of b.racks p ≡ get_or racks (0 + length xs) [] → HandsStandBy b p [] (places x) (mems x) (slots x)) → AreFreshBy worker places mems slots racks 0 zs
+fresh_pushed {A} worker places mems slots racks xs zs x e f w h = let P : List A → Type 0 = λ z. AreFreshBy worker places mems slots racks 0 z in subst P (sym e) (fresh_more worker places mems slots racks 0 xs x f w h)
 
-pub fresh_cut : {A : Type 0} (worker : A → Worker) (places : A → List ℕ) (mems : A → List Memory) (slots : A → List ℕ) (racks : List (List ℕ)) (xs zs : List A) (n : ℕ) → zs ≡ take n xs → AreFresh worker places mems slots racks 0 xs → AreFresh worker places mems slots racks 0 zs
-fresh_cut {A} worker places mems slots racks xs zs n e f = let P : List A → Type 0 = λ z. AreFresh worker places mems slots racks 0 z in subst P (sym e) (fresh_take worker places mems slots racks 0 xs n f)
+pub fresh_cut : {A : Type 0} (worker : A → Worker) (places : A → List ℕ) (mems : A → List Memory) (slots : A → List ℕ) (racks : List (List ℕ)) (xs zs : List A) (n : ℕ) → zs ≡ take n xs → AreFreshBy worker places mems slots racks 0 xs → AreFreshBy worker places mems slots racks 0 zs
+fresh_cut {A} worker places mems slots racks xs zs n e f = let P : List A → Type 0 = λ z. AreFreshBy worker places mems slots racks 0 z in subst P (sym e) (fresh_take worker places mems slots racks 0 xs n f)
 
-pub fresh_as : {A : Type 0} (worker : A → Worker) (places : A → List ℕ) (mems : A → List Memory) (slots : A → List ℕ) (racks : List (List ℕ)) (xs zs : List A) → zs ≡ xs → AreFresh worker places mems slots racks 0 xs → AreFresh worker places mems slots racks 0 zs
-fresh_as {A} worker places mems slots racks xs zs e f = let P : List A → Type 0 = λ z. AreFresh worker places mems slots racks 0 z in subst P (sym e) f
+pub fresh_as : {A : Type 0} (worker : A → Worker) (places : A → List ℕ) (mems : A → List Memory) (slots : A → List ℕ) (racks : List (List ℕ)) (xs zs : List A) → zs ≡ xs → AreFreshBy worker places mems slots racks 0 xs → AreFreshBy worker places mems slots racks 0 zs
+fresh_as {A} worker places mems slots racks xs zs e f = let P : List A → Type 0 = λ z. AreFreshBy worker places mems slots racks 0 z in subst P (sym e) f
 
 pub rest_behind : {A : Type 0} (n m : ℕ) (xs : List A) (x : A) (rest : List A) → x ∷ rest ≡ drop n xs → m ≡ n + 1 → rest ≡ drop m xs
 rest_behind n m xs x rest e i = rest_at n xs x rest e ∙ ap (λ (z : ℕ). drop z xs) (sym i)
@@ -287,7 +287,7 @@ side_first = record { ended = false; end = ends.Done }
 
 -- a session begins, as its parts were made
 pub goes_open : {A : Type 0} (R : Reading) (More : List R.One → List Entry → Type 0) (worker : A → Worker) (places : A → List ℕ) (mems : A → List Memory) (slots : A → List ℕ) (session : Clients) (racks : List (List ℕ)) (sizes : List ℕ) (before old : Option (List ℕ)) (seats slice : List A) (kept : Kept) (s : State) (h : List Entry) (rs : List Reply) (side : Side) (taken : ℕ) (es : List ℕ) (end : ℕ) (failed : Bool) (scripts : List Script)
-    → s ≡ opening session sizes → map (λ ys. length ys) racks ≡ sizes → (h ≡ []) × (rs ≡ []) → (side ≡ side_first) × (taken ≡ 0) → (es ≡ []) × (end ≡ 0) × (failed ≡ false) → AreFresh worker places mems slots racks 0 seats → slice ≡ seats → scripts ≡ session.scripts → More [] []
+    → s ≡ opening session sizes → map (λ ys. length ys) racks ≡ sizes → (h ≡ []) × (rs ≡ []) → (side ≡ side_first) × (taken ≡ 0) → (es ≡ []) × (end ≡ 0) × (failed ≡ false) → AreFreshBy worker places mems slots racks 0 seats → slice ≡ seats → scripts ≡ session.scripts → More [] []
     → (f : Option ℕ) → GoesBy R More (begins session racks f) scripts before old (record { state = s; entries = h; replies = rs; workers = map worker slice; places = map places slice; memories = map mems slice; slots = map slots slice; side = side; taken = taken; left = before; kept = kept; ends = es; end = end; failed = failed; written = old })
 goes_open {A} R More worker places mems slots session racks sizes before old seats slice kept s h rs side taken es end failed scripts e z (eh, er) (ed, et) (es', en, ef) are el ec more f =
     let first = opens_goes R More worker places mems slots session racks f before old slice kept s (e ∙ ap (λ (ns : List ℕ). opening session ns) (sym z)) (fresh_as worker places mems slots racks seats slice el are) more in

@@ -21,7 +21,7 @@ use Rattle.con_machine.specs.Rounds.{Begun, client_at}
 use Rattle.con_machine.specs.State.{State}
 use Rattle.con_machine.specs.Turns.{Turn, turns, turn_of, is_client}
 use Rattle.con_session.specs.Desk.{Enters, entry}
-use Rattle.con_session.specs.Worker.{HandsAre, IsRack, HandsStand, Keeps, places_in, stand_once}
+use Rattle.con_session.specs.Worker.{HandsAreBy, IsRack, HandsStandBy, Keeps, places_in, stand_once}
 
 -- ---- the rack after one more entry
 
@@ -155,7 +155,7 @@ own_turns b p s t h g rs qs e n = ap (turns b.state p) n.entries ∙ turns-own b
 
 -- an entry that leaves the chain alone
 pub hands_keep : (b : Begun) (p : ℕ) (s t : State) (h g : List Entry) (rs qs : List Reply) (e : Event) (places : List ℕ) (ms : List Memory) (slots : List ℕ) → Enters s t h g rs qs (actors.Client p) e
-    → Keeps (client_at b h p) (client_at b g p) → HandsStand b p h places ms slots → HandsStand b p g places ms slots
+    → Keeps (client_at b h p) (client_at b g p) → HandsStandBy b p h places ms slots → HandsStandBy b p g places ms slots
 hands_keep b p s t h g rs qs e places ms slots n k a =
     let c = client_at b h p in
     let d = client_at b g p in
@@ -163,18 +163,18 @@ hands_keep b p s t h g rs qs e places ms slots n k a =
     let P : List Turn → Type 0 = λ ts. IsRack ts c.kinds slots (places_in c.chain) in
     let Q : List ℕ → Type 0 = λ kinds. IsRack (turns b.state p g) kinds slots (places_in c.chain) in
     let R : List Handler → Type 0 = λ hs. IsRack (turns b.state p g) d.kinds slots (places_in hs) in
-    let H : List Handler → Type 0 = λ hs. HandsAre hs c.doubtful places ms in
-    let D : Bool → Type 0 = λ y. HandsAre d.chain y places ms in record {
+    let H : List Handler → Type 0 = λ hs. HandsAreBy hs c.doubtful places ms in
+    let D : Bool → Type 0 = λ y. HandsAreBy d.chain y places ms in record {
       chain = subst D (sym k.doubtful) (subst H (sym k.chain) a.chain);
       rack = subst R (sym k.chain) (subst Q (sym k.kinds) (subst P (sym (own_turns b p s t h g rs qs e n)) (rack_more (turns b.state p h) x c.kinds slots (places_in c.chain) a.rack)));
     }
 
 -- an entry of another
-pub hands_other : (b : Begun) (p : ℕ) (h : List Entry) (x : Entry) (places : List ℕ) (ms : List Memory) (slots : List ℕ) → is_client p x.actor ≡ false → HandsStand b p h places ms slots → HandsStand b p (h ++ x ∷ []) places ms slots
+pub hands_other : (b : Begun) (p : ℕ) (h : List Entry) (x : Entry) (places : List ℕ) (ms : List Memory) (slots : List ℕ) → is_client p x.actor ≡ false → HandsStandBy b p h places ms slots → HandsStandBy b p (h ++ x ∷ []) places ms slots
 hands_other b p h x places ms slots n a =
     let e = turns-other b.state p h x n in
     let at : List Turn → Client = λ ts. client_after (steps_of b.session p) (kinds_of b.racks p) ts in
-    let P : List Turn → Type 0 = λ ts. HandsAre (at ts).chain (at ts).doubtful places ms in
+    let P : List Turn → Type 0 = λ ts. HandsAreBy (at ts).chain (at ts).doubtful places ms in
     let Q : List Turn → Type 0 = λ ts. IsRack ts (at ts).kinds slots (places_in (at ts).chain) in
     record { chain = subst P (sym e) a.chain; rack = subst Q (sym e) a.rack }
 

@@ -19,7 +19,7 @@ use Rattle.con_machine.specs.State.{State}
 use Rattle.con_machine.specs.Turns.{paints}
 use Rattle.con_session.specs.Desk.{Stands, listed}
 use Rattle.con_session.specs.Painting.{CanvasIs, CanvasEnds}
-use Rattle.con_session.specs.Seats.{AllStand}
+use Rattle.con_session.specs.Seats.{AllStandBy}
 use Rattle.con_session.specs.Sender.{LinkBy, LinkEndsBy, NoMore}
 use Rattle.con_session.specs.Standing.{ClientStands}
 use Rattle.con_session.specs.declared.terminal.Side.{Side}
@@ -53,7 +53,7 @@ pub record HoldsBy (R : Reading) (More : List R.One → List Entry → Type 0) (
   pub scripts' : scripts ≡ b.session.scripts
   pub stands : Stands b.state m.state m.entries m.replies
   pub numbered : are_of_session (length b.session.scripts) m.entries ≡ true
-  pub clients : AllStand b m.state m.entries scripts m.workers m.places m.memories m.slots
+  pub clients : AllStandBy b m.state m.entries scripts m.workers m.places m.memories m.slots
   pub link : LinkBy R More m.entries m.side m.failed before m.left m.taken
   pub asks : AsksStand b m.entries m.failed
   pub pieces : List (List ℕ)

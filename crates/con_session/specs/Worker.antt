@@ -35,7 +35,7 @@ is_handlers (calls.HandlerRemove place) = true
 is_handlers _ = false
 
 -- the handlers are those of the chain, unless one of them told nothing of its answers
-pub record HandsAre (hs : List Handler) (doubtful : Bool) (places : List ℕ) (ms : List Memory) : Type 0 where
+pub record HandsAreBy (hs : List Handler) (doubtful : Bool) (places : List ℕ) (ms : List Memory) : Type 0 where
   pub places' : doubtful ≡ false → map (λ h. h.place) hs ≡ places
   pub kinds : doubtful ≡ false → map (λ h. h.kind) hs ≡ map (λ m. m.kind) ms
   pub asked : doubtful ≡ false → map (λ h. h.asked) hs ≡ map (λ m. m.asked) ms
@@ -69,8 +69,8 @@ pub record IsRack (ts : List Turn) (kinds slots places : List ℕ) : Type 0 wher
   pub once : stand_once places ≡ true
 
 -- the handlers of client p behind a history
-pub record HandsStand (b : Begun) (p : ℕ) (h : List Entry) (places : List ℕ) (ms : List Memory) (slots : List ℕ) : Type 0 where
-  pub chain : HandsAre (client_at b h p).chain (client_at b h p).doubtful places ms
+pub record HandsStandBy (b : Begun) (p : ℕ) (h : List Entry) (places : List ℕ) (ms : List Memory) (slots : List ℕ) : Type 0 where
+  pub chain : HandsAreBy (client_at b h p).chain (client_at b h p).doubtful places ms
   pub rack : IsRack (turns b.state p h) (client_at b h p).kinds slots (places_in (client_at b h p).chain)
 
 -- ---- the worker
@@ -108,7 +108,7 @@ ClientTurn (Ok false) b p s t h g rs qs steps w = Rests s t h g rs qs × IsTurn 
 ClientTurn (Err e) b p s t h g rs qs steps w = Rests s t h g rs qs ⊎ Acts b p s t h g rs qs
 
 -- a turn of a client with its handlers
-abbrev pub HandsTurn : Result Bool OutOfMemory → Begun → ℕ → State → State → List Entry → List Entry → List Reply → List Reply → List Step → Worker → List ℕ → List Memory → List ℕ → Type 0
-HandsTurn (Ok true) b p s t h g rs qs steps w places ms slots = Acts b p s t h g rs qs × IsWorker (client_at b g p) steps w × HandsStand b p g places ms slots
-HandsTurn (Ok false) b p s t h g rs qs steps w places ms slots = Rests s t h g rs qs × IsTurn b h (actors.Client p) None × IsWorker (client_at b h p) steps w × HandsStand b p h places ms slots
-HandsTurn (Err e) b p s t h g rs qs steps w places ms slots = Rests s t h g rs qs ⊎ Acts b p s t h g rs qs
+abbrev pub HandsTurnBy : Result Bool OutOfMemory → Begun → ℕ → State → State → List Entry → List Entry → List Reply → List Reply → List Step → Worker → List ℕ → List Memory → List ℕ → Type 0
+HandsTurnBy (Ok true) b p s t h g rs qs steps w places ms slots = Acts b p s t h g rs qs × IsWorker (client_at b g p) steps w × HandsStandBy b p g places ms slots
+HandsTurnBy (Ok false) b p s t h g rs qs steps w places ms slots = Rests s t h g rs qs × IsTurn b h (actors.Client p) None × IsWorker (client_at b h p) steps w × HandsStandBy b p h places ms slots
+HandsTurnBy (Err e) b p s t h g rs qs steps w places ms slots = Rests s t h g rs qs ⊎ Acts b p s t h g rs qs

@@ -23,7 +23,7 @@ use Rattle.con_machine.specs.Step.{step, is_ready, is_due}
 use Rattle.con_machine.specs.Turns.{turns, turn_of, is_client, is_pending}
 use Rattle.con_session.specs.Desk.{Enters, Rests, brief_of, entry}
 use Rattle.con_session.specs.Standing.{is_here}
-use Rattle.con_session.specs.Worker.{IsStance, HandsAre, IsRack, HandsStand, places_in, IsWorker, ClientIs, Acts, ClientTurn, HandsTurn}
+use Rattle.con_session.specs.Worker.{IsStance, HandsAreBy, IsRack, HandsStandBy, places_in, IsWorker, ClientIs, Acts, ClientTurn, HandsTurnBy}
 use Rattle.con_session.specs.RackLaws.{hands_keep, rack_delivered}
 use Rattle.con_session.specs.declared.desk.Brief.{Brief}
 use Rattle.con_session.specs.declared.desk.Brief.TheVariants as briefs
@@ -243,7 +243,7 @@ rests_turn b p s t h g rs qs steps w err r = inl r
 
 -- a turn that leaves the handlers alone
 pub with_hands : (r : Result Bool OutOfMemory) (b : Begun) (p : ℕ) (s t : State) (h g : List Entry) (rs qs : List Reply) (steps : List Step) (w : Worker) (places : List ℕ) (ms : List Memory) (slots : List ℕ)
-    → HandsStand b p h places ms slots → ClientTurn r b p s t h g rs qs steps w → HandsTurn r b p s t h g rs qs steps w places ms slots
+    → HandsStandBy b p h places ms slots → ClientTurn r b p s t h g rs qs steps w → HandsTurnBy r b p s t h g rs qs steps w places ms slots
 with_hands (Ok true) b p s t h g rs qs steps w places ms slots a k = (k.0, k.1, hands_keep b p s t h g rs qs k.0.event places ms slots k.0.enters k.2 a)
 with_hands (Ok false) b p s t h g rs qs steps w places ms slots a k = (k.0, k.1, k.2, a)
 with_hands (Err e) b p s t h g rs qs steps w places ms slots a k = k
@@ -269,9 +269,9 @@ ctrl_is (replies.Lines ls) event e = absurd (cc)
 
 pub took_turn : (b : Begun) (p : ℕ) (s t : State) (h g : List Entry) (rs qs : List Reply) (steps : List Step) (w : Worker) (event : ℕ) (handled : Bool) (places : List ℕ) (ms : List Memory) (slots : List ℕ) → ClientIs b p s h steps w → w.gone ≡ false → w.leaving ≡ false
     → is_ready s (actors.Client p) events.TakeCtrl ≡ true → Enters s t h g rs qs (actors.Client p) events.TakeCtrl → brief_of (step s (actors.Client p) events.TakeCtrl).reply ≡ briefs.Ctrl event
-    → ((client_at b h p).doubtful ≡ false → handled ≡ is_handled (client_at b h p).chain event) → HandsAre (delivered_to (client_at b h p).chain event) (client_at b h p).doubtful places ms
+    → ((client_at b h p).doubtful ≡ false → handled ≡ is_handled (client_at b h p).chain event) → HandsAreBy (delivered_to (client_at b h p).chain event) (client_at b h p).doubtful places ms
     → IsRack (turns b.state p h) (client_at b h p).kinds slots (places_in (client_at b h p).chain)
-    → HandsTurn (Ok true) b p s t h g rs qs steps (record w { leaving = (event == 2) || not handled }) places ms slots
+    → HandsTurnBy (Ok true) b p s t h g rs qs steps (record w { leaving = (event == 2) || not handled }) places ms slots
 took_turn b p s t h g rs qs steps w event handled places ms slots k n l u en br ha are rack =
     let c = client_at b h p in
     let r = (step s (actors.Client p) events.TakeCtrl).reply in
@@ -286,7 +286,7 @@ took_turn b p s t h g rs qs steps w event handled places ms slots k n l u en br 
         stance = let Q : Client → Type 0 = λ x. IsStance x.stance ((event == 2) || not handled) w.gone in subst Q (sym f) (let R : Bool → Type 0 = λ x. IsStance (verdict c event) ((event == 2) || not handled) x in subst R (sym n) (verdict_by (event == 2) c.doubtful (is_handled c.chain event) handled ha));
       },
       record {
-        chain = let S : Client → Type 0 = λ x. HandsAre x.chain x.doubtful places ms in subst S (sym f) are;
+        chain = let S : Client → Type 0 = λ x. HandsAreBy x.chain x.doubtful places ms in subst S (sym f) are;
         rack = let S : Client → Type 0 = λ x. IsRack (turns b.state p g) x.kinds slots (places_in x.chain) in subst S (sym f) (rack_delivered b p s t h g rs qs events.TakeCtrl event slots en rack);
       },
     )
@@ -311,8 +311,8 @@ took_none c (replies.Lines ls) e = refl
 
 pub took_none_turn : (b : Begun) (p : ℕ) (s t : State) (h g : List Entry) (rs qs : List Reply) (steps : List Step) (w : Worker) (places : List ℕ) (ms : List Memory) (slots : List ℕ) (brief : Brief) → ClientIs b p s h steps w → w.gone ≡ false → w.leaving ≡ false
     → is_ready s (actors.Client p) events.TakeCtrl ≡ true → Enters s t h g rs qs (actors.Client p) events.TakeCtrl → brief ≡ brief_of (step s (actors.Client p) events.TakeCtrl).reply → IsEvent brief ≡ false
-    → HandsStand b p h places ms slots
-    → HandsTurn (Ok true) b p s t h g rs qs steps w places ms slots
+    → HandsStandBy b p h places ms slots
+    → HandsTurnBy (Ok true) b p s t h g rs qs steps w places ms slots
 took_none_turn b p s t h g rs qs steps w places ms slots brief k n l u en br ev are =
     let c = client_at b h p in
     let r = (step s (actors.Client p) events.TakeCtrl).reply in
@@ -325,9 +325,9 @@ took_none_turn b p s t h g rs qs steps w places ms slots brief k n l u en br ev 
 
 pub took_turn_is : (b : Begun) (p : ℕ) (s t : State) (h g : List Entry) (rs qs : List Reply) (steps : List Step) (w : Worker) (event : ℕ) (handled leaving : Bool) (places : List ℕ) (ms : List Memory) (slots : List ℕ) → leaving ≡ ((event == 2) || not handled) → ClientIs b p s h steps w → w.gone ≡ false → w.leaving ≡ false
     → is_ready s (actors.Client p) events.TakeCtrl ≡ true → Enters s t h g rs qs (actors.Client p) events.TakeCtrl → brief_of (step s (actors.Client p) events.TakeCtrl).reply ≡ briefs.Ctrl event
-    → ((client_at b h p).doubtful ≡ false → handled ≡ is_handled (client_at b h p).chain event) → HandsAre (delivered_to (client_at b h p).chain event) (client_at b h p).doubtful places ms
+    → ((client_at b h p).doubtful ≡ false → handled ≡ is_handled (client_at b h p).chain event) → HandsAreBy (delivered_to (client_at b h p).chain event) (client_at b h p).doubtful places ms
     → IsRack (turns b.state p h) (client_at b h p).kinds slots (places_in (client_at b h p).chain)
-    → HandsTurn (Ok true) b p s t h g rs qs steps (record w { leaving = leaving }) places ms slots
+    → HandsTurnBy (Ok true) b p s t h g rs qs steps (record w { leaving = leaving }) places ms slots
 took_turn_is b p s t h g rs qs steps w event handled leaving places ms slots i k n l u en br ha are rack =
-    let P : Bool → Type 0 = λ x. HandsTurn (Ok true) b p s t h g rs qs steps (record w { leaving = x }) places ms slots in
+    let P : Bool → Type 0 = λ x. HandsTurnBy (Ok true) b p s t h g rs qs steps (record w { leaving = x }) places ms slots in
     subst P (sym i) (took_turn b p s t h g rs qs steps w event handled places ms slots k n l u en br ha are rack)

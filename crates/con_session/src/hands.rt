@@ -1,11 +1,12 @@
 //! The handlers of one client: its rack, and its chain.
-ghost use Rattle.std.specs.Prelude.{◌≡◌, ◌==◌, ℕ, Bool, true, false, List, [], Some, None, map, length, ◌≤◌, get_or, slice_set, IfOk, if◌then◌else◌};
+ghost use Rattle.std.specs.Prelude.{◌≡◌, ◌==◌, ℕ, Bool, true, false, List, [], Some, None, map, length, ◌≤◌, get_or, slice_set, IfOk};
+ghost use Rattle.std.specs.Prelude.{if◌then◌else◌};
 ghost use Rattle.std.specs.List.{position, remove};
-ghost use Rattle.std.specs.Option.{option_map};
 ghost use Rattle.con_machine.specs.Chain.{Handler, delivered_to, is_handled, with_handler, without_handler};
 ghost use Rattle.con_machine.specs.Follows.{kinds_of};
 ghost use Rattle.con_machine.specs.Rounds.{Begun};
-ghost use Rattle.con_session.specs.Worker.{HandsAre, HandsStand, told_kind, told_in, places_in, stand_once};
+ghost use Rattle.con_session.specs.Held.{HandsAre, HandsStand, at_place};
+ghost use Rattle.con_session.specs.Worker.{told_kind, places_in, stand_once};
 
 use con_handlers::{Chain, CtrlHandler, Delivered};
 use con_units::OutOfMemory;
@@ -70,7 +71,7 @@ impl Hands {
     pub fn new(alloc: Global, rack: Vec<Box<dyn CtrlHandler + Send>>) -> Result<Hands, OutOfMemory>
         requires { 0 ≤ length rack.items }
         ensures stand { IfOk result (λ hands. (b : Begun) (p : ℕ) → kinds_of b.racks p ≡ map (λ b. told_kind (memory b)) rack.items
-            → HandsStand b p [] hands.places.items (map memory hands.chain.handlers.items) (map (λ o. told_in (option_map memory o)) hands.rack.items)) }
+            → HandsStand b p [] memory hands) }
     {
         let rack = filled(alloc, rack)?;
         Ok(Hands {
@@ -83,8 +84,8 @@ impl Hands {
     /// Asks the chain. Whether a handler handled the event.
     pub fn deliver(&mut self, event: u32) -> bool
         requires { 0 ≤ event }
-        ensures handled { (hs : List Handler) (doubtful : Bool) → HandsAre hs doubtful self.old.places.items (map memory self.old.chain.handlers.items)
-            → (doubtful ≡ false → result ≡ is_handled hs event) × HandsAre (delivered_to hs event) doubtful self.new.places.items (map memory self.new.chain.handlers.items) }
+        ensures handled { (hs : List Handler) (doubtful : Bool) → HandsAre hs doubtful memory self.old
+            → (doubtful ≡ false → result ≡ is_handled hs event) × HandsAre (delivered_to hs event) doubtful memory self.new }
         ensures rack { self.new.rack.items ≡ self.old.rack.items }
     {
         match self.chain.deliver(event) {
@@ -96,9 +97,10 @@ impl Hands {
     /// Puts the handler at this place of the rack last in the chain. The rack has it no more.
     pub fn add(&mut self, place: u32) -> Result<(), OutOfMemory>
         requires { 0 ≤ place }
-        ensures added { IfOk result (λ done. (hs : List Handler) (doubtful : Bool) → HandsAre hs doubtful self.old.places.items (map memory self.old.chain.handlers.items)
-            → HandsAre (with_handler hs place (get_or (map (λ o. told_in (option_map memory o)) self.old.rack.items) place 0)) (if get_or (map (λ o. told_in (option_map memory o)) self.old.rack.items) place 0 == 0 then true else doubtful) self.new.places.items (map memory self.new.chain.handlers.items)) }
-        ensures rest { IfOk result (λ done. (i : ℕ) → (i == place) ≡ false → get_or (map (λ o. told_in (option_map memory o)) self.new.rack.items) i 0 ≡ get_or (map (λ o. told_in (option_map memory o)) self.old.rack.items) i 0) }
+        ensures added { IfOk result (λ done. (hs : List Handler) (doubtful : Bool) → HandsAre hs doubtful memory self.old
+            → HandsAre (with_handler hs place (at_place memory self.old place))
+            (if at_place memory self.old place == 0 then true else doubtful) memory self.new) }
+        ensures rest { IfOk result (λ done. (i : ℕ) → (i == place) ≡ false → at_place memory self.new i ≡ at_place memory self.old i) }
     {
         let Some(handler) = taken(&mut self.rack, place as usize) else {
             return Ok(());
@@ -117,8 +119,8 @@ impl Hands {
     #[tactic(auto, using(crate::specs::ChainLaws::removed_hands))]
     pub fn remove(&mut self, place: u32)
         requires { 0 ≤ place }
-        ensures removed { (hs : List Handler) (doubtful : Bool) → stand_once (places_in hs) ≡ true → HandsAre hs doubtful self.old.places.items (map memory self.old.chain.handlers.items)
-            → HandsAre (without_handler hs place) doubtful self.new.places.items (map memory self.new.chain.handlers.items) }
+        ensures removed { (hs : List Handler) (doubtful : Bool) → stand_once (places_in hs) ≡ true
+            → HandsAre hs doubtful memory self.old → HandsAre (without_handler hs place) doubtful memory self.new }
         ensures rack { self.new.rack.items ≡ self.old.rack.items }
     {
         let Some(index) = index_of(self.places.as_slice(), place) else {

@@ -1,16 +1,16 @@
 //! A session by turns with a second terminal: rounds until nobody acts.
 ghost use Rattle.std.specs.Prelude.{◌≡◌, ◌⊎◌, ℕ, ◌<◌, ◌≤◌, Bool, true, false, List, [], All, length, map, None, Option, IfOk};
-ghost use Rattle.std.specs.Option.{option_map};
 ghost use Rattle.con_outside.specs.Outside.{Rose};
 ghost use Rattle.con_link.specs.Reading.{mirrored};
 ghost use Rattle.con_events.specs.declared.end.End.{End};
 ghost use Rattle.con_machine.specs.Rounds.{Begun};
 ghost use Rattle.con_machine.specs.Turns.{paints};
+ghost use Rattle.con_session.specs.Held.{moment};
 ghost use Rattle.con_session.specs.Painting.{IsTied};
 ghost use Rattle.con_session.specs.Second.{IsMirrorOutcome, Mirrors, Seconded};
 ghost use Rattle.con_session.specs.Sender.{FailsBy};
 ghost use Rattle.con_session.specs.Solo.{GoesBy, RoundTurnBy, RoundsTurnBy, fails_at};
-ghost use Rattle.con_session.specs.Worker.{told_kind, told_in};
+ghost use Rattle.con_session.specs.Worker.{told_kind};
 
 use crate::painting::painted;
 use crate::seat::{Seat, clients_turn};
@@ -51,8 +51,19 @@ fn mirror_round<I: Source, O: Sink, N: Sink>(
     ensures taken { IfOk result (λ _. stage.new.side.ended ≡ false → stage.new.reader ≤ 16777216) }
     ensures served { IfOk result (λ _. (stage.new.desk.console.state.asked ≡ false) ⊎ (stage.new.canvas.failed ≡ true)) }
     ensures tied { IfOk result (λ _. IsTied stage.new.desk.console.state stage.new.canvas.painter) }
-    ensures turn { (b : Begun) (before old was : Option (List ℕ)) → ((f : Option ℕ) → FailsBy stage.old.canvas.failed f (paints stage.old.desk.entries.items) → GoesBy mirrored (Seconded b.state stage.old.side.ended second.old.mirror second.old.ends.items second.old.end was (N.written sink.old) second.old.failed) (fails_at b f) scripts.now before old (record { state = stage.old.desk.console.state; entries = stage.old.desk.entries.items; replies = stage.old.desk.replies.items; workers = map (λ s. s.worker) seats.old; places = map (λ s. s.hands.places.items) seats.old; memories = map (λ s. map memory s.hands.chain.handlers.items) seats.old; slots = map (λ s. map (λ o. told_in (option_map memory o)) s.hands.rack.items) seats.old; side = stage.old.side; taken = stage.old.reader; left = I.left link.old; kept = stage.old.canvas.painter; ends = stage.old.canvas.ends.items; end = stage.old.canvas.end; failed = stage.old.canvas.failed; written = O.written term.old }))
-        → (f : Option ℕ) → FailsBy stage.new.canvas.failed f (paints stage.new.desk.entries.items) → RoundTurnBy mirrored (Seconded b.state stage.new.side.ended second.new.mirror second.new.ends.items second.new.end was (N.written sink.new) second.new.failed) (λ frames h. Mirrors b.state frames b.session.size second.new.ends.items was (N.written sink.new) second.new.failed true h) result (fails_at b f) scripts.now before old stage.old.desk.entries.items (record { state = stage.new.desk.console.state; entries = stage.new.desk.entries.items; replies = stage.new.desk.replies.items; workers = map (λ s. s.worker) seats.new; places = map (λ s. s.hands.places.items) seats.new; memories = map (λ s. map memory s.hands.chain.handlers.items) seats.new; slots = map (λ s. map (λ o. told_in (option_map memory o)) s.hands.rack.items) seats.new; side = stage.new.side; taken = stage.new.reader; left = I.left link.new; kept = stage.new.canvas.painter; ends = stage.new.canvas.ends.items; end = stage.new.canvas.end; failed = stage.new.canvas.failed; written = O.written term.new }) }
+    ensures turn { (b : Begun) (before old was : Option (List ℕ))
+        → ((f : Option ℕ) → FailsBy stage.old.canvas.failed f (paints stage.old.desk.entries.items)
+        → GoesBy mirrored
+        (Seconded b.state stage.old.side.ended second.old.mirror second.old.ends.items second.old.end was
+        (N.written sink.old) second.old.failed)
+        (fails_at b f) scripts.now before old (moment memory stage.old seats.old (I.left link.old) (O.written term.old)))
+        → (f : Option ℕ) → FailsBy stage.new.canvas.failed f (paints stage.new.desk.entries.items)
+        → RoundTurnBy mirrored
+        (Seconded b.state stage.new.side.ended second.new.mirror second.new.ends.items second.new.end was
+        (N.written sink.new) second.new.failed)
+        (λ frames h. Mirrors b.state frames b.session.size second.new.ends.items was (N.written sink.new) second.new.failed true h)
+        result (fails_at b f) scripts.now before old stage.old.desk.entries.items
+        (moment memory stage.new seats.new (I.left link.new) (O.written term.new)) }
     ensures link { stage.new.side.end ≡ End.Link → (stage.old.side.end ≡ End.Link) ⊎ Rose (I.faults link.old) (I.faults link.new) }
     ensures term { stage.new.canvas.failed ≡ true → (stage.old.canvas.failed ≡ true) ⊎ Rose (O.faults term.old) (O.faults term.new) }
     ensures link_never_falls { I.faults link.old ≤ I.faults link.new }
@@ -90,9 +101,25 @@ fn mirror_rounds<I: Source, O: Sink, N: Sink>(
     requires taken { stage.old.side.ended ≡ false → stage.old.reader ≤ 16777216 }
     requires served { (stage.old.desk.console.state.asked ≡ false) ⊎ (stage.old.canvas.failed ≡ true) }
     requires tied { IsTied stage.old.desk.console.state stage.old.canvas.painter }
-    requires going { (b : Begun) × (before : Option (List ℕ)) × (old : Option (List ℕ)) × (was : Option (List ℕ)) × ((f : Option ℕ) → FailsBy stage.old.canvas.failed f (paints stage.old.desk.entries.items) → GoesBy mirrored (Seconded b.state stage.old.side.ended second.old.mirror second.old.ends.items second.old.end was (N.written sink.old) second.old.failed) (fails_at b f) scripts.now before old (record { state = stage.old.desk.console.state; entries = stage.old.desk.entries.items; replies = stage.old.desk.replies.items; workers = map (λ s. s.worker) seats.old; places = map (λ s. s.hands.places.items) seats.old; memories = map (λ s. map memory s.hands.chain.handlers.items) seats.old; slots = map (λ s. map (λ o. told_in (option_map memory o)) s.hands.rack.items) seats.old; side = stage.old.side; taken = stage.old.reader; left = I.left link.old; kept = stage.old.canvas.painter; ends = stage.old.canvas.ends.items; end = stage.old.canvas.end; failed = stage.old.canvas.failed; written = O.written term.old })) }
-    ensures turn { (b : Begun) (before old was : Option (List ℕ)) → ((f : Option ℕ) → FailsBy stage.old.canvas.failed f (paints stage.old.desk.entries.items) → GoesBy mirrored (Seconded b.state stage.old.side.ended second.old.mirror second.old.ends.items second.old.end was (N.written sink.old) second.old.failed) (fails_at b f) scripts.now before old (record { state = stage.old.desk.console.state; entries = stage.old.desk.entries.items; replies = stage.old.desk.replies.items; workers = map (λ s. s.worker) seats.old; places = map (λ s. s.hands.places.items) seats.old; memories = map (λ s. map memory s.hands.chain.handlers.items) seats.old; slots = map (λ s. map (λ o. told_in (option_map memory o)) s.hands.rack.items) seats.old; side = stage.old.side; taken = stage.old.reader; left = I.left link.old; kept = stage.old.canvas.painter; ends = stage.old.canvas.ends.items; end = stage.old.canvas.end; failed = stage.old.canvas.failed; written = O.written term.old }))
-        → (f : Option ℕ) → FailsBy stage.new.canvas.failed f (paints stage.new.desk.entries.items) → RoundsTurnBy mirrored (Seconded b.state stage.new.side.ended second.new.mirror second.new.ends.items second.new.end was (N.written sink.new) second.new.failed) (λ frames h. Mirrors b.state frames b.session.size second.new.ends.items was (N.written sink.new) second.new.failed true h) result (fails_at b f) scripts.now before old (record { state = stage.new.desk.console.state; entries = stage.new.desk.entries.items; replies = stage.new.desk.replies.items; workers = map (λ s. s.worker) seats.new; places = map (λ s. s.hands.places.items) seats.new; memories = map (λ s. map memory s.hands.chain.handlers.items) seats.new; slots = map (λ s. map (λ o. told_in (option_map memory o)) s.hands.rack.items) seats.new; side = stage.new.side; taken = stage.new.reader; left = I.left link.new; kept = stage.new.canvas.painter; ends = stage.new.canvas.ends.items; end = stage.new.canvas.end; failed = stage.new.canvas.failed; written = O.written term.new }) }
+    requires going { (b : Begun) × (before : Option (List ℕ)) × (old : Option (List ℕ)) × (was : Option (List ℕ))
+        × ((f : Option ℕ) → FailsBy stage.old.canvas.failed f (paints stage.old.desk.entries.items)
+        → GoesBy mirrored
+        (Seconded b.state stage.old.side.ended second.old.mirror second.old.ends.items second.old.end was
+        (N.written sink.old) second.old.failed)
+        (fails_at b f) scripts.now before old (moment memory stage.old seats.old (I.left link.old) (O.written term.old))) }
+    ensures turn { (b : Begun) (before old was : Option (List ℕ))
+        → ((f : Option ℕ) → FailsBy stage.old.canvas.failed f (paints stage.old.desk.entries.items)
+        → GoesBy mirrored
+        (Seconded b.state stage.old.side.ended second.old.mirror second.old.ends.items second.old.end was
+        (N.written sink.old) second.old.failed)
+        (fails_at b f) scripts.now before old (moment memory stage.old seats.old (I.left link.old) (O.written term.old)))
+        → (f : Option ℕ) → FailsBy stage.new.canvas.failed f (paints stage.new.desk.entries.items)
+        → RoundsTurnBy mirrored
+        (Seconded b.state stage.new.side.ended second.new.mirror second.new.ends.items second.new.end was
+        (N.written sink.new) second.new.failed)
+        (λ frames h. Mirrors b.state frames b.session.size second.new.ends.items was (N.written sink.new) second.new.failed true h)
+        result (fails_at b f) scripts.now before old
+        (moment memory stage.new seats.new (I.left link.new) (O.written term.new)) }
     ensures link { stage.new.side.end ≡ End.Link → (stage.old.side.end ≡ End.Link) ⊎ Rose (I.faults link.old) (I.faults link.new) }
     ensures term { stage.new.canvas.failed ≡ true → (stage.old.canvas.failed ≡ true) ⊎ Rose (O.faults term.old) (O.faults term.new) }
     ensures link_never_falls { I.faults link.old ≤ I.faults link.new }
@@ -143,7 +170,9 @@ pub fn run_mirrored<I: Source, O: Sink, N: Sink>(
     racks: Vec<Vec<Box<dyn CtrlHandler + Send>>>,
 ) -> Mirrored
     requires few { All (λ rack. length rack.items ≤ 255) racks.items }
-    ensures outcome { IsMirrorOutcome session.now (map (λ rack. map (λ b. told_kind (memory b)) rack.items) racks.items) result.outcome.entries result.outcome.replies result.outcome.ends result.outcome.end result.ends result.failed (I.left link.old) (I.left link.new) (O.written term.old) (O.written term.new) (N.written second.old) (N.written second.new) }
+    ensures outcome { IsMirrorOutcome session.now (map (λ rack. map (λ b. told_kind (memory b)) rack.items) racks.items)
+        result.outcome.entries result.outcome.replies result.outcome.ends result.outcome.end result.ends result.failed
+        (I.left link.old) (I.left link.new) (O.written term.old) (O.written term.new) (N.written second.old) (N.written second.new) }
     ensures link { result.outcome.end ≡ End.Link → Rose (I.faults link.old) (I.faults link.new) }
     ensures term { result.outcome.end ≡ End.Term → Rose (O.faults term.old) (O.faults term.new) }
     ensures second { result.failed ≡ true → Rose (N.faults second.old) (N.faults second.new) }

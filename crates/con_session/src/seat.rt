@@ -1,10 +1,9 @@
 //! A client's seat, its turn in a round, and the turns of all clients.
 ghost use Rattle.std.specs.Prelude.{◌≡◌, ℕ, ◌≤◌, Bool, true, false, List, length, map};
-ghost use Rattle.std.specs.Option.{option_map};
 ghost use Rattle.con_machine.specs.Rounds.{Begun};
 ghost use Rattle.con_session.specs.Desk.{Ran};
-ghost use Rattle.con_session.specs.Seats.{AllStand, ClientsTurn};
-ghost use Rattle.con_session.specs.Worker.{ClientIs, HandsStand, HandsTurn, told_in};
+ghost use Rattle.con_session.specs.Held.{AllStand, ClientsTurn, HandsStand, HandsTurn};
+ghost use Rattle.con_session.specs.Worker.{ClientIs};
 
 use crate::desk::Desk;
 use crate::hands::Hands;
@@ -48,8 +47,9 @@ pub fn client_turn(
     requires real { 1 ≤ p }
     ensures ran { Ran desk.old.console.state desk.new.console.state desk.old.entries.items desk.new.entries.items }
     ensures turn { (b : Begun) → ClientIs b p desk.old.console.state desk.old.entries.items steps.now seat.old.worker
-        → HandsStand b p desk.old.entries.items seat.old.hands.places.items (map memory seat.old.hands.chain.handlers.items) (map (λ o. told_in (option_map memory o)) seat.old.hands.rack.items)
-        → HandsTurn result b p desk.old.console.state desk.new.console.state desk.old.entries.items desk.new.entries.items desk.old.replies.items desk.new.replies.items steps.now seat.new.worker seat.new.hands.places.items (map memory seat.new.hands.chain.handlers.items) (map (λ o. told_in (option_map memory o)) seat.new.hands.rack.items) }
+        → HandsStand b p desk.old.entries.items memory seat.old.hands
+        → HandsTurn result b p desk.old.console.state desk.new.console.state desk.old.entries.items desk.new.entries.items
+        desk.old.replies.items desk.new.replies.items steps.now seat.new.worker memory seat.new.hands }
 {
     if seat.worker.gone {
         return Ok(false);
@@ -76,8 +76,9 @@ pub fn clients_turn(
     requires few { length seats.old ≤ 64 }
     requires scripts { length scripts.now ≡ length seats.old }
     ensures ran { Ran desk.old.console.state desk.new.console.state desk.old.entries.items desk.new.entries.items }
-    ensures turn { (b : Begun) → AllStand b desk.old.console.state desk.old.entries.items scripts.now (map (λ s. s.worker) seats.old) (map (λ s. s.hands.places.items) seats.old) (map (λ s. map memory s.hands.chain.handlers.items) seats.old) (map (λ s. map (λ o. told_in (option_map memory o)) s.hands.rack.items) seats.old)
-        → ClientsTurn result b desk.old.console.state desk.new.console.state desk.old.entries.items desk.new.entries.items desk.old.replies.items desk.new.replies.items (length seats.old) scripts.now (map (λ s. s.worker) seats.new) (map (λ s. s.hands.places.items) seats.new) (map (λ s. map memory s.hands.chain.handlers.items) seats.new) (map (λ s. map (λ o. told_in (option_map memory o)) s.hands.rack.items) seats.new) }
+    ensures turn { (b : Begun) → AllStand b desk.old.console.state desk.old.entries.items scripts.now memory seats.old
+        → ClientsTurn result b desk.old.console.state desk.new.console.state desk.old.entries.items desk.new.entries.items
+        desk.old.replies.items desk.new.replies.items (length seats.old) scripts.now memory seats.new }
 {
     let mut acted = false;
     for k in 0..seats.len() {

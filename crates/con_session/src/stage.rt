@@ -1,12 +1,12 @@
 //! A session at its beginning.
 ghost use Rattle.std.specs.Prelude.{◌≡◌, ◌⊎◌, ℕ, ◌≤◌, Bool, true, false, List, [], map, length, All, Option, None, Some, IfOk};
-ghost use Rattle.std.specs.Option.{option_map};
 ghost use Rattle.con_events.specs.declared.end.End.{End};
 ghost use Rattle.con_machine.specs.Follows.{kinds_of};
 ghost use Rattle.con_machine.specs.Rounds.{Begun};
 ghost use Rattle.con_machine.specs.State.{opening};
-ghost use Rattle.con_session.specs.Opening.{AreFresh, fresh};
-ghost use Rattle.con_session.specs.Worker.{HandsStand, told_kind, told_in};
+ghost use Rattle.con_session.specs.Held.{AreFresh, HandsStand};
+ghost use Rattle.con_session.specs.Opening.{fresh};
+ghost use Rattle.con_session.specs.Worker.{told_kind};
 
 use crate::desk::Desk;
 use crate::hands::Hands;
@@ -51,7 +51,7 @@ fn sizes_of(
 fn seat_for(alloc: Global, rack: Vec<Box<dyn CtrlHandler + Send>>) -> Result<Seat, OutOfMemory>
     ensures worker { IfOk result (λ s. s.worker ≡ fresh) }
     ensures hands { IfOk result (λ s. (b : Begun) (p : ℕ) → kinds_of b.racks p ≡ map (λ b. told_kind (memory b)) rack.items
-        → HandsStand b p [] s.hands.places.items (map memory s.hands.chain.handlers.items) (map (λ o. told_in (option_map memory o)) s.hands.rack.items)) }
+        → HandsStand b p [] memory s.hands) }
 {
     Ok(Seat::new(Hands::new(alloc, rack)?))
 }
@@ -61,7 +61,7 @@ fn seats_of(
     alloc: Global,
     racks: Vec<Vec<Box<dyn CtrlHandler + Send>>>,
 ) -> Result<Vec<Seat>, OutOfMemory>
-    ensures fresh { IfOk result (λ seats. AreFresh (λ s. s.worker) (λ s. s.hands.places.items) (λ s. map memory s.hands.chain.handlers.items) (λ s. map (λ o. told_in (option_map memory o)) s.hands.rack.items) (map (λ rack. map (λ b. told_kind (memory b)) rack.items) racks.items) 0 seats.items) }
+    ensures fresh { IfOk result (λ seats. AreFresh memory (map (λ rack. map (λ b. told_kind (memory b)) rack.items) racks.items) 0 seats.items) }
     ensures count { IfOk result (λ seats. length seats.items ≡ length racks.items) }
 {
     let mut seats = Vec::new(alloc);
@@ -78,7 +78,8 @@ fn seats_of(
 // So many clients: those behind the last rack have none.
 fn fitted(alloc: Global, seats: Vec<Seat>, count: usize) -> Result<Vec<Seat>, OutOfMemory>
     ensures count { IfOk result (λ all. length all.items ≡ count) }
-    ensures fresh { IfOk result (λ all. (racks : List (List ℕ)) → length racks ≡ length seats.items → AreFresh (λ s. s.worker) (λ s. s.hands.places.items) (λ s. map memory s.hands.chain.handlers.items) (λ s. map (λ o. told_in (option_map memory o)) s.hands.rack.items) racks 0 seats.items → AreFresh (λ s. s.worker) (λ s. s.hands.places.items) (λ s. map memory s.hands.chain.handlers.items) (λ s. map (λ o. told_in (option_map memory o)) s.hands.rack.items) racks 0 all.items) }
+    ensures fresh { IfOk result (λ all. (racks : List (List ℕ)) → length racks ≡ length seats.items
+        → AreFresh memory racks 0 seats.items → AreFresh memory racks 0 all.items) }
 {
     let mut all = seats;
     while all.len() < count {
@@ -134,7 +135,7 @@ pub fn begun(
     ensures side { IfOk result (λ r. (r.0.side ≡ record { ended = false; end = End.Done }) × (r.0.reader ≡ 0)) }
     ensures canvas { IfOk result (λ r. (r.0.canvas.ends.items ≡ []) × (r.0.canvas.end ≡ 0) × (r.0.canvas.failed ≡ false)) }
     ensures count { IfOk result (λ r. length r.1.items ≡ length session.now.scripts) }
-    ensures fresh { IfOk result (λ r. AreFresh (λ s. s.worker) (λ s. s.hands.places.items) (λ s. map memory s.hands.chain.handlers.items) (λ s. map (λ o. told_in (option_map memory o)) s.hands.rack.items) (map (λ rack. map (λ b. told_kind (memory b)) rack.items) racks.items) 0 r.1.items) }
+    ensures fresh { IfOk result (λ r. AreFresh memory (map (λ rack. map (λ b. told_kind (memory b)) rack.items) racks.items) 0 r.1.items) }
 {
     let sizes = sizes_of(alloc, racks.as_slice())?;
     let stage = stage_for(alloc, session, sizes.as_slice())?;

@@ -4,8 +4,8 @@ ghost use Rattle.con_machine.specs.Client.{MayBy, next_event};
 ghost use Rattle.con_machine.specs.Rounds.{Begun, IsTurn, client_at};
 ghost use Rattle.con_machine.specs.Step.{is_ready};
 ghost use Rattle.con_session.specs.Desk.{is_refused, Ran};
-ghost use Rattle.std.specs.Option.{option_map};
-ghost use Rattle.con_session.specs.Worker.{ClientIs, ClientTurn, HandsStand, HandsTurn, is_handlers, told_in};
+ghost use Rattle.con_session.specs.Held.{HandsStand, HandsTurn};
+ghost use Rattle.con_session.specs.Worker.{ClientIs, ClientTurn, is_handlers};
 
 use crate::copying::{copied_call, copied_wanted};
 use crate::desk::{Brief, Desk};
@@ -38,8 +38,10 @@ pub fn leave(
 ) -> Result<bool, OutOfMemory>
     ensures ran { Ran desk.old.console.state desk.new.console.state desk.old.entries.items desk.new.entries.items }
     ensures turn { (b : Begun) → ClientIs b p desk.old.console.state desk.old.entries.items steps.now worker.old
-        → MayBy (client_at b desk.old.entries.items p).stance (client_at b desk.old.entries.items p) (Event.Exit status) → IsTurn b desk.old.entries.items (Actor.Client p) (Some (Event.Exit status))
-        → ClientTurn result b p desk.old.console.state desk.new.console.state desk.old.entries.items desk.new.entries.items desk.old.replies.items desk.new.replies.items steps.now worker.new }
+        → MayBy (client_at b desk.old.entries.items p).stance (client_at b desk.old.entries.items p) (Event.Exit status)
+        → IsTurn b desk.old.entries.items (Actor.Client p) (Some (Event.Exit status))
+        → ClientTurn result b p desk.old.console.state desk.new.console.state desk.old.entries.items desk.new.entries.items
+        desk.old.replies.items desk.new.replies.items steps.now worker.new }
 {
     let _ = steps.len();
     desk.enter(Actor::Client(p), Event::Exit(status))?;
@@ -60,7 +62,8 @@ pub fn collect(
     requires none { is_ready desk.old.console.state (Actor.Client p) Event.TakeCtrl ≡ false }
     ensures ran { Ran desk.old.console.state desk.new.console.state desk.old.entries.items desk.new.entries.items }
     ensures turn { (b : Begun) → ClientIs b p desk.old.console.state desk.old.entries.items steps.now worker.old
-        → ClientTurn result b p desk.old.console.state desk.new.console.state desk.old.entries.items desk.new.entries.items desk.old.replies.items desk.new.replies.items steps.now worker.new }
+        → ClientTurn result b p desk.old.console.state desk.new.console.state desk.old.entries.items desk.new.entries.items
+        desk.old.replies.items desk.new.replies.items steps.now worker.new }
 {
     let _ = steps.len();
     let actor = Actor::Client(p);
@@ -92,8 +95,9 @@ pub fn take_ctrl(
     requires some { is_ready desk.old.console.state (Actor.Client p) Event.TakeCtrl ≡ true }
     ensures ran { Ran desk.old.console.state desk.new.console.state desk.old.entries.items desk.new.entries.items }
     ensures turn { (b : Begun) → ClientIs b p desk.old.console.state desk.old.entries.items steps.now worker.old
-        → HandsStand b p desk.old.entries.items hands.old.places.items (map memory hands.old.chain.handlers.items) (map (λ o. told_in (option_map memory o)) hands.old.rack.items)
-        → HandsTurn result b p desk.old.console.state desk.new.console.state desk.old.entries.items desk.new.entries.items desk.old.replies.items desk.new.replies.items steps.now worker.new hands.new.places.items (map memory hands.new.chain.handlers.items) (map (λ o. told_in (option_map memory o)) hands.new.rack.items) }
+        → HandsStand b p desk.old.entries.items memory hands.old
+        → HandsTurn result b p desk.old.console.state desk.new.console.state desk.old.entries.items desk.new.entries.items
+        desk.old.replies.items desk.new.replies.items steps.now worker.new memory hands.new }
 {
     let _ = steps.len();
     match desk.enter(Actor::Client(p), Event::TakeCtrl)? {
@@ -128,8 +132,10 @@ pub fn begin(
     requires reading { worker.old.reading ≡ false }
     requires none { is_ready desk.old.console.state (Actor.Client p) Event.TakeCtrl ≡ false }
     ensures ran { Ran desk.old.console.state desk.new.console.state desk.old.entries.items desk.new.entries.items }
-    ensures turn { (b : Begun) → ClientIs b p desk.old.console.state desk.old.entries.items steps.now worker.old → Event.Begin wanted ≡ next_event (client_at b desk.old.entries.items p).left
-        → ClientTurn result b p desk.old.console.state desk.new.console.state desk.old.entries.items desk.new.entries.items desk.old.replies.items desk.new.replies.items steps.now worker.new }
+    ensures turn { (b : Begun) → ClientIs b p desk.old.console.state desk.old.entries.items steps.now worker.old
+        → Event.Begin wanted ≡ next_event (client_at b desk.old.entries.items p).left
+        → ClientTurn result b p desk.old.console.state desk.new.console.state desk.old.entries.items desk.new.entries.items
+        desk.old.replies.items desk.new.replies.items steps.now worker.new }
 {
     let brief = desk.enter(Actor::Client(p), Event::Begin(wanted))?;
     worker.at += 1;
@@ -152,8 +158,10 @@ pub fn call_plain(
     requires none { is_ready desk.old.console.state (Actor.Client p) Event.TakeCtrl ≡ false }
     requires plain { is_handlers call ≡ false }
     ensures ran { Ran desk.old.console.state desk.new.console.state desk.old.entries.items desk.new.entries.items }
-    ensures turn { (b : Begun) → ClientIs b p desk.old.console.state desk.old.entries.items steps.now worker.old → Event.Call call ≡ next_event (client_at b desk.old.entries.items p).left
-        → ClientTurn result b p desk.old.console.state desk.new.console.state desk.old.entries.items desk.new.entries.items desk.old.replies.items desk.new.replies.items steps.now worker.new }
+    ensures turn { (b : Begun) → ClientIs b p desk.old.console.state desk.old.entries.items steps.now worker.old
+        → Event.Call call ≡ next_event (client_at b desk.old.entries.items p).left
+        → ClientTurn result b p desk.old.console.state desk.new.console.state desk.old.entries.items desk.new.entries.items
+        desk.old.replies.items desk.new.replies.items steps.now worker.new }
 {
     desk.enter(Actor::Client(p), Event::Call(call))?;
     worker.at += 1;
@@ -175,9 +183,11 @@ pub fn call_add(
     requires reading { worker.old.reading ≡ false }
     requires none { is_ready desk.old.console.state (Actor.Client p) Event.TakeCtrl ≡ false }
     ensures ran { Ran desk.old.console.state desk.new.console.state desk.old.entries.items desk.new.entries.items }
-    ensures turn { (b : Begun) → ClientIs b p desk.old.console.state desk.old.entries.items steps.now worker.old → Event.Call (Call.HandlerAdd place) ≡ next_event (client_at b desk.old.entries.items p).left
-        → HandsStand b p desk.old.entries.items hands.old.places.items (map memory hands.old.chain.handlers.items) (map (λ o. told_in (option_map memory o)) hands.old.rack.items)
-        → HandsTurn result b p desk.old.console.state desk.new.console.state desk.old.entries.items desk.new.entries.items desk.old.replies.items desk.new.replies.items steps.now worker.new hands.new.places.items (map memory hands.new.chain.handlers.items) (map (λ o. told_in (option_map memory o)) hands.new.rack.items) }
+    ensures turn { (b : Begun) → ClientIs b p desk.old.console.state desk.old.entries.items steps.now worker.old
+        → Event.Call (Call.HandlerAdd place) ≡ next_event (client_at b desk.old.entries.items p).left
+        → HandsStand b p desk.old.entries.items memory hands.old
+        → HandsTurn result b p desk.old.console.state desk.new.console.state desk.old.entries.items desk.new.entries.items
+        desk.old.replies.items desk.new.replies.items steps.now worker.new memory hands.new }
 {
     let _ = steps.len();
     let call = Call::HandlerAdd(place);
@@ -205,9 +215,11 @@ pub fn call_remove(
     requires reading { worker.old.reading ≡ false }
     requires none { is_ready desk.old.console.state (Actor.Client p) Event.TakeCtrl ≡ false }
     ensures ran { Ran desk.old.console.state desk.new.console.state desk.old.entries.items desk.new.entries.items }
-    ensures turn { (b : Begun) → ClientIs b p desk.old.console.state desk.old.entries.items steps.now worker.old → Event.Call (Call.HandlerRemove place) ≡ next_event (client_at b desk.old.entries.items p).left
-        → HandsStand b p desk.old.entries.items hands.old.places.items (map memory hands.old.chain.handlers.items) (map (λ o. told_in (option_map memory o)) hands.old.rack.items)
-        → HandsTurn result b p desk.old.console.state desk.new.console.state desk.old.entries.items desk.new.entries.items desk.old.replies.items desk.new.replies.items steps.now worker.new hands.new.places.items (map memory hands.new.chain.handlers.items) (map (λ o. told_in (option_map memory o)) hands.new.rack.items) }
+    ensures turn { (b : Begun) → ClientIs b p desk.old.console.state desk.old.entries.items steps.now worker.old
+        → Event.Call (Call.HandlerRemove place) ≡ next_event (client_at b desk.old.entries.items p).left
+        → HandsStand b p desk.old.entries.items memory hands.old
+        → HandsTurn result b p desk.old.console.state desk.new.console.state desk.old.entries.items desk.new.entries.items
+        desk.old.replies.items desk.new.replies.items steps.now worker.new memory hands.new }
 {
     let _ = steps.len();
     let call = Call::HandlerRemove(place);
@@ -234,9 +246,11 @@ fn call_step(
     requires reading { worker.old.reading ≡ false }
     requires none { is_ready desk.old.console.state (Actor.Client p) Event.TakeCtrl ≡ false }
     ensures ran { Ran desk.old.console.state desk.new.console.state desk.old.entries.items desk.new.entries.items }
-    ensures turn { (b : Begun) → ClientIs b p desk.old.console.state desk.old.entries.items steps.now worker.old → Event.Call call.now ≡ next_event (client_at b desk.old.entries.items p).left
-        → HandsStand b p desk.old.entries.items hands.old.places.items (map memory hands.old.chain.handlers.items) (map (λ o. told_in (option_map memory o)) hands.old.rack.items)
-        → HandsTurn result b p desk.old.console.state desk.new.console.state desk.old.entries.items desk.new.entries.items desk.old.replies.items desk.new.replies.items steps.now worker.new hands.new.places.items (map memory hands.new.chain.handlers.items) (map (λ o. told_in (option_map memory o)) hands.new.rack.items) }
+    ensures turn { (b : Begun) → ClientIs b p desk.old.console.state desk.old.entries.items steps.now worker.old
+        → Event.Call call.now ≡ next_event (client_at b desk.old.entries.items p).left
+        → HandsStand b p desk.old.entries.items memory hands.old
+        → HandsTurn result b p desk.old.console.state desk.new.console.state desk.old.entries.items desk.new.entries.items
+        desk.old.replies.items desk.new.replies.items steps.now worker.new memory hands.new }
 {
     match call {
         Call::HandlerAdd(place) => call_add(desk, worker, hands, steps, p, *place),
@@ -262,8 +276,9 @@ pub fn next_step(
     requires none { is_ready desk.old.console.state (Actor.Client p) Event.TakeCtrl ≡ false }
     ensures ran { Ran desk.old.console.state desk.new.console.state desk.old.entries.items desk.new.entries.items }
     ensures turn { (b : Begun) → ClientIs b p desk.old.console.state desk.old.entries.items steps.now worker.old
-        → HandsStand b p desk.old.entries.items hands.old.places.items (map memory hands.old.chain.handlers.items) (map (λ o. told_in (option_map memory o)) hands.old.rack.items)
-        → HandsTurn result b p desk.old.console.state desk.new.console.state desk.old.entries.items desk.new.entries.items desk.old.replies.items desk.new.replies.items steps.now worker.new hands.new.places.items (map memory hands.new.chain.handlers.items) (map (λ o. told_in (option_map memory o)) hands.new.rack.items) }
+        → HandsStand b p desk.old.entries.items memory hands.old
+        → HandsTurn result b p desk.old.console.state desk.new.console.state desk.old.entries.items desk.new.entries.items
+        desk.old.replies.items desk.new.replies.items steps.now worker.new memory hands.new }
 {
     let _ = hands.places.len();
     if worker.at >= steps.len() {

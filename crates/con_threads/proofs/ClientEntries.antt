@@ -20,7 +20,7 @@ use Rattle.con_session.specs.Desk.{Enters, brief_of, entry, listed}
 use Rattle.con_session.specs.RackLaws.{hands_keep, own_turns}
 use Rattle.con_session.specs.Standing.{ClientStands, is_here}
 use Rattle.con_session.specs.StandingLaws.{stands_other, stands_own}
-use Rattle.con_session.specs.Worker.{IsWorker, HandsAre, IsRack, HandsStand, ClientIs, Keeps, places_in}
+use Rattle.con_session.specs.Worker.{IsWorker, HandsAreBy, IsRack, HandsStandBy, ClientIs, Keeps, places_in}
 use Rattle.con_session.specs.WorkerLaws.{own_is}
 use Rattle.con_session.specs.declared.desk.Brief.{Brief}
 use Rattle.con_session.specs.declared.worker.Worker.{Worker}
@@ -67,10 +67,10 @@ client_by b p h m e = ap (λ (ts : List Turn). client_after (steps_of b.session 
 pub worker_by : (b : Begun) (p : ℕ) (h m : List Entry) (steps : List Step) (w : Worker) → turns b.state p m ≡ turns b.state p h → IsWorker (client_at b h p) steps w → IsWorker (client_at b m p) steps w
 worker_by b p h m steps w e i = let P : Client → Type 0 = λ c. IsWorker c steps w in subst P (sym (client_by b p h m e)) i
 
-pub hands_by : (b : Begun) (p : ℕ) (h m : List Entry) (places : List ℕ) (ms : List Memory) (slots : List ℕ) → turns b.state p m ≡ turns b.state p h → HandsStand b p h places ms slots → HandsStand b p m places ms slots
+pub hands_by : (b : Begun) (p : ℕ) (h m : List Entry) (places : List ℕ) (ms : List Memory) (slots : List ℕ) → turns b.state p m ≡ turns b.state p h → HandsStandBy b p h places ms slots → HandsStandBy b p m places ms slots
 hands_by b p h m places ms slots e a =
     let at : List Turn → Client = λ ts. client_after (steps_of b.session p) (kinds_of b.racks p) ts in
-    let P : List Turn → Type 0 = λ ts. HandsAre (at ts).chain (at ts).doubtful places ms in
+    let P : List Turn → Type 0 = λ ts. HandsAreBy (at ts).chain (at ts).doubtful places ms in
     let Q : List Turn → Type 0 = λ ts. IsRack ts (at ts).kinds slots (places_in (at ts).chain) in
     record { chain = subst P (sym e) a.chain; rack = subst Q (sym e) a.rack }
 
@@ -133,7 +133,7 @@ module _ (b : Begun) (p : ℕ) (e : Event) (brief : Brief) (h g : List Entry) (s
   pub is_before : (steps : List Step) (w : Worker) → IsWorker (client_at b h p) steps w → ClientIs b p (run b.state s.before) s.before steps w
   is_before steps w i = record { state = refl; stands = s.stands; worker = worker_by b p h s.before steps w s.turns' i }
 
-  pub hands_before : (places : List ℕ) (ms : List Memory) (slots : List ℕ) → HandsStand b p h places ms slots → HandsStand b p s.before places ms slots
+  pub hands_before : (places : List ℕ) (ms : List Memory) (slots : List ℕ) → HandsStandBy b p h places ms slots → HandsStandBy b p s.before places ms slots
   hands_before places ms slots a = hands_by b p h s.before places ms slots s.turns' a
 
   -- and behind it
@@ -149,6 +149,6 @@ module _ (b : Begun) (p : ℕ) (e : Event) (brief : Brief) (h g : List Entry) (s
   turns_behind = own_turns b p (run b.state s.before) ((step (run b.state s.before) (actors.Client p) e).after) s.before g [] (listed (step (run b.state s.before) (actors.Client p) e).reply ∷ []) e s.enters
 
   -- its handlers, where it leaves them alone
-  pub hands_behind : (places : List ℕ) (ms : List Memory) (slots : List ℕ) → Keeps (client_at b s.before p) (client_at b g p) → HandsStand b p h places ms slots → HandsStand b p g places ms slots
+  pub hands_behind : (places : List ℕ) (ms : List Memory) (slots : List ℕ) → Keeps (client_at b s.before p) (client_at b g p) → HandsStandBy b p h places ms slots → HandsStandBy b p g places ms slots
   hands_behind places ms slots k a =
       hands_keep b p (run b.state s.before) ((step (run b.state s.before) (actors.Client p) e).after) s.before g [] (listed (step (run b.state s.before) (actors.Client p) e).reply ∷ []) e places ms slots s.enters k (hands_before places ms slots a)

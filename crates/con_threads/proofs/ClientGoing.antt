@@ -23,7 +23,7 @@ use Rattle.con_session.specs.Desk.{entry, is_refused, listed}
 use Rattle.con_session.specs.HandlerTurns.{stepped, refused_entry, granted_entry, fails_by, adds_here, places_without}
 use Rattle.con_session.specs.RackLaws.{rack_added, rack_removed, without}
 use Rattle.con_session.specs.StepLaws.{due_next, drop_one, plain_by, refused_is}
-use Rattle.con_session.specs.Worker.{IsStance, IsWorker, HandsAre, HandsStand, HandsTurn, IsRack, is_handlers, places_in, stand_once}
+use Rattle.con_session.specs.Worker.{IsStance, IsWorker, HandsAreBy, HandsStandBy, HandsTurnBy, IsRack, is_handlers, places_in, stand_once}
 use Rattle.con_session.specs.WorkerLaws.{due_may, going_may, taking_may, took_turn_is, took_none_turn, IsEvent}
 use Rattle.con_session.specs.declared.desk.Brief.{Brief}
 use Rattle.con_session.specs.declared.desk.Brief.TheVariants as briefs
@@ -55,7 +55,7 @@ goes_left b p status brief h g steps w broken places ms slots s i m empty bare =
 -- ---- the answer of a read
 
 pub goes_collected : (b : Begun) (p : ℕ) (brief : Brief) (h g : List Entry) (steps : List Step) (w : Worker) (broken : Bool) (places : List ℕ) (ms : List Memory) (slots : List ℕ)
-    → Stood b p events.Collect brief h g → IsWorker (client_at b h p) steps w → w.gone ≡ false → w.leaving ≡ false → w.reading ≡ true → (client_at b h p).pending ≡ false → HandsStand b p h places ms slots
+    → Stood b p events.Collect brief h g → IsWorker (client_at b h p) steps w → w.gone ≡ false → w.leaving ≡ false → w.reading ≡ true → (client_at b h p).pending ≡ false → HandsStandBy b p h places ms slots
     → ClientGoes b p g steps broken (record w { reading = false }) places ms slots
 goes_collected b p brief h g steps w broken places ms slots s i n l r q a =
     let ev = events.Collect in
@@ -76,8 +76,8 @@ goes_collected b p brief h g steps w broken places ms slots s i n l r q a =
 -- ---- a control event
 
 pub goes_took : (b : Begun) (p : ℕ) (brief : Brief) (h g : List Entry) (steps : List Step) (w : Worker) (broken : Bool) (event : ℕ) (handled leaving : Bool) (places now : List ℕ) (ms after' : List Memory) (slots : List ℕ)
-    → leaving ≡ ((event == 2) || not handled) → Stood b p events.TakeCtrl brief h g → brief ≡ briefs.Ctrl event → IsWorker (client_at b h p) steps w → w.gone ≡ false → w.leaving ≡ false → HandsStand b p h places ms slots
-    → ((hs : List Handler) (doubtful : Bool) → HandsAre hs doubtful places ms → (doubtful ≡ false → handled ≡ is_handled hs event) × HandsAre (delivered_to hs event) doubtful now after')
+    → leaving ≡ ((event == 2) || not handled) → Stood b p events.TakeCtrl brief h g → brief ≡ briefs.Ctrl event → IsWorker (client_at b h p) steps w → w.gone ≡ false → w.leaving ≡ false → HandsStandBy b p h places ms slots
+    → ((hs : List Handler) (doubtful : Bool) → HandsAreBy hs doubtful places ms → (doubtful ≡ false → handled ≡ is_handled hs event) × HandsAreBy (delivered_to hs event) doubtful now after')
     → ClientGoes b p g steps broken (record w { leaving = leaving }) now after' slots
 goes_took b p brief h g steps w broken event handled leaving places now ms after' slots t s br i n l a told =
     let ev = events.TakeCtrl in
@@ -86,7 +86,7 @@ goes_took b p brief h g steps w broken event handled leaving places now ms after
     let x = is_before b p ev brief h g s steps w i in
     let are = hands_before b p ev brief h g s places ms slots a in
     let d = told c.chain c.doubtful are.chain in
-    let z : HandsTurn (Ok true) b p (run b.state m) (step (run b.state m) (actors.Client p) ev).after m g [] (listed (step (run b.state m) (actors.Client p) ev).reply ∷ []) steps (record w { leaving = leaving }) now after' slots =
+    let z : HandsTurnBy (Ok true) b p (run b.state m) (step (run b.state m) (actors.Client p) ev).after m g [] (listed (step (run b.state m) (actors.Client p) ev).reply ∷ []) steps (record w { leaving = leaving }) now after' slots =
     took_turn_is b p (run b.state m) ((step (run b.state m) (actors.Client p) ev).after) m g [] (listed (step (run b.state m) (actors.Client p) ev).reply ∷ []) steps w event handled leaving now after' slots t x n l s.ready s.enters (sym s.brief' ∙ br) d.0 d.1 are.rack in
     record {
       stands = stands_behind b p ev brief h g s (going_may c steps w ev x.worker l n (taking_may c));
@@ -96,14 +96,14 @@ goes_took b p brief h g steps w broken event handled leaving places now ms after
     }
 
 pub goes_took_none : (b : Begun) (p : ℕ) (brief : Brief) (h g : List Entry) (steps : List Step) (w : Worker) (broken : Bool) (places : List ℕ) (ms : List Memory) (slots : List ℕ)
-    → Stood b p events.TakeCtrl brief h g → IsEvent brief ≡ false → IsWorker (client_at b h p) steps w → w.gone ≡ false → w.leaving ≡ false → HandsStand b p h places ms slots
+    → Stood b p events.TakeCtrl brief h g → IsEvent brief ≡ false → IsWorker (client_at b h p) steps w → w.gone ≡ false → w.leaving ≡ false → HandsStandBy b p h places ms slots
     → ClientGoes b p g steps broken w places ms slots
 goes_took_none b p brief h g steps w broken places ms slots s br i n l a =
     let ev = events.TakeCtrl in
     let m = s.before in
     let c = client_at b m p in
     let x = is_before b p ev brief h g s steps w i in
-    let z : HandsTurn (Ok true) b p (run b.state m) (step (run b.state m) (actors.Client p) ev).after m g [] (listed (step (run b.state m) (actors.Client p) ev).reply ∷ []) steps w places ms slots =
+    let z : HandsTurnBy (Ok true) b p (run b.state m) (step (run b.state m) (actors.Client p) ev).after m g [] (listed (step (run b.state m) (actors.Client p) ev).reply ∷ []) steps w places ms slots =
     took_none_turn b p (run b.state m) ((step (run b.state m) (actors.Client p) ev).after) m g [] (listed (step (run b.state m) (actors.Client p) ev).reply ∷ []) steps w places ms slots brief x n l s.ready s.enters s.brief' br (hands_before b p ev brief h g s places ms slots a) in
     record {
       stands = stands_behind b p ev brief h g s (going_may c steps w ev x.worker l n (taking_may c));
@@ -121,7 +121,7 @@ pub record GoingOn (b : Begun) (p : ℕ) (h : List Entry) (steps : List Step) (w
   pub stays : w.leaving ≡ false
   pub reading : w.reading ≡ false
   pub pending : (client_at b h p).pending ≡ false
-  pub hands : HandsStand b p h places ms slots
+  pub hands : HandsStandBy b p h places ms slots
 
 -- it may enter its next step
 pub script_may : (c : Client) (steps : List Step) (w : Worker) (ev : Event) → IsWorker c steps w → w.gone ≡ false → w.leaving ≡ false → w.reading ≡ false → c.pending ≡ false → ev ≡ next_event (drop w.at steps) → MayBy c.stance c ev
@@ -205,7 +205,7 @@ goes_broken b p call brief h g steps w places now ms after' slots left s k d =
 
 pub goes_added : (b : Begun) (p place : ℕ) (brief : Brief) (h g : List Entry) (steps : List Step) (w : Worker) (broken : Bool) (places now : List ℕ) (ms after' : List Memory) (slots left : List ℕ)
     → true ≡ not (is_refused brief) → Stood b p (events.Call (calls.HandlerAdd place)) brief h g → GoingOn b p h steps w places ms slots → events.Call (calls.HandlerAdd place) ≡ next_event (drop w.at steps)
-    → ((hs : List Handler) (doubtful : Bool) → HandsAre hs doubtful places ms → HandsAre (with_handler hs place (get_or slots place 0)) (if get_or slots place 0 == 0 then true else doubtful) now after')
+    → ((hs : List Handler) (doubtful : Bool) → HandsAreBy hs doubtful places ms → HandsAreBy (with_handler hs place (get_or slots place 0)) (if get_or slots place 0 == 0 then true else doubtful) now after')
     → ((i : ℕ) → (i == place) ≡ false → get_or left i 0 ≡ get_or slots i 0)
     → ClientGoes b p g steps broken (record w { at = w.at + 1 }) now after' left
 goes_added b p place brief h g steps w broken places now ms after' slots left i s k d new same =
@@ -222,8 +222,8 @@ goes_added b p place brief h g steps w broken places now ms after' slots left i 
     let first : has_added place (turns b.state p m) ≡ false = added_first b.state m p place ev (adds_here place place reply done ∙ eq-eqb place place refl) in
     let kind : get_or slots place 0 ≡ get_or c.kinds place 0 = are.rack.left place first in
     let e : client_at b g p ≡ record (chained (record c { left = drop 1 c.left; stance = GoesOn }) call) { pending = pending } = client_own b p ev brief h g s ∙ ap (λ (z : Client). record z { pending = pending }) (granted_entry c call reply done) in
-    let P : ℕ → Type 0 = λ z. HandsAre (with_handler c.chain place z) (if z == 0 then true else c.doubtful) now after' in
-    let S : Client → Type 0 = λ z. HandsAre z.chain z.doubtful now after' in
+    let P : ℕ → Type 0 = λ z. HandsAreBy (with_handler c.chain place z) (if z == 0 then true else c.doubtful) now after' in
+    let S : Client → Type 0 = λ z. HandsAreBy z.chain z.doubtful now after' in
     let T : List Turn → Type 0 = λ ts. IsRack ts c.kinds left (places_in c.chain ++ place ∷ []) in
     let U : List ℕ → Type 0 = λ xs. IsRack (turns b.state p g) c.kinds left xs in
     let V : Client → Type 0 = λ z. IsRack (turns b.state p g) z.kinds left (places_in z.chain) in
@@ -240,7 +240,7 @@ goes_added b p place brief h g steps w broken places now ms after' slots left i 
 
 pub goes_removed : (b : Begun) (p place : ℕ) (brief : Brief) (h g : List Entry) (steps : List Step) (w : Worker) (broken : Bool) (places now : List ℕ) (ms after' : List Memory) (slots : List ℕ)
     → true ≡ not (is_refused brief) → Stood b p (events.Call (calls.HandlerRemove place)) brief h g → GoingOn b p h steps w places ms slots → events.Call (calls.HandlerRemove place) ≡ next_event (drop w.at steps)
-    → ((hs : List Handler) (doubtful : Bool) → stand_once (places_in hs) ≡ true → HandsAre hs doubtful places ms → HandsAre (without_handler hs place) doubtful now after')
+    → ((hs : List Handler) (doubtful : Bool) → stand_once (places_in hs) ≡ true → HandsAreBy hs doubtful places ms → HandsAreBy (without_handler hs place) doubtful now after')
     → ClientGoes b p g steps broken (record w { at = w.at + 1 }) now after' slots
 goes_removed b p place brief h g steps w broken places now ms after' slots i s k d new =
     let call = calls.HandlerRemove place in
@@ -253,7 +253,7 @@ goes_removed b p place brief h g steps w broken places now ms after' slots i s k
     let v = (is_before b p ev brief h g s steps w k.worker).worker in
     let are = hands_before b p ev brief h g s places ms slots k.hands in
     let e : client_at b g p ≡ record (chained (record c { left = drop 1 c.left; stance = GoesOn }) call) { pending = pending } = client_own b p ev brief h g s ∙ ap (λ (z : Client). record z { pending = pending }) (granted_entry c call reply (fails_by true brief reply i s.brief')) in
-    let S : Client → Type 0 = λ z. HandsAre z.chain z.doubtful now after' in
+    let S : Client → Type 0 = λ z. HandsAreBy z.chain z.doubtful now after' in
     let T : List Turn → Type 0 = λ ts. IsRack ts c.kinds slots (without place (places_in c.chain)) in
     let U : List ℕ → Type 0 = λ xs. IsRack (turns b.state p g) c.kinds slots xs in
     let V : Client → Type 0 = λ z. IsRack (turns b.state p g) z.kinds slots (places_in z.chain) in

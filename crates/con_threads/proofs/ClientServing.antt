@@ -19,7 +19,7 @@ use Rattle.con_machine.specs.State.{State}
 use Rattle.con_machine.specs.Step.{is_ready}
 use Rattle.con_session.specs.Desk.{is_refused}
 use Rattle.con_session.specs.StepLaws.{drop_end}
-use Rattle.con_session.specs.Worker.{HandsAre, is_handlers, places_in, stand_once}
+use Rattle.con_session.specs.Worker.{HandsAreBy, is_handlers, places_in, stand_once}
 use Rattle.con_session.specs.WorkerLaws.{leaving_may, none_pending, IsEvent}
 use Rattle.con_session.specs.declared.desk.Brief.{Brief}
 use Rattle.con_session.specs.declared.desk.Brief.TheVariants as briefs
@@ -122,7 +122,7 @@ served_collected v n told brief t p br en = served_by v (record v { scribe = n; 
 
 pub served_took : (v : ClientView) (n : Scribe) (told : Told) (event : ℕ) (handled leaving : Bool) (now : List ℕ) (after' : List Memory) → HasTurned v n → v.broken ≡ false → v.worker.gone ≡ false → v.worker.leaving ≡ false
     → brief_told told ≡ briefs.Ctrl event → Enters v n events.TakeCtrl told → leaving ≡ ((event == 2) || not handled)
-    → ((hs : List Handler) (doubtful : Bool) → HandsAre hs doubtful v.places v.memories → (doubtful ≡ false → handled ≡ is_handled hs event) × HandsAre (delivered_to hs event) doubtful now after')
+    → ((hs : List Handler) (doubtful : Bool) → HandsAreBy hs doubtful v.places v.memories → (doubtful ≡ false → handled ≡ is_handled hs event) × HandsAreBy (delivered_to hs event) doubtful now after')
     → HasServed v (record v { scribe = n; worker = record v.worker { leaving = leaving }; places = now; memories = after' })
 served_took v n told event handled leaving now after' t f g l br en le new = served_by v (record v { scribe = n; worker = record v.worker { leaving = leaving }; places = now; memories = after' }) t refl refl
     (λ b i k. goes_took b v.number (brief_told told) (history v.scribe) (history n) v.steps v.worker v.broken event handled leaving v.places now v.memories after' v.slots le
@@ -160,7 +160,7 @@ served_broken v n call told brief now after' left t p d br en = served_by v (rec
 
 pub served_added : (v : ClientView) (n : Scribe) (place : ℕ) (told : Told) (brief : Brief) (now : List ℕ) (after' : List Memory) (left : List ℕ) → HasTurned v n → Proceeds v.scribe v.worker v.broken false → IsNext v.steps v.worker (events.Call (calls.HandlerAdd place))
     → brief ≡ brief_told told → Enters v n (events.Call (calls.HandlerAdd place)) told → true ≡ not (is_refused brief)
-    → ((hs : List Handler) (doubtful : Bool) → HandsAre hs doubtful v.places v.memories → HandsAre (with_handler hs place (get_or v.slots place 0)) (if get_or v.slots place 0 == 0 then true else doubtful) now after')
+    → ((hs : List Handler) (doubtful : Bool) → HandsAreBy hs doubtful v.places v.memories → HandsAreBy (with_handler hs place (get_or v.slots place 0)) (if get_or v.slots place 0 == 0 then true else doubtful) now after')
     → ((i : ℕ) → (i == place) ≡ false → get_or left i 0 ≡ get_or v.slots i 0)
     → HasServed v (record v { scribe = n; worker = record v.worker { at = v.worker.at + 1 }; places = now; memories = after'; slots = left })
 served_added v n place told brief now after' left t p d br en granted new same = served_by v (record v { scribe = n; worker = record v.worker { at = v.worker.at + 1 }; places = now; memories = after'; slots = left }) t refl refl
@@ -168,7 +168,7 @@ served_added v n place told brief now after' left t p d br en granted new same =
 
 pub served_removed : (v : ClientView) (n : Scribe) (place : ℕ) (told : Told) (brief : Brief) (now : List ℕ) (after' : List Memory) → HasTurned v n → Proceeds v.scribe v.worker v.broken false → IsNext v.steps v.worker (events.Call (calls.HandlerRemove place))
     → brief ≡ brief_told told → Enters v n (events.Call (calls.HandlerRemove place)) told → true ≡ not (is_refused brief)
-    → ((hs : List Handler) (doubtful : Bool) → stand_once (places_in hs) ≡ true → HandsAre hs doubtful v.places v.memories → HandsAre (without_handler hs place) doubtful now after')
+    → ((hs : List Handler) (doubtful : Bool) → stand_once (places_in hs) ≡ true → HandsAreBy hs doubtful v.places v.memories → HandsAreBy (without_handler hs place) doubtful now after')
     → HasServed v (record v { scribe = n; worker = record v.worker { at = v.worker.at + 1 }; places = now; memories = after' })
 served_removed v n place told brief now after' t p d br en granted new = served_by v (record v { scribe = n; worker = record v.worker { at = v.worker.at + 1 }; places = now; memories = after' }) t refl refl
     (λ b i k. goes_removed b v.number place brief (history v.scribe) (history n) v.steps v.worker v.broken v.places now v.memories after' v.slots granted (stood_of b v n (events.Call (calls.HandlerRemove place)) told brief i t br en k) (going_on b v i t.0 k p) d new)

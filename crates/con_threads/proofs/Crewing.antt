@@ -15,10 +15,10 @@ use Rattle.con_handlers.specs.Memory.{Memory}
 use Rattle.con_machine.specs.Follows.{kinds_of}
 use Rattle.con_machine.specs.Numbered.{actor_of}
 use Rattle.con_machine.specs.Rounds.{Begun}
-use Rattle.con_session.specs.Opening.{AreFresh, fresh}
+use Rattle.con_session.specs.Opening.{AreFreshBy, fresh}
 use Rattle.con_session.specs.OpeningLaws.{get_below, seated_fresh}
 use Rattle.con_session.specs.Solo.{begins}
-use Rattle.con_session.specs.Worker.{HandsStand}
+use Rattle.con_session.specs.Worker.{HandsStandBy}
 use Rattle.con_session.specs.declared.worker.Worker.{Worker}
 use Rattle.con_book.specs.Lock.{gave, newcomer}
 use Rattle.con_book.specs.Passes.{BookId, pass_id, view_of}
@@ -113,27 +113,27 @@ module _ {C : Type 0} (view : C → ClientView) (id : BookId) (start : Page) whe
 -- ---- how they go
 
 -- of clients with seats, in a row
-pub fresh_of : {A B : Type 0} (worker : A → Worker) (places : A → List ℕ) (mems : A → List Memory) (slots : A → List ℕ) (f : B → A) (racks : List (List ℕ)) (k : ℕ) (xs : List B) → AreFresh worker places mems slots racks k (map f xs)
-    → AreFresh (λ x. worker (f x)) (λ x. places (f x)) (λ x. mems (f x)) (λ x. slots (f x)) racks k xs
+pub fresh_of : {A B : Type 0} (worker : A → Worker) (places : A → List ℕ) (mems : A → List Memory) (slots : A → List ℕ) (f : B → A) (racks : List (List ℕ)) (k : ℕ) (xs : List B) → AreFreshBy worker places mems slots racks k (map f xs)
+    → AreFreshBy (λ x. worker (f x)) (λ x. places (f x)) (λ x. mems (f x)) (λ x. slots (f x)) racks k xs
 fresh_of worker places mems slots f racks k [] a = tt
 fresh_of worker places mems slots f racks k (x ∷ xs) (u, v, a) = (u, v, fresh_of worker places mems slots f racks (k + 1) xs a)
 
-fresh_get : {A : Type 0} (worker : A → Worker) (places : A → List ℕ) (mems : A → List Memory) (slots : A → List ℕ) (racks : List (List ℕ)) (k : ℕ) (xs : List A) (j : ℕ) (x : A) → AreFresh worker places mems slots racks k xs → slice_get xs j ≡ Some x
-    → (worker x ≡ fresh) × ((b : Begun) (p : ℕ) → kinds_of b.racks p ≡ get_or racks (k + j) [] → HandsStand b p [] (places x) (mems x) (slots x))
+fresh_get : {A : Type 0} (worker : A → Worker) (places : A → List ℕ) (mems : A → List Memory) (slots : A → List ℕ) (racks : List (List ℕ)) (k : ℕ) (xs : List A) (j : ℕ) (x : A) → AreFreshBy worker places mems slots racks k xs → slice_get xs j ≡ Some x
+    → (worker x ≡ fresh) × ((b : Begun) (p : ℕ) → kinds_of b.racks p ≡ get_or racks (k + j) [] → HandsStandBy b p [] (places x) (mems x) (slots x))
 fresh_get worker places mems slots racks k [] j x a e = absurd (cc)
 fresh_get {A} worker places mems slots racks k (y ∷ ys) zero x (u, v, a) e =
     let q : y ≡ x = cc in
-    let P : A → Type 0 = λ z. (worker z ≡ fresh) × ((b : Begun) (p : ℕ) → kinds_of b.racks p ≡ get_or racks (k + 0) [] → HandsStand b p [] (places z) (mems z) (slots z)) in
-    let N : ℕ → Type 0 = λ z. (b : Begun) (p : ℕ) → kinds_of b.racks p ≡ get_or racks z [] → HandsStand b p [] (places y) (mems y) (slots y) in
+    let P : A → Type 0 = λ z. (worker z ≡ fresh) × ((b : Begun) (p : ℕ) → kinds_of b.racks p ≡ get_or racks (k + 0) [] → HandsStandBy b p [] (places z) (mems z) (slots z)) in
+    let N : ℕ → Type 0 = λ z. (b : Begun) (p : ℕ) → kinds_of b.racks p ≡ get_or racks z [] → HandsStandBy b p [] (places y) (mems y) (slots y) in
     subst P q (u, subst N (let i : k ≡ k + 0 = omega arith in i) v)
 fresh_get worker places mems slots racks k (y ∷ ys) (suc j) x (u, v, a) e =
     let r = fresh_get worker places mems slots racks (k + 1) ys j x a e in
-    let N : ℕ → Type 0 = λ z. (b : Begun) (p : ℕ) → kinds_of b.racks p ≡ get_or racks z [] → HandsStand b p [] (places x) (mems x) (slots x) in
+    let N : ℕ → Type 0 = λ z. (b : Begun) (p : ℕ) → kinds_of b.racks p ≡ get_or racks z [] → HandsStandBy b p [] (places x) (mems x) (slots x) in
     (r.0, subst N (let i : k + 1 + j ≡ k + suc j = omega arith in i) r.1)
 
 -- a client that has done nothing
 new_goes : (session : Clients) (racks : List (List ℕ)) (k : ℕ) (script : Script) (v : ClientView) → slice_get session.scripts k ≡ Some script → v.number ≡ k + 1 → v.steps ≡ script.steps → history v.scribe ≡ [] → v.worker ≡ fresh
-    → ((b : Begun) (p : ℕ) → kinds_of b.racks p ≡ get_or racks (0 + k) [] → HandsStand b p [] v.places v.memories v.slots) → ViewGoes (begins session racks None) v
+    → ((b : Begun) (p : ℕ) → kinds_of b.racks p ≡ get_or racks (0 + k) [] → HandsStandBy b p [] v.places v.memories v.slots) → ViewGoes (begins session racks None) v
 new_goes session racks k script v is number steps none worker hands =
     let b = begins session racks None in
     let s = seated_fresh session racks None k script fresh v.places v.memories v.slots (get_below session.scripts k script is) is refl hands in
@@ -141,7 +141,7 @@ new_goes session racks k script v is number steps none worker hands =
     subst (λ (z : ℕ × List Entry × List Step × Worker). ClientGoes b z.0 z.1 z.2 v.broken z.3 v.places v.memories v.slots) (λ i. (sym number i, sym none i, sym steps i, sym worker i)) first
 
 pub all_new_go : {C : Type 0} (view : C → ClientView) (id : BookId) (start : Page) (session : Clients) (racks : List (List ℕ)) (scripts : List Script) (cs : List C) → scripts ≡ session.scripts → AreNew view id start scripts cs
-    → AreFresh (λ c. (view c).worker) (λ c. (view c).places) (λ c. (view c).memories) (λ c. (view c).slots) racks 0 cs → CrewGoes view (begins session racks None) cs
+    → AreFreshBy (λ c. (view c).worker) (λ c. (view c).places) (λ c. (view c).memories) (λ c. (view c).slots) racks 0 cs → CrewGoes view (begins session racks None) cs
 all_new_go view id start session racks scripts cs e new are = λ k c is.
     let (script, at, b) = new k c is in
     let f = fresh_get (λ c. (view c).worker) (λ c. (view c).places) (λ c. (view c).memories) (λ c. (view c).slots) racks 0 cs k c are is in

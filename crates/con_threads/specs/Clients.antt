@@ -11,7 +11,7 @@ use Rattle.con_machine.specs.History.{run}
 use Rattle.con_machine.specs.Rounds.{Begun, client_at}
 use Rattle.con_machine.specs.Step.{is_ready}
 use Rattle.con_session.specs.Standing.{ClientStands}
-use Rattle.con_session.specs.Worker.{IsWorker, HandsStand}
+use Rattle.con_session.specs.Worker.{IsWorker, HandsStandBy}
 use Rattle.con_session.specs.declared.worker.Worker.{Worker}
 use Rattle.con_threads.specs.Scribe.{IsScribe, IsSameScribe, opened, history}
 use Rattle.con_threads.specs.declared.scribe.Scribe.{Scribe}
@@ -21,7 +21,7 @@ use Rattle.con_threads.specs.declared.scribe.Scribe.{Scribe}
 pub record ClientGoes (b : Begun) (p : ℕ) (h : List Entry) (steps : List Step) (broken : Bool) (w : Worker) (places : List ℕ) (ms : List Memory) (slots : List ℕ) : Type 0 where
   pub stands : ClientStands b h p
   pub worker : broken ≡ false → IsWorker (client_at b h p) steps w
-  pub hands : broken ≡ false → w.gone ≡ false → HandsStand b p h places ms slots
+  pub hands : broken ≡ false → w.gone ≡ false → HandsStandBy b p h places ms slots
   pub dropped : w.gone ≡ true → (ms ≡ []) × (slots ≡ [])
 
 -- what a contract sees of a client's thread

@@ -5,7 +5,7 @@ ghost use Rattle.con_outside.specs.Outside.{Rose};
 ghost use Rattle.con_events.specs.Session.{Clients};
 ghost use Rattle.con_machine.specs.Follows.{begun};
 ghost use Rattle.con_machine.specs.Painting.{is_fresh};
-ghost use Rattle.con_session.specs.Opening.{AreFresh};
+ghost use Rattle.con_session.specs.Opening.{AreFreshBy};
 ghost use Rattle.con_session.specs.Outcome.{Leaves};
 ghost use Rattle.con_session.specs.Solo.{begins};
 ghost use Rattle.con_session.specs.Worker.{told_in, told_kind};
@@ -58,7 +58,7 @@ fn made<'a>(
     ensures len { IfOk result (λ t. length t.clients.items ≡ length scripts.now) }
     ensures crew { IfOk result (λ t. IsCrew (λ c. record { scribe = c.scribe; steps = c.steps.now; number = c.number; broken = c.broken; worker = c.seat.worker; places = c.seat.hands.places.items; memories = map (λ b. memory (b.vtable, b.value)) c.seat.hands.chain.handlers.items; slots = map (λ o. told_in (option_map (λ b. memory (b.vtable, b.value)) o)) c.seat.hands.rack.items }) (book_id t.book) (view_of t.opening).start t.clients.items) }
     ensures go { IfOk result (λ t. (session : Clients) (racks : List (List ℕ)) (before old : Option (List ℕ)) → stage.desk.console.state ≡ begun session racks → EdgesGo (begins session racks None) before before old old t.edges.side t.edges.painter t.edges.put t.edges.writer) }
-    ensures crew_goes { IfOk result (λ t. (session : Clients) (racks : List (List ℕ)) → stage.desk.console.state ≡ begun session racks → scripts.now ≡ session.scripts → AreFresh (λ s. s.worker) (λ s. s.hands.places.items) (λ s. map (λ b. memory (b.vtable, b.value)) s.hands.chain.handlers.items) (λ s. map (λ o. told_in (option_map (λ b. memory (b.vtable, b.value)) o)) s.hands.rack.items) racks 0 seats.items → CrewGoes (λ c. record { scribe = c.scribe; steps = c.steps.now; number = c.number; broken = c.broken; worker = c.seat.worker; places = c.seat.hands.places.items; memories = map (λ b. memory (b.vtable, b.value)) c.seat.hands.chain.handlers.items; slots = map (λ o. told_in (option_map (λ b. memory (b.vtable, b.value)) o)) c.seat.hands.rack.items }) (begins session racks None) t.clients.items) }
+    ensures crew_goes { IfOk result (λ t. (session : Clients) (racks : List (List ℕ)) → stage.desk.console.state ≡ begun session racks → scripts.now ≡ session.scripts → AreFreshBy (λ s. s.worker) (λ s. s.hands.places.items) (λ s. map (λ b. memory (b.vtable, b.value)) s.hands.chain.handlers.items) (λ s. map (λ o. told_in (option_map (λ b. memory (b.vtable, b.value)) o)) s.hands.rack.items) racks 0 seats.items → CrewGoes (λ c. record { scribe = c.scribe; steps = c.steps.now; number = c.number; broken = c.broken; worker = c.seat.worker; places = c.seat.hands.places.items; memories = map (λ b. memory (b.vtable, b.value)) c.seat.hands.chain.handlers.items; slots = map (λ o. told_in (option_map (λ b. memory (b.vtable, b.value)) o)) c.seat.hands.rack.items }) (begins session racks None) t.clients.items) }
 {
     let Setting {
         book,

@@ -1,14 +1,13 @@
 -- Rounds so far.
-use Rattle.std.proofs.Common.{◌≡◌, ◌⊎◌, ℕ, ◌-◌, ◌≤◌, true, false, List, length, map, Option}
-use Rattle.std.specs.Option.{option_map}
+use Rattle.std.proofs.Common.{◌≡◌, ◌⊎◌, ℕ, ◌-◌, ◌≤◌, true, false, List, length, Option}
 use Rattle.con_outside.specs.Outside.{Rose}
 use Rattle.con_events.specs.declared.end.End.TheVariants as ends
 use Rattle.con_machine.specs.Rounds.{Begun}
 use Rattle.con_machine.specs.Turns.{paints}
+use Rattle.con_session.specs.Held.{moment}
 use Rattle.con_session.specs.Painting.{IsTied}
 use Rattle.con_session.specs.Sender.{FailsBy}
 use Rattle.con_session.specs.Solo.{Goes, fails_at}
-use Rattle.con_session.specs.Worker.{told_in}
 use Rattle.con_session.proofs.solo.rounds.Given as goal
 
 abbrev pub invariant-loop : goal.invariant-loop
@@ -17,8 +16,8 @@ invariant-loop g l = record {
   taken : l.stage.side.ended ≡ false → l.stage.reader ≤ 16777216;
   served : (l.stage.desk.console.state.asked ≡ false) ⊎ (l.stage.canvas.failed ≡ true);
   tied : IsTied l.stage.desk.console.state l.stage.canvas.painter;
-  going : (b : Begun) × (before : Option (List ℕ)) × (old : Option (List ℕ)) × ((f : Option ℕ) → FailsBy l.stage.canvas.failed f (paints l.stage.desk.entries.items) → Goes (fails_at b f) l.scripts before old (record { state = l.stage.desk.console.state; entries = l.stage.desk.entries.items; replies = l.stage.desk.replies.items; workers = map (λ s. s.worker) l.seats; places = map (λ s. s.hands.places.items) l.seats; memories = map (λ s. map (λ x. (goal.CtrlHandler-dyn g (x.vtable, x.value)).memory x.value) s.hands.chain.handlers.items) l.seats; slots = map (λ s. map (λ o. told_in (option_map (λ x. (goal.CtrlHandler-dyn g (x.vtable, x.value)).memory x.value) o)) s.hands.rack.items) l.seats; side = l.stage.side; taken = l.stage.reader; left = g.I.Source.left l.link; kept = l.stage.canvas.painter; ends = l.stage.canvas.ends.items; end = l.stage.canvas.end; failed = l.stage.canvas.failed; written = g.O.Sink.written l.term }));
-  turn : (b : Begun) (before old : Option (List ℕ)) → ((f : Option ℕ) → FailsBy l.initial.stage.canvas.failed f (paints l.initial.stage.desk.entries.items) → Goes (fails_at b f) l.scripts before old (record { state = l.initial.stage.desk.console.state; entries = l.initial.stage.desk.entries.items; replies = l.initial.stage.desk.replies.items; workers = map (λ s. s.worker) l.initial.seats; places = map (λ s. s.hands.places.items) l.initial.seats; memories = map (λ s. map (λ x. (goal.CtrlHandler-dyn g (x.vtable, x.value)).memory x.value) s.hands.chain.handlers.items) l.initial.seats; slots = map (λ s. map (λ o. told_in (option_map (λ x. (goal.CtrlHandler-dyn g (x.vtable, x.value)).memory x.value) o)) s.hands.rack.items) l.initial.seats; side = l.initial.stage.side; taken = l.initial.stage.reader; left = g.I.Source.left l.initial.link; kept = l.initial.stage.canvas.painter; ends = l.initial.stage.canvas.ends.items; end = l.initial.stage.canvas.end; failed = l.initial.stage.canvas.failed; written = g.O.Sink.written l.initial.term })) → ((f : Option ℕ) → FailsBy l.stage.canvas.failed f (paints l.stage.desk.entries.items) → Goes (fails_at b f) l.scripts before old (record { state = l.stage.desk.console.state; entries = l.stage.desk.entries.items; replies = l.stage.desk.replies.items; workers = map (λ s. s.worker) l.seats; places = map (λ s. s.hands.places.items) l.seats; memories = map (λ s. map (λ x. (goal.CtrlHandler-dyn g (x.vtable, x.value)).memory x.value) s.hands.chain.handlers.items) l.seats; slots = map (λ s. map (λ o. told_in (option_map (λ x. (goal.CtrlHandler-dyn g (x.vtable, x.value)).memory x.value) o)) s.hands.rack.items) l.seats; side = l.stage.side; taken = l.stage.reader; left = g.I.Source.left l.link; kept = l.stage.canvas.painter; ends = l.stage.canvas.ends.items; end = l.stage.canvas.end; failed = l.stage.canvas.failed; written = g.O.Sink.written l.term }));
+  going : (b : Begun) × (before : Option (List ℕ)) × (old : Option (List ℕ)) × ((f : Option ℕ) → FailsBy l.stage.canvas.failed f (paints l.stage.desk.entries.items) → Goes (fails_at b f) l.scripts before old (moment (λ x. (goal.CtrlHandler-dyn g (x.vtable, x.value)).memory x.value) l.stage l.seats (g.I.Source.left l.link) (g.O.Sink.written l.term)));
+  turn : (b : Begun) (before old : Option (List ℕ)) → ((f : Option ℕ) → FailsBy l.initial.stage.canvas.failed f (paints l.initial.stage.desk.entries.items) → Goes (fails_at b f) l.scripts before old (moment (λ x. (goal.CtrlHandler-dyn g (x.vtable, x.value)).memory x.value) l.initial.stage l.initial.seats (g.I.Source.left l.initial.link) (g.O.Sink.written l.initial.term))) → ((f : Option ℕ) → FailsBy l.stage.canvas.failed f (paints l.stage.desk.entries.items) → Goes (fails_at b f) l.scripts before old (moment (λ x. (goal.CtrlHandler-dyn g (x.vtable, x.value)).memory x.value) l.stage l.seats (g.I.Source.left l.link) (g.O.Sink.written l.term)));
   link : l.stage.side.end ≡ ends.Link → (l.initial.stage.side.end ≡ ends.Link) ⊎ Rose (g.I.Source.faults l.initial.link) (g.I.Source.faults l.link);
   term : l.stage.canvas.failed ≡ true → (l.initial.stage.canvas.failed ≡ true) ⊎ Rose (g.O.Sink.faults l.initial.term) (g.O.Sink.faults l.term);
   link_never_falls : g.I.Source.faults l.initial.link ≤ g.I.Source.faults l.link;

@@ -1,12 +1,11 @@
 -- The clients so far.
-use Rattle.std.proofs.Common.{◌≡◌, ℕ, ◌-◌, ◌≤◌, List, length, map, option_map}
-use Rattle.con_session.specs.Opening.{AreFresh}
-use Rattle.con_session.specs.Worker.{told_in}
+use Rattle.std.proofs.Common.{◌≡◌, ℕ, ◌-◌, ◌≤◌, List, length}
+use Rattle.con_session.specs.Held.{AreFresh}
 use Rattle.con_session.proofs.stage.fitted.Given as goal
 
 abbrev pub invariant-loop-alloc : goal.invariant-loop-alloc
 invariant-loop-alloc g l = record {
-  fresh : (racks : List (List ℕ)) → length racks ≡ length l.fn.seats.items → AreFresh (λ s. s.worker) (λ s. s.hands.places.items) (λ s. map (λ x. (goal.CtrlHandler-dyn g (x.vtable, x.value)).memory x.value) s.hands.chain.handlers.items) (λ s. map (λ o. told_in (option_map (λ x. (goal.CtrlHandler-dyn g (x.vtable, x.value)).memory x.value) o)) s.hands.rack.items) racks 0 l.fn.seats.items → AreFresh (λ s. s.worker) (λ s. s.hands.places.items) (λ s. map (λ x. (goal.CtrlHandler-dyn g (x.vtable, x.value)).memory x.value) s.hands.chain.handlers.items) (λ s. map (λ o. told_in (option_map (λ x. (goal.CtrlHandler-dyn g (x.vtable, x.value)).memory x.value) o)) s.hands.rack.items) racks 0 l.all.items;
+  fresh : (racks : List (List ℕ)) → length racks ≡ length l.fn.seats.items → AreFresh (λ x. (goal.CtrlHandler-dyn g (x.vtable, x.value)).memory x.value) racks 0 l.fn.seats.items → AreFresh (λ x. (goal.CtrlHandler-dyn g (x.vtable, x.value)).memory x.value) racks 0 l.all.items;
   more : length l.fn.seats.items ≤ length l.all.items;
 }
 

@@ -1,13 +1,13 @@
 -- The clients of the racks so far.
-use Rattle.std.proofs.Common.{◌≡◌, ◌+◌, drop, length, map, option_map}
+use Rattle.std.proofs.Common.{◌≡◌, ◌+◌, drop, length, map}
 use Rattle.std.specs.Vec.Iter.{into_iter_items, into_iter_len}
-use Rattle.con_session.specs.Opening.{AreFresh}
-use Rattle.con_session.specs.Worker.{told_kind, told_in}
+use Rattle.con_session.specs.Held.{AreFresh}
+use Rattle.con_session.specs.Worker.{told_kind}
 use Rattle.con_session.proofs.stage.seats_of.Given as goal
 
 abbrev pub invariant-loop-rack : goal.invariant-loop-rack
 invariant-loop-rack g l = record {
-  fresh : AreFresh (λ s. s.worker) (λ s. s.hands.places.items) (λ s. map (λ x. (goal.CtrlHandler-dyn g (x.vtable, x.value)).memory x.value) s.hands.chain.handlers.items) (λ s. map (λ o. told_in (option_map (λ x. (goal.CtrlHandler-dyn g (x.vtable, x.value)).memory x.value) o)) s.hands.rack.items) (map (λ rack. map (λ x. told_kind ((goal.CtrlHandler-dyn g (x.vtable, x.value)).memory x.value)) rack.items) l.fn.racks.items) 0 l.seats.items;
+  fresh : AreFresh (λ x. (goal.CtrlHandler-dyn g (x.vtable, x.value)).memory x.value) (map (λ rack. map (λ x. told_kind ((goal.CtrlHandler-dyn g (x.vtable, x.value)).memory x.value)) rack.items) l.fn.racks.items) 0 l.seats.items;
   count : length l.seats.items + into_iter_len l.rack-iterator ≡ length l.fn.racks.items;
   rest : into_iter_items l.rack-iterator ≡ drop (length l.seats.items) l.fn.racks.items;
 }
