@@ -53,7 +53,10 @@ pub fn console_host<
     gate: &G,
 ) -> u8
     requires few { All (λ rack. length rack.items ≤ 255) racks.items }
-    ensures outcome { Hosted result (form_of (map string_bytes words.now)) (F.files files.old) (Rose (F.faults files.old) (F.faults files.new)) (map (λ rack. map (λ b. told_kind (memory b)) rack.items) racks.items) (I.left link.old) (I.left link.new) (O.written term.old) (O.written term.new) (N.written second.old) (N.written second.new) (R.written report.old) (R.written report.new) (Rose (R.faults report.old) (R.faults report.new)) (Rose (N.faults second.old) (N.faults second.new)) }
+    ensures outcome { Hosted result (form_of (map string_bytes words.now)) (F.files files.old) (Rose (F.faults files.old) (F.faults files.new))
+        (map (λ rack. map (λ b. told_kind (memory b)) rack.items) racks.items) (I.left link.old) (I.left link.new) (O.written term.old)
+        (O.written term.new) (N.written second.old) (N.written second.new) (R.written report.old) (R.written report.new)
+        (Rose (R.faults report.old) (R.faults report.new)) (Rose (N.faults second.old) (N.faults second.new)) }
     ensures usage { result ≡ USAGE → form_of (map string_bytes words.now) ≡ None }
     ensures no_form { form_of (map string_bytes words.now) ≡ None → (result ≡ USAGE) ⊎ (result ≡ 9) }
     ensures link_failed { result ≡ LINK → Rose (I.faults link.old) (I.faults link.new) }

@@ -62,7 +62,9 @@ fn run<I: Source, O: Sink, N: Sink, R: Sink>(
     racks: Vec<Vec<Box<dyn CtrlHandler + Send>>>,
 ) -> u8
     requires few { All (λ rack. length rack.items ≤ 255) racks.items }
-    ensures ran { RanMirrored result session.now (map (λ rack. map (λ b. told_kind (memory b)) rack.items) racks.items) (I.left link.old) (I.left link.new) (O.written term.old) (O.written term.new) (N.written second.old) (N.written second.new) (R.written report.old) (R.written report.new) (Rose (R.faults report.old) (R.faults report.new)) (Rose (N.faults second.old) (N.faults second.new)) }
+    ensures ran { RanMirrored result session.now (map (λ rack. map (λ b. told_kind (memory b)) rack.items) racks.items) (I.left link.old)
+        (I.left link.new) (O.written term.old) (O.written term.new) (N.written second.old) (N.written second.new) (R.written report.old)
+        (R.written report.new) (Rose (R.faults report.old) (R.faults report.new)) (Rose (N.faults second.old) (N.faults second.new)) }
     ensures link_failed { result ≡ 4 → Rose (I.faults link.old) (I.faults link.new) }
     ensures term_failed { result ≡ 5 → Rose (O.faults term.old) (O.faults term.new) }
     ensures report_failed { result ≡ 6 → Rose (R.faults report.old) (R.faults report.new) }
@@ -95,7 +97,10 @@ pub fn host_mirror<F: Files, I: Source, O: Sink, N: Sink, R: Sink>(
     racks: Vec<Vec<Box<dyn CtrlHandler + Send>>>,
 ) -> u8
     requires few { All (λ rack. length rack.items ≤ 255) racks.items }
-    ensures outcome { HasMirrored result (F.files files.old) name.now (Rose (F.faults files.old) (F.faults files.new)) (map (λ rack. map (λ b. told_kind (memory b)) rack.items) racks.items) (I.left link.old) (I.left link.new) (O.written term.old) (O.written term.new) (N.written second.old) (N.written second.new) (R.written report.old) (R.written report.new) (Rose (R.faults report.old) (R.faults report.new)) (Rose (N.faults second.old) (N.faults second.new)) }
+    ensures outcome { HasMirrored result (F.files files.old) name.now (Rose (F.faults files.old) (F.faults files.new))
+        (map (λ rack. map (λ b. told_kind (memory b)) rack.items) racks.items) (I.left link.old) (I.left link.new) (O.written term.old)
+        (O.written term.new) (N.written second.old) (N.written second.new) (R.written report.old) (R.written report.new)
+        (Rose (R.faults report.old) (R.faults report.new)) (Rose (N.faults second.old) (N.faults second.new)) }
     ensures link_failed { result ≡ 4 → Rose (I.faults link.old) (I.faults link.new) }
     ensures term_failed { result ≡ 5 → Rose (O.faults term.old) (O.faults term.new) }
     ensures report_failed { result ≡ 6 → Rose (R.faults report.old) (R.faults report.new) }

@@ -32,7 +32,8 @@ fn run<T: Threads + Wait + Sync, I: Source + Send, O: Sink + Send, R: Sink, G: G
     gate: &G,
 ) -> u8
     requires few { All (λ rack. length rack.items ≤ 255) racks.items }
-    ensures ran { Ran result session.now (map (λ rack. map (λ b. told_kind (memory b)) rack.items) racks.items) (I.left link.old) (I.left link.new) (O.written term.old) (O.written term.new) (R.written report.old) (R.written report.new) (Rose (R.faults report.old) (R.faults report.new)) }
+    ensures ran { Ran result session.now (map (λ rack. map (λ b. told_kind (memory b)) rack.items) racks.items) (I.left link.old) (I.left link.new)
+        (O.written term.old) (O.written term.new) (R.written report.old) (R.written report.new) (Rose (R.faults report.old) (R.faults report.new)) }
     ensures link_failed { result ≡ 4 → Rose (I.faults link.old) (I.faults link.new) }
     ensures term_failed { result ≡ 5 → Rose (O.faults term.old) (O.faults term.new) }
     ensures report_failed { result ≡ 6 → Rose (R.faults report.old) (R.faults report.new) }
@@ -69,7 +70,9 @@ pub fn host_run<
     gate: &G,
 ) -> u8
     requires few { All (λ rack. length rack.items ≤ 255) racks.items }
-    ensures outcome { HasRun result (F.files files.old) name.now (Rose (F.faults files.old) (F.faults files.new)) (map (λ rack. map (λ b. told_kind (memory b)) rack.items) racks.items) (I.left link.old) (I.left link.new) (O.written term.old) (O.written term.new) (R.written report.old) (R.written report.new) (Rose (R.faults report.old) (R.faults report.new)) }
+    ensures outcome { HasRun result (F.files files.old) name.now (Rose (F.faults files.old) (F.faults files.new))
+        (map (λ rack. map (λ b. told_kind (memory b)) rack.items) racks.items) (I.left link.old) (I.left link.new) (O.written term.old)
+        (O.written term.new) (R.written report.old) (R.written report.new) (Rose (R.faults report.old) (R.faults report.new)) }
     ensures link_failed { result ≡ 4 → Rose (I.faults link.old) (I.faults link.new) }
     ensures term_failed { result ≡ 5 → Rose (O.faults term.old) (O.faults term.new) }
     ensures report_failed { result ≡ 6 → Rose (R.faults report.old) (R.faults report.new) }

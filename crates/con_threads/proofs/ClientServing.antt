@@ -24,7 +24,7 @@ use Rattle.con_session.specs.WorkerLaws.{leaving_may, none_pending, IsEvent}
 use Rattle.con_session.specs.declared.desk.Brief.{Brief}
 use Rattle.con_session.specs.declared.desk.Brief.TheVariants as briefs
 use Rattle.con_session.specs.declared.worker.Worker.{Worker}
-use Rattle.con_threads.specs.Clients.{ClientView, ViewGoes, IsClientThread, HasServed, IsQuiet, Proceeds, IsNext, MayExit, Rested}
+use Rattle.con_threads.specs.Clients.{ClientView, ViewGoes, IsClientThreadBy, HasServedBy, IsQuiet, Proceeds, IsNext, MayExit, Rested}
 use Rattle.con_threads.specs.Ledger.{brief_told}
 use Rattle.con_threads.specs.Scribe.{IsScribe, IsSameScribe, SeesMore, HasEntered, opened, history}
 use Rattle.con_threads.specs.ScribeLaws.{same_self, same_then, same_opened}
@@ -35,10 +35,10 @@ use Rattle.con_threads.proofs.ClientGoing.{GoingOn, script_may, goes_left, goes_
 
 -- ---- the same thread, further on
 
-pub served_same : (v : ClientView) → IsClientThread v → HasServed v v
+pub served_same : (v : ClientView) → IsClientThreadBy v → HasServedBy v v
 served_same v is = record { same = same_self v.scribe; steps = refl; number = refl; is = is; goes = λ b i k. k }
 
-pub served_then : (u v w : ClientView) → HasServed u v → HasServed v w → HasServed u w
+pub served_then : (u v w : ClientView) → HasServedBy u v → HasServedBy v w → HasServedBy u w
 served_then u v w p q = record {
   same = same_then u.scribe v.scribe w.scribe p.same q.same;
   steps = q.steps ∙ p.steps;
@@ -49,9 +49,9 @@ served_then u v w p q = record {
 
 -- what a thread is behind a turn of its scribe
 abbrev pub HasTurned : ClientView → Scribe → Type 0
-HasTurned v n = IsClientThread v × IsSameScribe v.scribe n × IsScribe n
+HasTurned v n = IsClientThreadBy v × IsSameScribe v.scribe n × IsScribe n
 
-served_by : (v w : ClientView) → HasTurned v w.scribe → w.steps ≡ v.steps → w.number ≡ v.number → ((b : Begun) → opened v.scribe ≡ b.state → ViewGoes b v → ViewGoes b w) → HasServed v w
+served_by : (v w : ClientView) → HasTurned v w.scribe → w.steps ≡ v.steps → w.number ≡ v.number → ((b : Begun) → opened v.scribe ≡ b.state → ViewGoes b v → ViewGoes b w) → HasServedBy v w
 served_by v w t steps number goes = record {
   same = t.1;
   steps = steps;
@@ -62,10 +62,10 @@ served_by v w t steps number goes = record {
 
 -- ---- more was seen
 
-of_client : (v : ClientView) (n : Scribe) → IsClientThread v → SeesMore (opened v.scribe) v.scribe.actor (history v.scribe) (history n) → SeesMore (opened v.scribe) (actors.Client v.number) (history v.scribe) (history n)
+of_client : (v : ClientView) (n : Scribe) → IsClientThreadBy v → SeesMore (opened v.scribe) v.scribe.actor (history v.scribe) (history n) → SeesMore (opened v.scribe) (actors.Client v.number) (history v.scribe) (history n)
 of_client v n is s = let P : Actor → Type 0 = λ a. SeesMore (opened v.scribe) a (history v.scribe) (history n) in subst P is.actor s
 
-pub served_sees : (v : ClientView) (n : Scribe) → HasTurned v n → SeesMore (opened v.scribe) v.scribe.actor (history v.scribe) (history n) → HasServed v (record v { scribe = n })
+pub served_sees : (v : ClientView) (n : Scribe) → HasTurned v n → SeesMore (opened v.scribe) v.scribe.actor (history v.scribe) (history n) → HasServedBy v (record v { scribe = n })
 served_sees v n t s = served_by v (record v { scribe = n }) t refl refl
     (λ b i k. goes_sees b v.number (opened v.scribe) (history v.scribe) (history n) v.steps v.broken v.worker v.places v.memories v.slots (of_client v n t.0 s) k)
 
@@ -78,7 +78,7 @@ stood_of : (b : Begun) (v : ClientView) (n : Scribe) (e : Event) (told : Told) (
 stood_of b v n e told brief i t br en k = stood b v.number (opened v.scribe) v.scribe.actor e told brief (history v.scribe) (history n) i t.0.actor br en k.stands
 
 -- nothing was pending at the end of its last entry
-none_waits : (b : Begun) (v : ClientView) → opened v.scribe ≡ b.state → IsClientThread v → ViewGoes b v → v.broken ≡ false → v.worker.gone ≡ false → IsQuiet v.scribe → (client_at b (history v.scribe) v.number).pending ≡ false
+none_waits : (b : Begun) (v : ClientView) → opened v.scribe ≡ b.state → IsClientThreadBy v → ViewGoes b v → v.broken ≡ false → v.worker.gone ≡ false → IsQuiet v.scribe → (client_at b (history v.scribe) v.number).pending ≡ false
 none_waits b v i is k f n q =
     let h = history v.scribe in
     let P : State → Type 0 = λ s. is_ready (run s h) v.scribe.actor events.TakeCtrl ≡ false in
@@ -86,7 +86,7 @@ none_waits b v i is k f n q =
     let r : is_ready (run b.state h) (actors.Client v.number) events.TakeCtrl ≡ false = subst Q is.actor (subst P i q) in
     (none_pending b v.number (run b.state h) h v.steps v.worker (record { state = refl; stands = k.stands; worker = k.worker f }) n r).1
 
-going_on : (b : Begun) (v : ClientView) → opened v.scribe ≡ b.state → IsClientThread v → ViewGoes b v → Proceeds v.scribe v.worker v.broken false → GoingOn b v.number (history v.scribe) v.steps v.worker v.places v.memories v.slots
+going_on : (b : Begun) (v : ClientView) → opened v.scribe ≡ b.state → IsClientThreadBy v → ViewGoes b v → Proceeds v.scribe v.worker v.broken false → GoingOn b v.number (history v.scribe) v.steps v.worker v.places v.memories v.slots
 going_on b v i is k p = record {
   worker = k.worker p.whole;
   here = p.here;
@@ -97,7 +97,7 @@ going_on b v i is k p = record {
 }
 
 -- an exit that it may enter
-exit_may : (b : Begun) (v : ClientView) (status : ℕ) → opened v.scribe ≡ b.state → IsClientThread v → ViewGoes b v → MayExit v.scribe v.steps v.worker v.broken status
+exit_may : (b : Begun) (v : ClientView) (status : ℕ) → opened v.scribe ≡ b.state → IsClientThreadBy v → ViewGoes b v → MayExit v.scribe v.steps v.worker v.broken status
     → (v.broken ≡ false) × MayBy (client_at b (history v.scribe) v.number).stance (client_at b (history v.scribe) v.number) (events.Exit status)
 exit_may b v status i is k m =
     let c = client_at b (history v.scribe) v.number in
@@ -109,13 +109,13 @@ exit_may b v status i is k m =
 
 pub served_left : (v : ClientView) (n : Scribe) (status : ℕ) (told : Told) (brief : Brief) (places : List ℕ) (ms : List Memory) (slots : List ℕ) → HasTurned v n
     → MayExit v.scribe v.steps v.worker v.broken status → brief ≡ brief_told told → Enters v n (events.Exit status) told → ms ≡ [] → slots ≡ []
-    → HasServed v (record v { scribe = n; worker = record v.worker { gone = true }; places = places; memories = ms; slots = slots })
+    → HasServedBy v (record v { scribe = n; worker = record v.worker { gone = true }; places = places; memories = ms; slots = slots })
 served_left v n status told brief places ms slots t m br en empty bare = served_by v (record v { scribe = n; worker = record v.worker { gone = true }; places = places; memories = ms; slots = slots }) t refl refl
     (λ b i k. let x = exit_may b v status i t.0 k m in
     goes_left b v.number status brief (history v.scribe) (history n) v.steps v.worker v.broken places ms slots (stood_of b v n (events.Exit status) told brief i t br en k) (k.worker x.0) x.1 empty bare)
 
 pub served_collected : (v : ClientView) (n : Scribe) (told : Told) (brief : Brief) → HasTurned v n → Proceeds v.scribe v.worker v.broken true
-    → brief ≡ brief_told told → Enters v n events.Collect told → HasServed v (record v { scribe = n; worker = record v.worker { reading = false } })
+    → brief ≡ brief_told told → Enters v n events.Collect told → HasServedBy v (record v { scribe = n; worker = record v.worker { reading = false } })
 served_collected v n told brief t p br en = served_by v (record v { scribe = n; worker = record v.worker { reading = false } }) t refl refl
     (λ b i k. goes_collected b v.number brief (history v.scribe) (history n) v.steps v.worker v.broken v.places v.memories v.slots (stood_of b v n events.Collect told brief i t br en k) (k.worker p.whole) p.here p.stays p.reading
     (none_waits b v i t.0 k p.whole p.here p.quiet) (k.hands p.whole p.here))
@@ -123,38 +123,38 @@ served_collected v n told brief t p br en = served_by v (record v { scribe = n; 
 pub served_took : (v : ClientView) (n : Scribe) (told : Told) (event : ℕ) (handled leaving : Bool) (now : List ℕ) (after' : List Memory) → HasTurned v n → v.broken ≡ false → v.worker.gone ≡ false → v.worker.leaving ≡ false
     → brief_told told ≡ briefs.Ctrl event → Enters v n events.TakeCtrl told → leaving ≡ ((event == 2) || not handled)
     → ((hs : List Handler) (doubtful : Bool) → HandsAreBy hs doubtful v.places v.memories → (doubtful ≡ false → handled ≡ is_handled hs event) × HandsAreBy (delivered_to hs event) doubtful now after')
-    → HasServed v (record v { scribe = n; worker = record v.worker { leaving = leaving }; places = now; memories = after' })
+    → HasServedBy v (record v { scribe = n; worker = record v.worker { leaving = leaving }; places = now; memories = after' })
 served_took v n told event handled leaving now after' t f g l br en le new = served_by v (record v { scribe = n; worker = record v.worker { leaving = leaving }; places = now; memories = after' }) t refl refl
     (λ b i k. goes_took b v.number (brief_told told) (history v.scribe) (history n) v.steps v.worker v.broken event handled leaving v.places now v.memories after' v.slots le
     (stood_of b v n events.TakeCtrl told (brief_told told) i t refl en k) br (k.worker f) g l (k.hands f g) new)
 
 pub served_took_none : (v : ClientView) (n : Scribe) (told : Told) → HasTurned v n → v.broken ≡ false → v.worker.gone ≡ false → v.worker.leaving ≡ false
-    → IsEvent (brief_told told) ≡ false → Enters v n events.TakeCtrl told → HasServed v (record v { scribe = n })
+    → IsEvent (brief_told told) ≡ false → Enters v n events.TakeCtrl told → HasServedBy v (record v { scribe = n })
 served_took_none v n told t f g l br en = served_by v (record v { scribe = n }) t refl refl
     (λ b i k. goes_took_none b v.number (brief_told told) (history v.scribe) (history n) v.steps v.worker v.broken v.places v.memories v.slots
     (stood_of b v n events.TakeCtrl told (brief_told told) i t refl en k) br (k.worker f) g l (k.hands f g))
 
 pub served_began : (v : ClientView) (n : Scribe) (wanted : Wanted) (told : Told) (brief : Brief) (reading : Bool) → HasTurned v n → Proceeds v.scribe v.worker v.broken false → IsNext v.steps v.worker (events.Begin wanted)
     → brief ≡ brief_told told → Enters v n (events.Begin wanted) told → reading ≡ not (is_refused brief)
-    → HasServed v (record v { scribe = n; worker = record v.worker { at = v.worker.at + 1; reading = reading } })
+    → HasServedBy v (record v { scribe = n; worker = record v.worker { at = v.worker.at + 1; reading = reading } })
 served_began v n wanted told brief reading t p d br en r = served_by v (record v { scribe = n; worker = record v.worker { at = v.worker.at + 1; reading = reading } }) t refl refl
     (λ b i k. goes_began b v.number wanted brief (history v.scribe) (history n) v.steps v.worker v.broken reading v.places v.memories v.slots (stood_of b v n (events.Begin wanted) told brief i t br en k) (going_on b v i t.0 k p) r d)
 
 pub served_called : (v : ClientView) (n : Scribe) (call : Call) (told : Told) (brief : Brief) → HasTurned v n → Proceeds v.scribe v.worker v.broken false → IsNext v.steps v.worker (events.Call call)
     → brief ≡ brief_told told → Enters v n (events.Call call) told → is_handlers call ≡ false
-    → HasServed v (record v { scribe = n; worker = record v.worker { at = v.worker.at + 1 } })
+    → HasServedBy v (record v { scribe = n; worker = record v.worker { at = v.worker.at + 1 } })
 served_called v n call told brief t p d br en plain = served_by v (record v { scribe = n; worker = record v.worker { at = v.worker.at + 1 } }) t refl refl
     (λ b i k. goes_called b v.number call brief (history v.scribe) (history n) v.steps v.worker v.broken v.places v.memories v.slots plain (stood_of b v n (events.Call call) told brief i t br en k) (going_on b v i t.0 k p) d)
 
 pub served_refused : (v : ClientView) (n : Scribe) (call : Call) (told : Told) (brief : Brief) → HasTurned v n → Proceeds v.scribe v.worker v.broken false → IsNext v.steps v.worker (events.Call call)
     → brief ≡ brief_told told → Enters v n (events.Call call) told → false ≡ not (is_refused brief)
-    → HasServed v (record v { scribe = n; worker = record v.worker { at = v.worker.at + 1 } })
+    → HasServedBy v (record v { scribe = n; worker = record v.worker { at = v.worker.at + 1 } })
 served_refused v n call told brief t p d br en refused = served_by v (record v { scribe = n; worker = record v.worker { at = v.worker.at + 1 } }) t refl refl
     (λ b i k. goes_refused b v.number call brief (history v.scribe) (history n) v.steps v.worker v.broken v.places v.memories v.slots refused (stood_of b v n (events.Call call) told brief i t br en k) (going_on b v i t.0 k p) d)
 
 pub served_broken : (v : ClientView) (n : Scribe) (call : Call) (told : Told) (brief : Brief) (now : List ℕ) (after' : List Memory) (left : List ℕ) → HasTurned v n → Proceeds v.scribe v.worker v.broken false → IsNext v.steps v.worker (events.Call call)
     → brief ≡ brief_told told → Enters v n (events.Call call) told
-    → HasServed v (record v { scribe = n; broken = true; worker = record v.worker { at = v.worker.at + 1 }; places = now; memories = after'; slots = left })
+    → HasServedBy v (record v { scribe = n; broken = true; worker = record v.worker { at = v.worker.at + 1 }; places = now; memories = after'; slots = left })
 served_broken v n call told brief now after' left t p d br en = served_by v (record v { scribe = n; broken = true; worker = record v.worker { at = v.worker.at + 1 }; places = now; memories = after'; slots = left }) t refl refl
     (λ b i k. goes_broken b v.number call brief (history v.scribe) (history n) v.steps v.worker v.places now v.memories after' v.slots left (stood_of b v n (events.Call call) told brief i t br en k) (going_on b v i t.0 k p) d)
 
@@ -162,14 +162,14 @@ pub served_added : (v : ClientView) (n : Scribe) (place : ℕ) (told : Told) (br
     → brief ≡ brief_told told → Enters v n (events.Call (calls.HandlerAdd place)) told → true ≡ not (is_refused brief)
     → ((hs : List Handler) (doubtful : Bool) → HandsAreBy hs doubtful v.places v.memories → HandsAreBy (with_handler hs place (get_or v.slots place 0)) (if get_or v.slots place 0 == 0 then true else doubtful) now after')
     → ((i : ℕ) → (i == place) ≡ false → get_or left i 0 ≡ get_or v.slots i 0)
-    → HasServed v (record v { scribe = n; worker = record v.worker { at = v.worker.at + 1 }; places = now; memories = after'; slots = left })
+    → HasServedBy v (record v { scribe = n; worker = record v.worker { at = v.worker.at + 1 }; places = now; memories = after'; slots = left })
 served_added v n place told brief now after' left t p d br en granted new same = served_by v (record v { scribe = n; worker = record v.worker { at = v.worker.at + 1 }; places = now; memories = after'; slots = left }) t refl refl
     (λ b i k. goes_added b v.number place brief (history v.scribe) (history n) v.steps v.worker v.broken v.places now v.memories after' v.slots left granted (stood_of b v n (events.Call (calls.HandlerAdd place)) told brief i t br en k) (going_on b v i t.0 k p) d new same)
 
 pub served_removed : (v : ClientView) (n : Scribe) (place : ℕ) (told : Told) (brief : Brief) (now : List ℕ) (after' : List Memory) → HasTurned v n → Proceeds v.scribe v.worker v.broken false → IsNext v.steps v.worker (events.Call (calls.HandlerRemove place))
     → brief ≡ brief_told told → Enters v n (events.Call (calls.HandlerRemove place)) told → true ≡ not (is_refused brief)
     → ((hs : List Handler) (doubtful : Bool) → stand_once (places_in hs) ≡ true → HandsAreBy hs doubtful v.places v.memories → HandsAreBy (without_handler hs place) doubtful now after')
-    → HasServed v (record v { scribe = n; worker = record v.worker { at = v.worker.at + 1 }; places = now; memories = after' })
+    → HasServedBy v (record v { scribe = n; worker = record v.worker { at = v.worker.at + 1 }; places = now; memories = after' })
 served_removed v n place told brief now after' t p d br en granted new = served_by v (record v { scribe = n; worker = record v.worker { at = v.worker.at + 1 }; places = now; memories = after' }) t refl refl
     (λ b i k. goes_removed b v.number place brief (history v.scribe) (history n) v.steps v.worker v.broken v.places now v.memories after' v.slots granted (stood_of b v n (events.Call (calls.HandlerRemove place)) told brief i t br en k) (going_on b v i t.0 k p) d new)
 
@@ -190,7 +190,7 @@ proceeds v w c d reads s r f g l o = record {
 pub none_mapped : {A B : Type 0} (f : A → B) (xs : List A) → xs ≡ [] → map f xs ≡ []
 none_mapped f xs e = ap (λ ys. map f ys) e
 
-pub ready_for : (v : ClientView) (e : Event) → IsClientThread v → ((s : State) → is_ready s (actors.Client v.number) e ≡ true) → (s : State) → is_ready s v.scribe.actor e ≡ true
+pub ready_for : (v : ClientView) (e : Event) → IsClientThreadBy v → ((s : State) → is_ready s (actors.Client v.number) e ≡ true) → (s : State) → is_ready s v.scribe.actor e ≡ true
 ready_for v e is r = λ s. ap (λ (a : Actor). is_ready s a e) is.actor ∙ r s
 
 -- ---- the next step

@@ -24,7 +24,7 @@ use Rattle.con_book.specs.Lock.{gave, newcomer}
 use Rattle.con_book.specs.Passes.{BookId, pass_id, view_of}
 use Rattle.con_book.specs.declared.machine.Machine.{Ghosts}
 use Rattle.con_book.specs.declared.pass.Pass.{Pass}
-use Rattle.con_threads.specs.Clients.{ClientGoes, ClientView, HasServed, IsClientThread, ViewGoes}
+use Rattle.con_threads.specs.Clients.{ClientGoes, ClientView, HasServedBy, IsClientThreadBy, ViewGoes}
 use Rattle.con_threads.specs.Crews.{AllServed, AreNew, Begins, Belongs, CrewGoes, IsAt, IsCrew, IsOpening, down_from}
 use Rattle.con_threads.specs.Scribe.{IsSameScribe, IsScribe, history}
 use Rattle.con_threads.specs.declared.ledger.Page.{Page}
@@ -84,15 +84,15 @@ module _ {C : Type 0} (view : C → ClientView) (id : BookId) (start : Page) whe
   new_belongs scripts cs all = λ k c e. let b = (all k c e).2 in record { at = b.at; number' = b.number'; is = b.is }
 
   -- and still does when it has returned
-  pub served_belongs : (k : ℕ) (v w : ClientView) → Belongs id start k v → HasServed v w → Belongs id start k w
+  pub served_belongs : (k : ℕ) (v w : ClientView) → Belongs id start k v → HasServedBy v w → Belongs id start k w
   served_belongs k v w b h = record { at = served_at id start (k + 1) v.scribe w.scribe b.at h.same; number' = h.number ∙ b.number'; is = h.is }
 
   -- a client that returned, and what it was before
-  pub served_one : (os cs : List C) (k : ℕ) (c : C) → AllServed view os cs → slice_get cs k ≡ Some c → (o : C) × (slice_get os k ≡ Some o) × HasServed (view o) (view c)
+  pub served_one : (os cs : List C) (k : ℕ) (c : C) → AllServed view os cs → slice_get cs k ≡ Some c → (o : C) × (slice_get os k ≡ Some o) × HasServedBy (view o) (view c)
   served_one os cs k c all is =
       let inside : k < length cs = slice_get_within cs k c is in
       let lt : k < length os = let e = all.len in omega arith in
-      (get_or os k c, slice_get-get_or os k c lt, subst (λ (z : C). HasServed (view (get_or os k c)) (view z)) (get_or_from_slice_get cs k c c is) (all.each k c lt))
+      (get_or os k c, slice_get-get_or os k c lt, subst (λ (z : C). HasServedBy (view (get_or os k c)) (view z)) (get_or_from_slice_get cs k c c is) (all.each k c lt))
 
   pub served_crew : (os cs : List C) → AllServed view os cs → IsCrew view id start os → IsCrew view id start cs
   served_crew os cs all crew = λ k c is. let (o, at, h) = served_one os cs k c all is in served_belongs k (view o) (view c) (crew k o at) h
@@ -101,7 +101,7 @@ module _ {C : Type 0} (view : C → ClientView) (id : BookId) (start : Page) whe
   served_goes b os cs e all crew goes = λ k c is. let (o, at, h) = served_one os cs k c all is in h.goes b (ap (λ (p : Page). p.state) (crew k o at).at.begins ∙ e) (goes k o at)
 
   -- they may work
-  pub crew_works : (cs : List C) → IsCrew view id start cs → All (λ c. (pass_id (view c).scribe.pass ≡ id) × IsClientThread (view c)) cs
+  pub crew_works : (cs : List C) → IsCrew view id start cs → All (λ c. (pass_id (view c).scribe.pass ≡ id) × IsClientThreadBy (view c)) cs
   crew_works cs crew k d lt = let b = crew k (get_or cs k d) (slice_get-get_or cs k d lt) in (b.at.book, b.is)
 
   pub crew_books : (cs : List C) → IsCrew view id start cs → All (λ c. pass_id (view c).scribe.pass ≡ id) cs
@@ -218,8 +218,8 @@ module _ {M R A Room : Type 0} {g : Ghosts M Page Event R A Room} where
 
 -- ---- while they run
 
-pub served_as : {C : Type 0} (view : C → ClientView) (x y a b : C) → x ≡ a → y ≡ b → HasServed (view x) (view y) → HasServed (view a) (view b)
-served_as {C} view x y a b p q h = subst (λ (z : C × C). HasServed (view z.0) (view z.1)) (λ i. (p i, q i)) h
+pub served_as : {C : Type 0} (view : C → ClientView) (x y a b : C) → x ≡ a → y ≡ b → HasServedBy (view x) (view y) → HasServedBy (view a) (view b)
+served_as {C} view x y a b p q h = subst (λ (z : C × C). HasServedBy (view z.0) (view z.1)) (λ i. (p i, q i)) h
 
 rest_none : {C : Type 0} (xs : List C) (n : ℕ) → n ≡ length xs → drop n xs ≡ []
 rest_none xs n is = drop_all n xs (omega arith)

@@ -5,15 +5,18 @@ use Rattle.con_events.specs.declared.entry.Entry.{Entry}
 use Rattle.con_events.specs.declared.event.Event.{Event}
 use Rattle.con_events.specs.declared.event.Event.TheVariants as events
 use Rattle.con_events.specs.declared.script.Step.{Step}
+use Rattle.con_handlers.specs.Boxes.{Recalls, boxed}
 use Rattle.con_handlers.specs.Memory.{Memory}
 use Rattle.con_machine.specs.Client.{next_event, ctrl_exit}
 use Rattle.con_machine.specs.History.{run}
 use Rattle.con_machine.specs.Rounds.{Begun, client_at}
 use Rattle.con_machine.specs.Step.{is_ready}
+use Rattle.con_session.specs.Held.{in_chain, in_rack}
 use Rattle.con_session.specs.Standing.{ClientStands}
 use Rattle.con_session.specs.Worker.{IsWorker, HandsStandBy}
 use Rattle.con_session.specs.declared.worker.Worker.{Worker}
 use Rattle.con_threads.specs.Scribe.{IsScribe, IsSameScribe, opened, history}
+use Rattle.con_threads.specs.declared.client.ClientThread.{ClientThread}
 use Rattle.con_threads.specs.declared.scribe.Scribe.{Scribe}
 
 -- Client p, as far as its thread has seen the history: it follows its script, and its thread keeps it as it is. Where the thread had
@@ -38,19 +41,38 @@ pub record ClientView : Type 0 where
 abbrev pub ViewGoes : Begun → ClientView → Type 0
 ViewGoes b v = ClientGoes b v.number (history v.scribe) v.steps v.broken v.worker v.places v.memories v.slots
 
+-- the same of a client's thread, by what its handlers remember
+abbrev pub seen_of : {X : Type 0} {V : X → Type 0} → Recalls X V → ClientThread X V → ClientView
+seen_of memory c = record {
+  scribe = c.scribe;
+  steps = c.steps.now;
+  number = c.number;
+  broken = c.broken;
+  worker = c.seat.worker;
+  places = c.seat.hands.places.items;
+  memories = in_chain (boxed memory) c.seat.hands;
+  slots = in_rack (boxed memory) c.seat.hands;
+}
+
 -- what a client's thread always is
-pub record IsClientThread (v : ClientView) : Type 0 where
+pub record IsClientThreadBy (v : ClientView) : Type 0 where
   pub scribe : IsScribe v.scribe
   pub actor : v.scribe.actor ≡ actors.Client v.number
   pub real : 1 ≤ v.number
 
 -- the same client, which has followed its script further
-pub record HasServed (v w : ClientView) : Type 0 where
+pub record HasServedBy (v w : ClientView) : Type 0 where
   pub same : IsSameScribe v.scribe w.scribe
   pub steps : w.steps ≡ v.steps
   pub number : w.number ≡ v.number
-  pub is : IsClientThread w
+  pub is : IsClientThreadBy w
   pub goes : (b : Begun) → opened v.scribe ≡ b.state → ViewGoes b v → ViewGoes b w
+
+abbrev pub IsClientThread : {X : Type 0} {V : X → Type 0} → Recalls X V → ClientThread X V → Type 0
+IsClientThread memory c = IsClientThreadBy (seen_of memory c)
+
+abbrev pub HasServed : {X : Type 0} {V : X → Type 0} → Recalls X V → ClientThread X V → ClientThread X V → Type 0
+HasServed memory old new = HasServedBy (seen_of memory old) (seen_of memory new)
 
 -- ---- between two events of a turn
 

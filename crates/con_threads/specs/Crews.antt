@@ -5,7 +5,7 @@ use Rattle.con_machine.specs.Rounds.{Begun}
 use Rattle.con_book.specs.Passes.{BookId, pass_id, view_of, actor_of}
 use Rattle.con_book.specs.declared.machine.Machine.{Ghosts}
 use Rattle.con_book.specs.declared.pass.Pass.{Pass}
-use Rattle.con_threads.specs.Clients.{ClientView, ViewGoes, IsClientThread, HasServed}
+use Rattle.con_threads.specs.Clients.{ClientView, ViewGoes, IsClientThreadBy, HasServedBy}
 use Rattle.con_threads.specs.Scribe.{history}
 use Rattle.con_threads.specs.declared.ledger.Page.{Page}
 use Rattle.con_threads.specs.declared.scribe.Scribe.{Scribe}
@@ -21,7 +21,7 @@ pub record IsAt (id : BookId) (start : Page) (number : ℕ) (s : Scribe) : Type 
 pub record Begins (id : BookId) (start : Page) (script : Script) (number : ℕ) (v : ClientView) : Type 0 where
   pub at : IsAt id start number v.scribe
   pub number' : v.number ≡ number
-  pub is : IsClientThread v
+  pub is : IsClientThreadBy v
   pub steps' : v.steps ≡ script.steps
   pub whole : v.broken ≡ false
   pub none : history v.scribe ≡ []
@@ -30,7 +30,7 @@ pub record Begins (id : BookId) (start : Page) (script : Script) (number : ℕ) 
 pub record Belongs (id : BookId) (start : Page) (k : ℕ) (v : ClientView) : Type 0 where
   pub at : IsAt id start (k + 1) v.scribe
   pub number' : v.number ≡ k + 1
-  pub is : IsClientThread v
+  pub is : IsClientThreadBy v
 
 module _ {C : Type 0} (view : C → ClientView) where
   -- each is the client of its place, and has done nothing
@@ -47,7 +47,7 @@ module _ {C : Type 0} (view : C → ClientView) where
   -- each was at work
   pub record AllServed (old new : List C) : Type 0 where
     pub len : length new ≡ length old
-    pub each : (i : ℕ) (d : C) → i < length old → HasServed (view (get_or old i d)) (view (get_or new i d))
+    pub each : (i : ℕ) (d : C) → i < length old → HasServedBy (view (get_or old i d)) (view (get_or new i d))
 
 -- n, n - 1, .. 1
 abbrev pub down_from : ℕ → List ℕ

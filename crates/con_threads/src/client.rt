@@ -1,8 +1,6 @@
 //! A client's thread.
 ghost use Rattle.std.specs.Prelude.{◌≡◌, ◌≤◌, true, false, [], length, map, IfOk};
-ghost use Rattle.std.specs.Option.{option_map};
 ghost use Rattle.con_book.specs.Passes.{book_id, pass_id};
-ghost use Rattle.con_session.specs.Worker.{told_in};
 ghost use Rattle.con_threads.specs.Clients.{HasServed, IsClientThread, MayExit, Proceeds, Rested};
 ghost use Rattle.con_threads.specs.Ledger.{brief_told};
 
@@ -64,9 +62,9 @@ impl ClientThread<'_> {
         status: u32,
     ) -> Result<(), OutOfMemory>
         requires book { pass_id self.old.scribe.pass ≡ book_id book.now }
-        requires is { IsClientThread (record { scribe = self.old.scribe; steps = self.old.steps.now; number = self.old.number; broken = self.old.broken; worker = self.old.seat.worker; places = self.old.seat.hands.places.items; memories = map (λ b. memory (b.vtable, b.value)) self.old.seat.hands.chain.handlers.items; slots = map (λ o. told_in (option_map (λ b. memory (b.vtable, b.value)) o)) self.old.seat.hands.rack.items }) }
+        requires is { IsClientThread memory self.old }
         requires may { MayExit self.old.scribe self.old.steps.now self.old.seat.worker self.old.broken status }
-        ensures served { HasServed (record { scribe = self.old.scribe; steps = self.old.steps.now; number = self.old.number; broken = self.old.broken; worker = self.old.seat.worker; places = self.old.seat.hands.places.items; memories = map (λ b. memory (b.vtable, b.value)) self.old.seat.hands.chain.handlers.items; slots = map (λ o. told_in (option_map (λ b. memory (b.vtable, b.value)) o)) self.old.seat.hands.rack.items }) (record { scribe = self.new.scribe; steps = self.new.steps.now; number = self.new.number; broken = self.new.broken; worker = self.new.seat.worker; places = self.new.seat.hands.places.items; memories = map (λ b. memory (b.vtable, b.value)) self.new.seat.hands.chain.handlers.items; slots = map (λ o. told_in (option_map (λ b. memory (b.vtable, b.value)) o)) self.new.seat.hands.rack.items }) }
+        ensures served { HasServed memory self.old self.new }
     {
         let told = self.scribe.enter(rt, book, Event::Exit(status))?;
         brief_in(told);
@@ -78,12 +76,13 @@ impl ClientThread<'_> {
     /// Takes a control event that is pending, and asks its handlers outside the lock. False: none is pending.
     pub fn take<R: Wait>(&mut self, rt: &R, book: &Book<Ledger>) -> Result<bool, OutOfMemory>
         requires book { pass_id self.old.scribe.pass ≡ book_id book.now }
-        requires is { IsClientThread (record { scribe = self.old.scribe; steps = self.old.steps.now; number = self.old.number; broken = self.old.broken; worker = self.old.seat.worker; places = self.old.seat.hands.places.items; memories = map (λ b. memory (b.vtable, b.value)) self.old.seat.hands.chain.handlers.items; slots = map (λ o. told_in (option_map (λ b. memory (b.vtable, b.value)) o)) self.old.seat.hands.rack.items }) }
+        requires is { IsClientThread memory self.old }
         requires whole { self.old.broken ≡ false }
         requires here { self.old.seat.worker.gone ≡ false }
         requires stays { self.old.seat.worker.leaving ≡ false }
-        ensures served { HasServed (record { scribe = self.old.scribe; steps = self.old.steps.now; number = self.old.number; broken = self.old.broken; worker = self.old.seat.worker; places = self.old.seat.hands.places.items; memories = map (λ b. memory (b.vtable, b.value)) self.old.seat.hands.chain.handlers.items; slots = map (λ o. told_in (option_map (λ b. memory (b.vtable, b.value)) o)) self.old.seat.hands.rack.items }) (record { scribe = self.new.scribe; steps = self.new.steps.now; number = self.new.number; broken = self.new.broken; worker = self.new.seat.worker; places = self.new.seat.hands.places.items; memories = map (λ b. memory (b.vtable, b.value)) self.new.seat.hands.chain.handlers.items; slots = map (λ o. told_in (option_map (λ b. memory (b.vtable, b.value)) o)) self.new.seat.hands.rack.items }) }
-        ensures none { IfOk result (λ taken. taken ≡ false → Rested self.old.seat.worker self.new.seat.worker self.old.broken self.new.broken self.new.scribe) }
+        ensures served { HasServed memory self.old self.new }
+        ensures none { IfOk result (λ taken. taken ≡ false
+            → Rested self.old.seat.worker self.new.seat.worker self.old.broken self.new.broken self.new.scribe) }
     {
         let Some(told) = self.scribe.enter_if_ready(rt, book, Event::TakeCtrl)? else {
             return Ok(false);
@@ -102,9 +101,9 @@ impl ClientThread<'_> {
     /// The answer of its read, once that is done.
     pub fn collect<R: Wait>(&mut self, rt: &R, book: &Book<Ledger>) -> Result<Moved, OutOfMemory>
         requires book { pass_id self.old.scribe.pass ≡ book_id book.now }
-        requires is { IsClientThread (record { scribe = self.old.scribe; steps = self.old.steps.now; number = self.old.number; broken = self.old.broken; worker = self.old.seat.worker; places = self.old.seat.hands.places.items; memories = map (λ b. memory (b.vtable, b.value)) self.old.seat.hands.chain.handlers.items; slots = map (λ o. told_in (option_map (λ b. memory (b.vtable, b.value)) o)) self.old.seat.hands.rack.items }) }
+        requires is { IsClientThread memory self.old }
         requires goes { Proceeds self.old.scribe self.old.seat.worker self.old.broken true }
-        ensures served { HasServed (record { scribe = self.old.scribe; steps = self.old.steps.now; number = self.old.number; broken = self.old.broken; worker = self.old.seat.worker; places = self.old.seat.hands.places.items; memories = map (λ b. memory (b.vtable, b.value)) self.old.seat.hands.chain.handlers.items; slots = map (λ o. told_in (option_map (λ b. memory (b.vtable, b.value)) o)) self.old.seat.hands.rack.items }) (record { scribe = self.new.scribe; steps = self.new.steps.now; number = self.new.number; broken = self.new.broken; worker = self.new.seat.worker; places = self.new.seat.hands.places.items; memories = map (λ b. memory (b.vtable, b.value)) self.new.seat.hands.chain.handlers.items; slots = map (λ o. told_in (option_map (λ b. memory (b.vtable, b.value)) o)) self.new.seat.hands.rack.items }) }
+        ensures served { HasServed memory self.old self.new }
     {
         let Some(told) = self.scribe.enter_if_ready(rt, book, Event::Collect)? else {
             return Ok(Moved::Waits);
@@ -123,8 +122,8 @@ impl ClientThread<'_> {
         gate: &G,
     ) -> Result<Moved, OutOfMemory>
         requires book { pass_id self.old.scribe.pass ≡ book_id book.now }
-        requires is { IsClientThread (record { scribe = self.old.scribe; steps = self.old.steps.now; number = self.old.number; broken = self.old.broken; worker = self.old.seat.worker; places = self.old.seat.hands.places.items; memories = map (λ b. memory (b.vtable, b.value)) self.old.seat.hands.chain.handlers.items; slots = map (λ o. told_in (option_map (λ b. memory (b.vtable, b.value)) o)) self.old.seat.hands.rack.items }) }
-        ensures served { HasServed (record { scribe = self.old.scribe; steps = self.old.steps.now; number = self.old.number; broken = self.old.broken; worker = self.old.seat.worker; places = self.old.seat.hands.places.items; memories = map (λ b. memory (b.vtable, b.value)) self.old.seat.hands.chain.handlers.items; slots = map (λ o. told_in (option_map (λ b. memory (b.vtable, b.value)) o)) self.old.seat.hands.rack.items }) (record { scribe = self.new.scribe; steps = self.new.steps.now; number = self.new.number; broken = self.new.broken; worker = self.new.seat.worker; places = self.new.seat.hands.places.items; memories = map (λ b. memory (b.vtable, b.value)) self.new.seat.hands.chain.handlers.items; slots = map (λ o. told_in (option_map (λ b. memory (b.vtable, b.value)) o)) self.new.seat.hands.rack.items }) }
+        requires is { IsClientThread memory self.old }
+        ensures served { HasServed memory self.old self.new }
     {
         if self.broken {
             return Err(OutOfMemory);
@@ -155,8 +154,8 @@ impl ClientThread<'_> {
         gate: &G,
     )
         requires book { pass_id self.old.scribe.pass ≡ book_id book.now }
-        requires is { IsClientThread (record { scribe = self.old.scribe; steps = self.old.steps.now; number = self.old.number; broken = self.old.broken; worker = self.old.seat.worker; places = self.old.seat.hands.places.items; memories = map (λ b. memory (b.vtable, b.value)) self.old.seat.hands.chain.handlers.items; slots = map (λ o. told_in (option_map (λ b. memory (b.vtable, b.value)) o)) self.old.seat.hands.rack.items }) }
-        ensures served { HasServed (record { scribe = self.old.scribe; steps = self.old.steps.now; number = self.old.number; broken = self.old.broken; worker = self.old.seat.worker; places = self.old.seat.hands.places.items; memories = map (λ b. memory (b.vtable, b.value)) self.old.seat.hands.chain.handlers.items; slots = map (λ o. told_in (option_map (λ b. memory (b.vtable, b.value)) o)) self.old.seat.hands.rack.items }) (record { scribe = self.new.scribe; steps = self.new.steps.now; number = self.new.number; broken = self.new.broken; worker = self.new.seat.worker; places = self.new.seat.hands.places.items; memories = map (λ b. memory (b.vtable, b.value)) self.new.seat.hands.chain.handlers.items; slots = map (λ o. told_in (option_map (λ b. memory (b.vtable, b.value)) o)) self.new.seat.hands.rack.items }) }
+        requires is { IsClientThread memory self.old }
+        ensures served { HasServed memory self.old self.new }
     {
         for _ in rt.forever() {
             let mark = signals.bell.mark();
@@ -185,8 +184,8 @@ impl ClientThread<'_> {
         gate: &G,
     )
         requires book { pass_id self.old.scribe.pass ≡ book_id book.now }
-        requires is { IsClientThread (record { scribe = self.old.scribe; steps = self.old.steps.now; number = self.old.number; broken = self.old.broken; worker = self.old.seat.worker; places = self.old.seat.hands.places.items; memories = map (λ b. memory (b.vtable, b.value)) self.old.seat.hands.chain.handlers.items; slots = map (λ o. told_in (option_map (λ b. memory (b.vtable, b.value)) o)) self.old.seat.hands.rack.items }) }
-        ensures served { HasServed (record { scribe = self.old.scribe; steps = self.old.steps.now; number = self.old.number; broken = self.old.broken; worker = self.old.seat.worker; places = self.old.seat.hands.places.items; memories = map (λ b. memory (b.vtable, b.value)) self.old.seat.hands.chain.handlers.items; slots = map (λ o. told_in (option_map (λ b. memory (b.vtable, b.value)) o)) self.old.seat.hands.rack.items }) (record { scribe = self.new.scribe; steps = self.new.steps.now; number = self.new.number; broken = self.new.broken; worker = self.new.seat.worker; places = self.new.seat.hands.places.items; memories = map (λ b. memory (b.vtable, b.value)) self.new.seat.hands.chain.handlers.items; slots = map (λ o. told_in (option_map (λ b. memory (b.vtable, b.value)) o)) self.new.seat.hands.rack.items }) }
+        requires is { IsClientThread memory self.old }
+        ensures served { HasServed memory self.old self.new }
     {
         signals.wait_for_all(rt);
         self.act_all(rt, book, signals, gate);

@@ -1,18 +1,17 @@
 //! The end of a session whose threads have returned.
 ghost use Rattle.std.specs.Prelude.{◌≡◌, ◌≢◌, ◌⊎◌, ◌≤◌, ℕ, ◌∷◌, true, false, [], List, Option, None, length, map, All};
-ghost use Rattle.std.specs.Option.{option_map};
 ghost use Rattle.con_outside.specs.Outside.{Rose};
 ghost use Rattle.con_events.specs.Session.{Clients};
 ghost use Rattle.con_machine.specs.Follows.{begun};
 ghost use Rattle.con_session.specs.Outcome.{Leaves};
 ghost use Rattle.con_session.specs.Solo.{begins, end_by};
-ghost use Rattle.con_session.specs.Worker.{told_in};
 ghost use Rattle.con_book.specs.Lock.{joined};
 ghost use Rattle.con_book.specs.Passes.{book_id, pass_id, view_of};
 ghost use Rattle.con_book.specs.Turn.{OwnIsMine};
 ghost use Rattle.con_book.specs.declared.view.View.{View};
 ghost use Rattle.con_events.specs.declared.event.Event.{Event};
 ghost use Rattle.con_threads.specs.declared.ledger.Page.{Page};
+ghost use Rattle.con_threads.specs.Clients.{seen_of};
 ghost use Rattle.con_threads.specs.Crews.{CrewGoes};
 ghost use Rattle.con_threads.specs.Session.{AreBack, EdgesGo};
 ghost use Rattle.con_threads.specs.Taking.{HasTaken, Covers, IsGathered, IsHistory, MayClose, kept_all};
@@ -79,7 +78,9 @@ fn end_for(failed: bool, end: End) -> End
 // What a closed book leaves, with the ends of the frames.
 fn left(book: Book<Ledger>, opening: Pass<Ledger>, painter: PainterThread, end: End) -> Outcome
     requires { MayClose (book_id book) opening painter.scribe.pass }
-    ensures history { (n : ℕ) (side : View Page Event) (clients : List (View Page Event)) → IsGathered (book_id book) (view_of opening).start n opening painter.scribe.pass side clients → IsHistory (view_of opening).start n (view_of painter.scribe.pass) side clients result.entries result.replies }
+    ensures history { (n : ℕ) (side : View Page Event) (clients : List (View Page Event))
+        → IsGathered (book_id book) (view_of opening).start n opening painter.scribe.pass side clients
+        → IsHistory (view_of opening).start n (view_of painter.scribe.pass) side clients result.entries result.replies }
     ensures ends { result.ends ≡ painter.ends.items }
     ensures end { result.end ≡ end }
 {
@@ -111,12 +112,15 @@ pub fn finished<R: Wait, O: Sink>(
     term: &mut O,
     clients: usize,
 ) -> Outcome
-    requires back { AreBack (λ c. record { scribe = c.scribe; steps = c.steps.now; number = c.number; broken = c.broken; worker = c.seat.worker; places = c.seat.hands.places.items; memories = map (λ b. memory (b.vtable, b.value)) c.seat.hands.chain.handlers.items; slots = map (λ o. told_in (option_map (λ b. memory (b.vtable, b.value)) o)) c.seat.hands.rack.items }) (book_id book) clients opening edges.side edges.painter edges.put edges.writer crew.items }
-    ensures outcome { (session : Clients) (racks : List (List ℕ)) (before left old : Option (List ℕ)) → (view_of opening).start.state ≡ begun session racks → length session.scripts ≡ clients
-        → EdgesGo (begins session racks None) before left old (O.written term.old) edges.side edges.painter edges.put edges.writer → CrewGoes (λ c. record { scribe = c.scribe; steps = c.steps.now; number = c.number; broken = c.broken; worker = c.seat.worker; places = c.seat.hands.places.items; memories = map (λ b. memory (b.vtable, b.value)) c.seat.hands.chain.handlers.items; slots = map (λ o. told_in (option_map (λ b. memory (b.vtable, b.value)) o)) c.seat.hands.rack.items }) (begins session racks None) crew.entry.items
+    requires back { AreBack (seen_of memory) (book_id book) clients opening edges.side edges.painter edges.put edges.writer crew.items }
+    ensures outcome { (session : Clients) (racks : List (List ℕ)) (before left old : Option (List ℕ))
+        → (view_of opening).start.state ≡ begun session racks → length session.scripts ≡ clients
+        → EdgesGo (begins session racks None) before left old (O.written term.old) edges.side edges.painter edges.put edges.writer
+        → CrewGoes (seen_of memory) (begins session racks None) crew.entry.items
         → Leaves session racks result.entries result.replies result.ends result.end before left old (O.written term.new) }
     ensures link { result.end ≡ End.Link → edges.side.side.end ≡ End.Link }
-    ensures term { result.end ≡ End.Term → (edges.writer.failed ≡ true) ⊎ Rose (O.faults term.old) (O.faults term.new) ⊎ ((edges.side.side.end ≡ End.Term) × (edges.side.broken ≡ false)) }
+    ensures term { result.end ≡ End.Term → (edges.writer.failed ≡ true)
+        ⊎ Rose (O.faults term.old) (O.faults term.new) ⊎ ((edges.side.side.end ≡ End.Term) × (edges.side.broken ≡ false)) }
     ensures never_falls { O.faults term.old ≤ O.faults term.new }
 {
     let _clients = clients;

@@ -1,9 +1,8 @@
 //! The clients of a session, before they run.
 ghost use Rattle.std.specs.Prelude.{◌≡◌, ◌<◌, ◌≤◌, ◌+◌, true, [], IfOk, length, map, vec_len, All};
-ghost use Rattle.std.specs.Option.{option_map};
-ghost use Rattle.con_session.specs.Worker.{told_in};
 ghost use Rattle.con_book.specs.Lock.{gave};
 ghost use Rattle.con_book.specs.Passes.{book_id, pass_id, view_of, made, seen};
+ghost use Rattle.con_threads.specs.Clients.{seen_of};
 ghost use Rattle.con_threads.specs.Crews.{AreNew, Begins, IsOpening, down_from};
 
 use crate::client::ClientThread;
@@ -30,7 +29,7 @@ fn client<'a>(
     ensures book { pass_id opening.new ≡ pass_id opening.old }
     ensures opening { view_of opening.new ≡ gave number (view_of opening.old) }
     ensures seat { result.seat ≡ seat }
-    ensures client { Begins (pass_id opening.old) (view_of opening.old).start script.now number (record { scribe = result.scribe; steps = result.steps.now; number = result.number; broken = result.broken; worker = result.seat.worker; places = result.seat.hands.places.items; memories = map (λ b. memory (b.vtable, b.value)) result.seat.hands.chain.handlers.items; slots = map (λ o. told_in (option_map (λ b. memory (b.vtable, b.value)) o)) result.seat.hands.rack.items }) }
+    ensures client { Begins (pass_id opening.old) (view_of opening.old).start script.now number (seen_of memory result) }
 {
     ClientThread {
         scribe: Scribe::new(book, opening, number as u32, Actor::Client(number)),
@@ -55,7 +54,7 @@ pub fn crew<'a>(
     requires scripts { length seats.items ≡ length scripts.now }
     ensures len { IfOk result (λ crew. vec_len crew ≡ length scripts.now) }
     ensures seats { IfOk result (λ crew. map (λ c. c.seat) crew.items ≡ seats.items) }
-    ensures crew { IfOk result (λ crew. AreNew (λ c. record { scribe = c.scribe; steps = c.steps.now; number = c.number; broken = c.broken; worker = c.seat.worker; places = c.seat.hands.places.items; memories = map (λ b. memory (b.vtable, b.value)) c.seat.hands.chain.handlers.items; slots = map (λ o. told_in (option_map (λ b. memory (b.vtable, b.value)) o)) c.seat.hands.rack.items }) (book_id book.now) (view_of opening.old).start scripts.now crew.items) }
+    ensures crew { IfOk result (λ crew. AreNew (seen_of memory) (book_id book.now) (view_of opening.old).start scripts.now crew.items) }
     ensures opening { IfOk result (λ _. IsOpening (book_id book.now) (view_of opening.old).start (down_from (length scripts.now)) opening.new) }
 {
     let Ok(mut crew) = Vec::with_capacity(alloc, seats.len()) else {

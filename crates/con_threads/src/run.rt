@@ -1,12 +1,10 @@
 //! Running the threads of a session. None begins before all are made.
 ghost use Rattle.std.specs.Prelude.{◌≡◌, ◌⊎◌, ◌≤◌, false, map, All};
-ghost use Rattle.std.specs.Option.{option_map};
 ghost use Rattle.con_outside.specs.Outside.{Rose};
 ghost use Rattle.con_events.specs.declared.end.End.{End};
-ghost use Rattle.con_session.specs.Worker.{told_in};
 ghost use Rattle.con_pipe.specs.Ends.{is_finished};
 ghost use Rattle.con_book.specs.Passes.{book_id, pass_id};
-ghost use Rattle.con_threads.specs.Clients.{IsClientThread, HasServed};
+ghost use Rattle.con_threads.specs.Clients.{IsClientThread, HasServed, seen_of};
 ghost use Rattle.con_threads.specs.Crews.{AllServed};
 ghost use Rattle.con_threads.specs.Painters.{IsPainterThread, HasDrawn};
 ghost use Rattle.con_threads.specs.Sides.{IsSideThread, HasSentOn};
@@ -48,7 +46,8 @@ fn run_painter<R: Threads + Wait + Sync, O: Sink + Send>(
         ensures { HasDrawn painter.entry.now painter.exit.now put.entry.now put.exit.now }
     { painter.work(rt, alloc, book, signals, put) };
     let mut two = ||
-        ensures { HasWritten writer.entry.now writer.exit.now (O.written term.entry.now) (O.written term.exit.now) (O.faults term.entry.now) (O.faults term.exit.now) }
+        ensures { HasWritten writer.entry.now writer.exit.now (O.written term.entry.now) (O.written term.exit.now)
+            (O.faults term.entry.now) (O.faults term.exit.now) }
     { writer.work(rt, term, signals) };
     beside(rt, signals, &mut one, &mut two);
 }
@@ -78,13 +77,15 @@ fn run_edges<R: Threads + Wait + Sync, I: Source + Send, O: Sink + Send>(
     let mut one = ||
         requires { (pass_id side.now.scribe.pass ≡ book_id book.now) × IsSideThread side.now }
         ensures side { HasSentOn side.entry.now side.exit.now (I.left link.entry.now) (I.left link.exit.now) }
-        ensures failed { side.exit.now.side.end ≡ End.Link → (side.entry.now.side.end ≡ End.Link) ⊎ Rose (I.faults link.entry.now) (I.faults link.exit.now) }
+        ensures failed { side.exit.now.side.end ≡ End.Link
+            → (side.entry.now.side.end ≡ End.Link) ⊎ Rose (I.faults link.entry.now) (I.faults link.exit.now) }
         ensures never_falls { I.faults link.entry.now ≤ I.faults link.exit.now }
     { side.work(rt, book, signals, link) };
     let mut two = ||
         requires { (pass_id painter.now.scribe.pass ≡ book_id book.now) × IsPainterThread painter.now × (is_finished put.now ≡ false) }
         ensures painter { HasDrawn painter.entry.now painter.exit.now put.entry.now put.exit.now }
-        ensures writer { HasWritten writer.entry.now writer.exit.now (O.written term.entry.now) (O.written term.exit.now) (O.faults term.entry.now) (O.faults term.exit.now) }
+        ensures writer { HasWritten writer.entry.now writer.exit.now (O.written term.entry.now) (O.written term.exit.now)
+            (O.faults term.entry.now) (O.faults term.exit.now) }
     { run_painter(rt, alloc, book, signals, painter, put, writer, term) };
     beside(rt, signals, &mut one, &mut two);
 }
@@ -97,16 +98,16 @@ fn run_clients<R: Threads + Wait + Sync, G: Gate>(
     gate: &G,
     clients: &mut [ClientThread<'_>],
 )
-    requires { All (λ c. (pass_id c.scribe.pass ≡ book_id book.now) × IsClientThread (record { scribe = c.scribe; steps = c.steps.now; number = c.number; broken = c.broken; worker = c.seat.worker; places = c.seat.hands.places.items; memories = map (λ b. memory (b.vtable, b.value)) c.seat.hands.chain.handlers.items; slots = map (λ o. told_in (option_map (λ b. memory (b.vtable, b.value)) o)) c.seat.hands.rack.items })) clients.old }
-    ensures { AllServed (λ c. record { scribe = c.scribe; steps = c.steps.now; number = c.number; broken = c.broken; worker = c.seat.worker; places = c.seat.hands.places.items; memories = map (λ b. memory (b.vtable, b.value)) c.seat.hands.chain.handlers.items; slots = map (λ o. told_in (option_map (λ b. memory (b.vtable, b.value)) o)) c.seat.hands.rack.items }) clients.old clients.new }
+    requires { All (λ c. (pass_id c.scribe.pass ≡ book_id book.now) × IsClientThread memory c) clients.old }
+    ensures { AllServed (seen_of memory) clients.old clients.new }
 {
     each_beside(
         rt,
         signals,
         clients,
         &|_, client: &mut ClientThread<'_>|
-            requires { (pass_id client.old.scribe.pass ≡ book_id book.now) × IsClientThread (record { scribe = client.old.scribe; steps = client.old.steps.now; number = client.old.number; broken = client.old.broken; worker = client.old.seat.worker; places = client.old.seat.hands.places.items; memories = map (λ b. memory (b.vtable, b.value)) client.old.seat.hands.chain.handlers.items; slots = map (λ o. told_in (option_map (λ b. memory (b.vtable, b.value)) o)) client.old.seat.hands.rack.items }) }
-            ensures { HasServed (record { scribe = client.old.scribe; steps = client.old.steps.now; number = client.old.number; broken = client.old.broken; worker = client.old.seat.worker; places = client.old.seat.hands.places.items; memories = map (λ b. memory (b.vtable, b.value)) client.old.seat.hands.chain.handlers.items; slots = map (λ o. told_in (option_map (λ b. memory (b.vtable, b.value)) o)) client.old.seat.hands.rack.items }) (record { scribe = client.new.scribe; steps = client.new.steps.now; number = client.new.number; broken = client.new.broken; worker = client.new.seat.worker; places = client.new.seat.hands.places.items; memories = map (λ b. memory (b.vtable, b.value)) client.new.seat.hands.chain.handlers.items; slots = map (λ o. told_in (option_map (λ b. memory (b.vtable, b.value)) o)) client.new.seat.hands.rack.items }) }
+            requires { (pass_id client.old.scribe.pass ≡ book_id book.now) × IsClientThread memory client.old }
+            ensures { HasServed memory client.old client.new }
         { client.work(rt, book, signals, gate) },
     );
 }
@@ -129,25 +130,28 @@ fn run_beside<R: Threads + Wait + Sync, I: Source + Send, O: Sink + Send, G: Gat
     requires side { (pass_id side.old.scribe.pass ≡ book_id book.now) × IsSideThread side.old }
     requires painter { (pass_id painter.old.scribe.pass ≡ book_id book.now) × IsPainterThread painter.old }
     requires open { is_finished put.old ≡ false }
-    requires clients { All (λ c. (pass_id c.scribe.pass ≡ book_id book.now) × IsClientThread (record { scribe = c.scribe; steps = c.steps.now; number = c.number; broken = c.broken; worker = c.seat.worker; places = c.seat.hands.places.items; memories = map (λ b. memory (b.vtable, b.value)) c.seat.hands.chain.handlers.items; slots = map (λ o. told_in (option_map (λ b. memory (b.vtable, b.value)) o)) c.seat.hands.rack.items })) clients.old }
+    requires clients { All (λ c. (pass_id c.scribe.pass ≡ book_id book.now) × IsClientThread memory c) clients.old }
     ensures side { HasSentOn side.old side.new (I.left link.old) (I.left link.new) }
     ensures failed { side.new.side.end ≡ End.Link → (side.old.side.end ≡ End.Link) ⊎ Rose (I.faults link.old) (I.faults link.new) }
     ensures never_falls { I.faults link.old ≤ I.faults link.new }
     ensures painter { HasDrawn painter.old painter.new put.old put.new }
     ensures writer { HasWritten writer.old writer.new (O.written term.old) (O.written term.new) (O.faults term.old) (O.faults term.new) }
-    ensures clients { AllServed (λ c. record { scribe = c.scribe; steps = c.steps.now; number = c.number; broken = c.broken; worker = c.seat.worker; places = c.seat.hands.places.items; memories = map (λ b. memory (b.vtable, b.value)) c.seat.hands.chain.handlers.items; slots = map (λ o. told_in (option_map (λ b. memory (b.vtable, b.value)) o)) c.seat.hands.rack.items }) clients.old clients.new }
+    ensures clients { AllServed (seen_of memory) clients.old clients.new }
 {
     let mut one = ||
-        requires { All (λ c. (pass_id c.scribe.pass ≡ book_id book.now) × IsClientThread (record { scribe = c.scribe; steps = c.steps.now; number = c.number; broken = c.broken; worker = c.seat.worker; places = c.seat.hands.places.items; memories = map (λ b. memory (b.vtable, b.value)) c.seat.hands.chain.handlers.items; slots = map (λ o. told_in (option_map (λ b. memory (b.vtable, b.value)) o)) c.seat.hands.rack.items })) clients.now }
-        ensures { AllServed (λ c. record { scribe = c.scribe; steps = c.steps.now; number = c.number; broken = c.broken; worker = c.seat.worker; places = c.seat.hands.places.items; memories = map (λ b. memory (b.vtable, b.value)) c.seat.hands.chain.handlers.items; slots = map (λ o. told_in (option_map (λ b. memory (b.vtable, b.value)) o)) c.seat.hands.rack.items }) clients.entry.now clients.exit.now }
+        requires { All (λ c. (pass_id c.scribe.pass ≡ book_id book.now) × IsClientThread memory c) clients.now }
+        ensures { AllServed (seen_of memory) clients.entry.now clients.exit.now }
     { run_clients(rt, book, signals, gate, clients) };
     let mut two = ||
-        requires { (pass_id side.now.scribe.pass ≡ book_id book.now) × IsSideThread side.now × (pass_id painter.now.scribe.pass ≡ book_id book.now) × IsPainterThread painter.now × (is_finished put.now ≡ false) }
+        requires { (pass_id side.now.scribe.pass ≡ book_id book.now) × IsSideThread side.now
+            × (pass_id painter.now.scribe.pass ≡ book_id book.now) × IsPainterThread painter.now × (is_finished put.now ≡ false) }
         ensures side { HasSentOn side.entry.now side.exit.now (I.left link.entry.now) (I.left link.exit.now) }
-        ensures failed { side.exit.now.side.end ≡ End.Link → (side.entry.now.side.end ≡ End.Link) ⊎ Rose (I.faults link.entry.now) (I.faults link.exit.now) }
+        ensures failed { side.exit.now.side.end ≡ End.Link
+            → (side.entry.now.side.end ≡ End.Link) ⊎ Rose (I.faults link.entry.now) (I.faults link.exit.now) }
         ensures never_falls { I.faults link.entry.now ≤ I.faults link.exit.now }
         ensures painter { HasDrawn painter.entry.now painter.exit.now put.entry.now put.exit.now }
-        ensures writer { HasWritten writer.entry.now writer.exit.now (O.written term.entry.now) (O.written term.exit.now) (O.faults term.entry.now) (O.faults term.exit.now) }
+        ensures writer { HasWritten writer.entry.now writer.exit.now (O.written term.entry.now) (O.written term.exit.now)
+            (O.faults term.entry.now) (O.faults term.exit.now) }
     {
         run_edges(
             rt, alloc, book, signals, side, link, painter, put, writer, term,
@@ -173,13 +177,13 @@ pub fn run_all<R: Threads + Wait + Sync, I: Source + Send, O: Sink + Send, G: Ga
     requires side { (pass_id side.old.scribe.pass ≡ book_id book.now) × IsSideThread side.old }
     requires painter { (pass_id painter.old.scribe.pass ≡ book_id book.now) × IsPainterThread painter.old }
     requires open { is_finished put.old ≡ false }
-    requires clients { All (λ c. (pass_id c.scribe.pass ≡ book_id book.now) × IsClientThread (record { scribe = c.scribe; steps = c.steps.now; number = c.number; broken = c.broken; worker = c.seat.worker; places = c.seat.hands.places.items; memories = map (λ b. memory (b.vtable, b.value)) c.seat.hands.chain.handlers.items; slots = map (λ o. told_in (option_map (λ b. memory (b.vtable, b.value)) o)) c.seat.hands.rack.items })) clients.old.items }
+    requires clients { All (λ c. (pass_id c.scribe.pass ≡ book_id book.now) × IsClientThread memory c) clients.old.items }
     ensures side { HasSentOn side.old side.new (I.left link.old) (I.left link.new) }
     ensures failed { side.new.side.end ≡ End.Link → (side.old.side.end ≡ End.Link) ⊎ Rose (I.faults link.old) (I.faults link.new) }
     ensures never_falls { I.faults link.old ≤ I.faults link.new }
     ensures painter { HasDrawn painter.old painter.new put.old put.new }
     ensures writer { HasWritten writer.old writer.new (O.written term.old) (O.written term.new) (O.faults term.old) (O.faults term.new) }
-    ensures clients { AllServed (λ c. record { scribe = c.scribe; steps = c.steps.now; number = c.number; broken = c.broken; worker = c.seat.worker; places = c.seat.hands.places.items; memories = map (λ b. memory (b.vtable, b.value)) c.seat.hands.chain.handlers.items; slots = map (λ o. told_in (option_map (λ b. memory (b.vtable, b.value)) o)) c.seat.hands.rack.items }) clients.old.items clients.new.items }
+    ensures clients { AllServed (seen_of memory) clients.old.items clients.new.items }
 {
     let signals = Signals::of(clients.len());
     let slice = clients.as_mut_slice();

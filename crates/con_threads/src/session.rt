@@ -1,16 +1,17 @@
 //! A whole session by threads.
 ghost use Rattle.std.specs.Prelude.{◌≡◌, ◌⊎◌, ℕ, ◌≤◌, ◌∷◌, true, false, [], List, Option, None, IfOk, length, map, All};
-ghost use Rattle.std.specs.Option.{option_map};
 ghost use Rattle.con_outside.specs.Outside.{Rose};
 ghost use Rattle.con_events.specs.Session.{Clients};
 ghost use Rattle.con_machine.specs.Follows.{begun};
 ghost use Rattle.con_machine.specs.Painting.{is_fresh};
-ghost use Rattle.con_session.specs.Opening.{AreFreshBy};
+ghost use Rattle.con_handlers.specs.Boxes.{boxed};
+ghost use Rattle.con_session.specs.Held.{AreFresh};
 ghost use Rattle.con_session.specs.Outcome.{Leaves};
 ghost use Rattle.con_session.specs.Solo.{begins};
-ghost use Rattle.con_session.specs.Worker.{told_in, told_kind};
+ghost use Rattle.con_session.specs.Worker.{told_kind};
 ghost use Rattle.con_pipe.specs.Ends.{is_finished};
 ghost use Rattle.con_book.specs.Passes.{book_id, view_of};
+ghost use Rattle.con_threads.specs.Clients.{seen_of};
 ghost use Rattle.con_threads.specs.Crews.{CrewGoes, IsCrew, IsOpening, down_from};
 ghost use Rattle.con_threads.specs.Session.{AreMade, EdgesGo};
 
@@ -56,9 +57,13 @@ fn made<'a>(
     ensures open { IfOk result (λ t. is_finished t.edges.put ≡ false) }
     ensures fine { IfOk result (λ t. (t.edges.side.side.end ≡ End.Done) × (t.edges.writer.failed ≡ false)) }
     ensures len { IfOk result (λ t. length t.clients.items ≡ length scripts.now) }
-    ensures crew { IfOk result (λ t. IsCrew (λ c. record { scribe = c.scribe; steps = c.steps.now; number = c.number; broken = c.broken; worker = c.seat.worker; places = c.seat.hands.places.items; memories = map (λ b. memory (b.vtable, b.value)) c.seat.hands.chain.handlers.items; slots = map (λ o. told_in (option_map (λ b. memory (b.vtable, b.value)) o)) c.seat.hands.rack.items }) (book_id t.book) (view_of t.opening).start t.clients.items) }
-    ensures go { IfOk result (λ t. (session : Clients) (racks : List (List ℕ)) (before old : Option (List ℕ)) → stage.desk.console.state ≡ begun session racks → EdgesGo (begins session racks None) before before old old t.edges.side t.edges.painter t.edges.put t.edges.writer) }
-    ensures crew_goes { IfOk result (λ t. (session : Clients) (racks : List (List ℕ)) → stage.desk.console.state ≡ begun session racks → scripts.now ≡ session.scripts → AreFreshBy (λ s. s.worker) (λ s. s.hands.places.items) (λ s. map (λ b. memory (b.vtable, b.value)) s.hands.chain.handlers.items) (λ s. map (λ o. told_in (option_map (λ b. memory (b.vtable, b.value)) o)) s.hands.rack.items) racks 0 seats.items → CrewGoes (λ c. record { scribe = c.scribe; steps = c.steps.now; number = c.number; broken = c.broken; worker = c.seat.worker; places = c.seat.hands.places.items; memories = map (λ b. memory (b.vtable, b.value)) c.seat.hands.chain.handlers.items; slots = map (λ o. told_in (option_map (λ b. memory (b.vtable, b.value)) o)) c.seat.hands.rack.items }) (begins session racks None) t.clients.items) }
+    ensures crew { IfOk result (λ t. IsCrew (seen_of memory) (book_id t.book) (view_of t.opening).start t.clients.items) }
+    ensures go { IfOk result (λ t. (session : Clients) (racks : List (List ℕ)) (before old : Option (List ℕ))
+        → stage.desk.console.state ≡ begun session racks
+        → EdgesGo (begins session racks None) before before old old t.edges.side t.edges.painter t.edges.put t.edges.writer) }
+    ensures crew_goes { IfOk result (λ t. (session : Clients) (racks : List (List ℕ))
+        → stage.desk.console.state ≡ begun session racks → scripts.now ≡ session.scripts
+        → AreFresh (boxed memory) racks 0 seats.items → CrewGoes (seen_of memory) (begins session racks None) t.clients.items) }
 {
     let Setting {
         book,
@@ -101,13 +106,18 @@ fn play<T: Threads + Wait + Sync, I: Source + Send, O: Sink + Send, G: Gate>(
     requires open { is_finished made.edges.put ≡ false }
     requires few { clients ≤ 64 }
     requires len { length made.clients.items ≡ clients }
-    requires crew { IsCrew (λ c. record { scribe = c.scribe; steps = c.steps.now; number = c.number; broken = c.broken; worker = c.seat.worker; places = c.seat.hands.places.items; memories = map (λ b. memory (b.vtable, b.value)) c.seat.hands.chain.handlers.items; slots = map (λ o. told_in (option_map (λ b. memory (b.vtable, b.value)) o)) c.seat.hands.rack.items }) (book_id made.book) (view_of made.opening).start made.clients.items }
-    ensures outcome { (session : Clients) (racks : List (List ℕ)) → (view_of made.entry.opening).start.state ≡ begun session racks → length session.scripts ≡ clients
-        → EdgesGo (begins session racks None) (I.left link.old) (I.left link.old) (O.written term.old) (O.written term.old) made.entry.edges.side made.entry.edges.painter made.entry.edges.put made.entry.edges.writer → CrewGoes (λ c. record { scribe = c.scribe; steps = c.steps.now; number = c.number; broken = c.broken; worker = c.seat.worker; places = c.seat.hands.places.items; memories = map (λ b. memory (b.vtable, b.value)) c.seat.hands.chain.handlers.items; slots = map (λ o. told_in (option_map (λ b. memory (b.vtable, b.value)) o)) c.seat.hands.rack.items }) (begins session racks None) made.entry.clients.items
-        → Leaves session racks result.entries result.replies result.ends result.end (I.left link.old) (I.left link.new) (O.written term.old) (O.written term.new) }
+    requires crew { IsCrew (seen_of memory) (book_id made.book) (view_of made.opening).start made.clients.items }
+    ensures outcome { (session : Clients) (racks : List (List ℕ))
+        → (view_of made.entry.opening).start.state ≡ begun session racks → length session.scripts ≡ clients
+        → EdgesGo (begins session racks None) (I.left link.old) (I.left link.old) (O.written term.old) (O.written term.old)
+        made.entry.edges.side made.entry.edges.painter made.entry.edges.put made.entry.edges.writer
+        → CrewGoes (seen_of memory) (begins session racks None) made.entry.clients.items
+        → Leaves session racks result.entries result.replies result.ends result.end
+        (I.left link.old) (I.left link.new) (O.written term.old) (O.written term.new) }
     ensures link { result.end ≡ End.Link → (made.entry.edges.side.side.end ≡ End.Link) ⊎ Rose (I.faults link.old) (I.faults link.new) }
     ensures term { (session : Clients) (racks : List (List ℕ)) → (view_of made.entry.opening).start.state ≡ begun session racks
-        → EdgesGo (begins session racks None) (I.left link.old) (I.left link.old) (O.written term.old) (O.written term.old) made.entry.edges.side made.entry.edges.painter made.entry.edges.put made.entry.edges.writer
+        → EdgesGo (begins session racks None) (I.left link.old) (I.left link.old) (O.written term.old) (O.written term.old)
+        made.entry.edges.side made.entry.edges.painter made.entry.edges.put made.entry.edges.writer
         → result.end ≡ End.Term → (made.entry.edges.writer.failed ≡ true) ⊎ Rose (O.faults term.old) (O.faults term.new) }
     ensures link_never_falls { I.faults link.old ≤ I.faults link.new }
     ensures term_never_falls { O.faults term.old ≤ O.faults term.new }
@@ -147,7 +157,8 @@ pub fn run_session<T: Threads + Wait + Sync, I: Source + Send, O: Sink + Send, G
     gate: &G,
 ) -> Outcome
     requires few { All (λ rack. length rack.items ≤ 255) racks.items }
-    ensures outcome { Leaves session.now (map (λ rack. map (λ b. told_kind (memory b)) rack.items) racks.items) result.entries result.replies result.ends result.end (I.left link.old) (I.left link.new) (O.written term.old) (O.written term.new) }
+    ensures outcome { Leaves session.now (map (λ rack. map (λ b. told_kind (memory b)) rack.items) racks.items)
+        result.entries result.replies result.ends result.end (I.left link.old) (I.left link.new) (O.written term.old) (O.written term.new) }
     ensures link { result.end ≡ End.Link → Rose (I.faults link.old) (I.faults link.new) }
     ensures term { result.end ≡ End.Term → Rose (O.faults term.old) (O.faults term.new) }
     ensures link_never_falls { I.faults link.old ≤ I.faults link.new }

@@ -1,9 +1,8 @@
 //! A step of a client's script.
 ghost use Rattle.std.specs.Prelude.{◌≡◌, ◌<◌, true, false, length, map};
-ghost use Rattle.std.specs.Option.{option_map};
 ghost use Rattle.con_book.specs.Passes.{book_id, pass_id};
 ghost use Rattle.con_machine.specs.Client.{event_of};
-ghost use Rattle.con_session.specs.Worker.{is_handlers, told_in};
+ghost use Rattle.con_session.specs.Worker.{is_handlers};
 ghost use Rattle.con_threads.specs.Clients.{HasServed, IsClientThread, IsNext, Proceeds};
 
 use crate::client::{ClientThread, brief_in};
@@ -32,11 +31,11 @@ impl ClientThread<'_> {
         wanted: Wanted,
     ) -> Result<(), OutOfMemory>
         requires book { pass_id self.old.scribe.pass ≡ book_id book.now }
-        requires is { IsClientThread (record { scribe = self.old.scribe; steps = self.old.steps.now; number = self.old.number; broken = self.old.broken; worker = self.old.seat.worker; places = self.old.seat.hands.places.items; memories = map (λ b. memory (b.vtable, b.value)) self.old.seat.hands.chain.handlers.items; slots = map (λ o. told_in (option_map (λ b. memory (b.vtable, b.value)) o)) self.old.seat.hands.rack.items }) }
+        requires is { IsClientThread memory self.old }
         requires goes { Proceeds self.old.scribe self.old.seat.worker self.old.broken false }
         requires some { self.old.seat.worker.at < length self.old.steps.now }
         requires next { IsNext self.old.steps.now self.old.seat.worker (Event.Begin wanted) }
-        ensures served { HasServed (record { scribe = self.old.scribe; steps = self.old.steps.now; number = self.old.number; broken = self.old.broken; worker = self.old.seat.worker; places = self.old.seat.hands.places.items; memories = map (λ b. memory (b.vtable, b.value)) self.old.seat.hands.chain.handlers.items; slots = map (λ o. told_in (option_map (λ b. memory (b.vtable, b.value)) o)) self.old.seat.hands.rack.items }) (record { scribe = self.new.scribe; steps = self.new.steps.now; number = self.new.number; broken = self.new.broken; worker = self.new.seat.worker; places = self.new.seat.hands.places.items; memories = map (λ b. memory (b.vtable, b.value)) self.new.seat.hands.chain.handlers.items; slots = map (λ o. told_in (option_map (λ b. memory (b.vtable, b.value)) o)) self.new.seat.hands.rack.items }) }
+        ensures served { HasServed memory self.old self.new }
     {
         let told = self.scribe.enter(rt, book, Event::Begin(wanted))?;
         let brief = brief_in(told);
@@ -53,12 +52,12 @@ impl ClientThread<'_> {
         call: Call,
     ) -> Result<(), OutOfMemory>
         requires book { pass_id self.old.scribe.pass ≡ book_id book.now }
-        requires is { IsClientThread (record { scribe = self.old.scribe; steps = self.old.steps.now; number = self.old.number; broken = self.old.broken; worker = self.old.seat.worker; places = self.old.seat.hands.places.items; memories = map (λ b. memory (b.vtable, b.value)) self.old.seat.hands.chain.handlers.items; slots = map (λ o. told_in (option_map (λ b. memory (b.vtable, b.value)) o)) self.old.seat.hands.rack.items }) }
+        requires is { IsClientThread memory self.old }
         requires goes { Proceeds self.old.scribe self.old.seat.worker self.old.broken false }
         requires some { self.old.seat.worker.at < length self.old.steps.now }
         requires next { IsNext self.old.steps.now self.old.seat.worker (Event.Call call) }
         requires plain { is_handlers call ≡ false }
-        ensures served { HasServed (record { scribe = self.old.scribe; steps = self.old.steps.now; number = self.old.number; broken = self.old.broken; worker = self.old.seat.worker; places = self.old.seat.hands.places.items; memories = map (λ b. memory (b.vtable, b.value)) self.old.seat.hands.chain.handlers.items; slots = map (λ o. told_in (option_map (λ b. memory (b.vtable, b.value)) o)) self.old.seat.hands.rack.items }) (record { scribe = self.new.scribe; steps = self.new.steps.now; number = self.new.number; broken = self.new.broken; worker = self.new.seat.worker; places = self.new.seat.hands.places.items; memories = map (λ b. memory (b.vtable, b.value)) self.new.seat.hands.chain.handlers.items; slots = map (λ o. told_in (option_map (λ b. memory (b.vtable, b.value)) o)) self.new.seat.hands.rack.items }) }
+        ensures served { HasServed memory self.old self.new }
     {
         let told = self.scribe.enter(rt, book, Event::Call(call))?;
         brief_in(told);
@@ -74,11 +73,11 @@ impl ClientThread<'_> {
         place: u32,
     ) -> Result<(), OutOfMemory>
         requires book { pass_id self.old.scribe.pass ≡ book_id book.now }
-        requires is { IsClientThread (record { scribe = self.old.scribe; steps = self.old.steps.now; number = self.old.number; broken = self.old.broken; worker = self.old.seat.worker; places = self.old.seat.hands.places.items; memories = map (λ b. memory (b.vtable, b.value)) self.old.seat.hands.chain.handlers.items; slots = map (λ o. told_in (option_map (λ b. memory (b.vtable, b.value)) o)) self.old.seat.hands.rack.items }) }
+        requires is { IsClientThread memory self.old }
         requires goes { Proceeds self.old.scribe self.old.seat.worker self.old.broken false }
         requires some { self.old.seat.worker.at < length self.old.steps.now }
         requires next { IsNext self.old.steps.now self.old.seat.worker (Event.Call (Call.HandlerAdd place)) }
-        ensures served { HasServed (record { scribe = self.old.scribe; steps = self.old.steps.now; number = self.old.number; broken = self.old.broken; worker = self.old.seat.worker; places = self.old.seat.hands.places.items; memories = map (λ b. memory (b.vtable, b.value)) self.old.seat.hands.chain.handlers.items; slots = map (λ o. told_in (option_map (λ b. memory (b.vtable, b.value)) o)) self.old.seat.hands.rack.items }) (record { scribe = self.new.scribe; steps = self.new.steps.now; number = self.new.number; broken = self.new.broken; worker = self.new.seat.worker; places = self.new.seat.hands.places.items; memories = map (λ b. memory (b.vtable, b.value)) self.new.seat.hands.chain.handlers.items; slots = map (λ o. told_in (option_map (λ b. memory (b.vtable, b.value)) o)) self.new.seat.hands.rack.items }) }
+        ensures served { HasServed memory self.old self.new }
     {
         let call = Call::HandlerAdd(place);
         let told = self.scribe.enter(rt, book, Event::Call(call))?;
@@ -104,11 +103,11 @@ impl ClientThread<'_> {
         place: u32,
     ) -> Result<(), OutOfMemory>
         requires book { pass_id self.old.scribe.pass ≡ book_id book.now }
-        requires is { IsClientThread (record { scribe = self.old.scribe; steps = self.old.steps.now; number = self.old.number; broken = self.old.broken; worker = self.old.seat.worker; places = self.old.seat.hands.places.items; memories = map (λ b. memory (b.vtable, b.value)) self.old.seat.hands.chain.handlers.items; slots = map (λ o. told_in (option_map (λ b. memory (b.vtable, b.value)) o)) self.old.seat.hands.rack.items }) }
+        requires is { IsClientThread memory self.old }
         requires goes { Proceeds self.old.scribe self.old.seat.worker self.old.broken false }
         requires some { self.old.seat.worker.at < length self.old.steps.now }
         requires next { IsNext self.old.steps.now self.old.seat.worker (Event.Call (Call.HandlerRemove place)) }
-        ensures served { HasServed (record { scribe = self.old.scribe; steps = self.old.steps.now; number = self.old.number; broken = self.old.broken; worker = self.old.seat.worker; places = self.old.seat.hands.places.items; memories = map (λ b. memory (b.vtable, b.value)) self.old.seat.hands.chain.handlers.items; slots = map (λ o. told_in (option_map (λ b. memory (b.vtable, b.value)) o)) self.old.seat.hands.rack.items }) (record { scribe = self.new.scribe; steps = self.new.steps.now; number = self.new.number; broken = self.new.broken; worker = self.new.seat.worker; places = self.new.seat.hands.places.items; memories = map (λ b. memory (b.vtable, b.value)) self.new.seat.hands.chain.handlers.items; slots = map (λ o. told_in (option_map (λ b. memory (b.vtable, b.value)) o)) self.new.seat.hands.rack.items }) }
+        ensures served { HasServed memory self.old self.new }
     {
         let call = Call::HandlerRemove(place);
         let told = self.scribe.enter(rt, book, Event::Call(call))?;
@@ -124,11 +123,11 @@ impl ClientThread<'_> {
     // A call that is the next step.
     fn call<R: Wait>(&mut self, rt: &R, book: &Book<Ledger>, call: &Call) -> Result<(), OutOfMemory>
         requires book { pass_id self.old.scribe.pass ≡ book_id book.now }
-        requires is { IsClientThread (record { scribe = self.old.scribe; steps = self.old.steps.now; number = self.old.number; broken = self.old.broken; worker = self.old.seat.worker; places = self.old.seat.hands.places.items; memories = map (λ b. memory (b.vtable, b.value)) self.old.seat.hands.chain.handlers.items; slots = map (λ o. told_in (option_map (λ b. memory (b.vtable, b.value)) o)) self.old.seat.hands.rack.items }) }
+        requires is { IsClientThread memory self.old }
         requires goes { Proceeds self.old.scribe self.old.seat.worker self.old.broken false }
         requires some { self.old.seat.worker.at < length self.old.steps.now }
         requires next { IsNext self.old.steps.now self.old.seat.worker (Event.Call call.now) }
-        ensures served { HasServed (record { scribe = self.old.scribe; steps = self.old.steps.now; number = self.old.number; broken = self.old.broken; worker = self.old.seat.worker; places = self.old.seat.hands.places.items; memories = map (λ b. memory (b.vtable, b.value)) self.old.seat.hands.chain.handlers.items; slots = map (λ o. told_in (option_map (λ b. memory (b.vtable, b.value)) o)) self.old.seat.hands.rack.items }) (record { scribe = self.new.scribe; steps = self.new.steps.now; number = self.new.number; broken = self.new.broken; worker = self.new.seat.worker; places = self.new.seat.hands.places.items; memories = map (λ b. memory (b.vtable, b.value)) self.new.seat.hands.chain.handlers.items; slots = map (λ o. told_in (option_map (λ b. memory (b.vtable, b.value)) o)) self.new.seat.hands.rack.items }) }
+        ensures served { HasServed memory self.old self.new }
     {
         match call {
             Call::HandlerAdd(place) => self.call_add(rt, book, *place),
@@ -143,11 +142,11 @@ impl ClientThread<'_> {
     // The next step.
     fn step<R: Wait>(&mut self, rt: &R, book: &Book<Ledger>, step: &Step) -> Result<(), OutOfMemory>
         requires book { pass_id self.old.scribe.pass ≡ book_id book.now }
-        requires is { IsClientThread (record { scribe = self.old.scribe; steps = self.old.steps.now; number = self.old.number; broken = self.old.broken; worker = self.old.seat.worker; places = self.old.seat.hands.places.items; memories = map (λ b. memory (b.vtable, b.value)) self.old.seat.hands.chain.handlers.items; slots = map (λ o. told_in (option_map (λ b. memory (b.vtable, b.value)) o)) self.old.seat.hands.rack.items }) }
+        requires is { IsClientThread memory self.old }
         requires goes { Proceeds self.old.scribe self.old.seat.worker self.old.broken false }
         requires some { self.old.seat.worker.at < length self.old.steps.now }
         requires next { IsNext self.old.steps.now self.old.seat.worker (event_of step.now) }
-        ensures served { HasServed (record { scribe = self.old.scribe; steps = self.old.steps.now; number = self.old.number; broken = self.old.broken; worker = self.old.seat.worker; places = self.old.seat.hands.places.items; memories = map (λ b. memory (b.vtable, b.value)) self.old.seat.hands.chain.handlers.items; slots = map (λ o. told_in (option_map (λ b. memory (b.vtable, b.value)) o)) self.old.seat.hands.rack.items }) (record { scribe = self.new.scribe; steps = self.new.steps.now; number = self.new.number; broken = self.new.broken; worker = self.new.seat.worker; places = self.new.seat.hands.places.items; memories = map (λ b. memory (b.vtable, b.value)) self.new.seat.hands.chain.handlers.items; slots = map (λ o. told_in (option_map (λ b. memory (b.vtable, b.value)) o)) self.new.seat.hands.rack.items }) }
+        ensures served { HasServed memory self.old self.new }
     {
         match step {
             Step::Exit(status) => self.leave(rt, book, *status),
@@ -167,9 +166,9 @@ impl ClientThread<'_> {
         gate: &G,
     ) -> Result<(), OutOfMemory>
         requires book { pass_id self.old.scribe.pass ≡ book_id book.now }
-        requires is { IsClientThread (record { scribe = self.old.scribe; steps = self.old.steps.now; number = self.old.number; broken = self.old.broken; worker = self.old.seat.worker; places = self.old.seat.hands.places.items; memories = map (λ b. memory (b.vtable, b.value)) self.old.seat.hands.chain.handlers.items; slots = map (λ o. told_in (option_map (λ b. memory (b.vtable, b.value)) o)) self.old.seat.hands.rack.items }) }
+        requires is { IsClientThread memory self.old }
         requires goes { Proceeds self.old.scribe self.old.seat.worker self.old.broken false }
-        ensures served { HasServed (record { scribe = self.old.scribe; steps = self.old.steps.now; number = self.old.number; broken = self.old.broken; worker = self.old.seat.worker; places = self.old.seat.hands.places.items; memories = map (λ b. memory (b.vtable, b.value)) self.old.seat.hands.chain.handlers.items; slots = map (λ o. told_in (option_map (λ b. memory (b.vtable, b.value)) o)) self.old.seat.hands.rack.items }) (record { scribe = self.new.scribe; steps = self.new.steps.now; number = self.new.number; broken = self.new.broken; worker = self.new.seat.worker; places = self.new.seat.hands.places.items; memories = map (λ b. memory (b.vtable, b.value)) self.new.seat.hands.chain.handlers.items; slots = map (λ o. told_in (option_map (λ b. memory (b.vtable, b.value)) o)) self.new.seat.hands.rack.items }) }
+        ensures served { HasServed memory self.old self.new }
     {
         let at = self.seat.worker.at;
         if at >= self.steps.len() {

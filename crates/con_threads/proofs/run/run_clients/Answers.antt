@@ -4,12 +4,12 @@ use denote.Param.Object.{Vt, ghosts_of}
 use denote.Param.Send.{arg_send, param_send, sendable, shr_sync}
 use denote.Ref.{ShrRef}
 use mir.Syntax.{named}
-use Rattle.std.proofs.Common.{rules, map, option_map, ◌∷◌, []}
+use Rattle.std.proofs.Common.{rules, ◌∷◌, []}
 use Rattle.con_book.specs.contracts.book.Book as book
 use Rattle.con_events.specs.contracts.event.Event as event
 use Rattle.con_machine.specs.contracts.room.Room as room
 use Rattle.con_session.specs.contracts.desk.Brief as brief
-use Rattle.con_session.specs.Worker.{told_in}
+use Rattle.con_threads.specs.Clients.{seen_of}
 use Rattle.con_threads.proofs.Crewing.{served_as}
 use Rattle.con_threads.specs.contracts.client.ClientThread as client
 use Rattle.con_threads.specs.contracts.ledger.Ledger as ledger
@@ -39,6 +39,5 @@ returns g c = record {
   each = λ i d lt.
       let h = c.each_beside.ensures i d lt in
       let call = h.1.call in
-      served_as (λ c'. record { scribe = c'.scribe; steps = c'.steps.now; number = c'.number; broken = c'.broken; worker = c'.seat.worker; places = c'.seat.hands.places.items; memories = map (λ x. (goal.CtrlHandler-dyn g (x.vtable, x.value)).memory x.value) c'.seat.hands.chain.handlers.items; slots = map (λ o. told_in (option_map (λ x. (goal.CtrlHandler-dyn g (x.vtable, x.value)).memory x.value) o)) c'.seat.hands.rack.items })
-      h.1.argument.now h.1.after_call.now _ _ h.1.argument_is h.1.left (search rules);
+      served_as (seen_of (λ z. (goal.CtrlHandler-dyn g z).memory z.1)) h.1.argument.now h.1.after_call.now _ _ h.1.argument_is h.1.left (search rules);
 }
