@@ -1,0 +1,4 @@
+pub mod Answered
+pub mod Plain
+pub mod Lines
+pub mod Rests

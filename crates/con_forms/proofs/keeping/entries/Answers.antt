@@ -1,0 +1,6 @@
+use Rattle.con_forms.specs.Kept.{EntriesKeep}
+use Rattle.con_forms.proofs.Rests.{one_more}
+use Rattle.con_forms.proofs.keeping.entries.Goals as goal
+
+pub loop-rest-preserved : goal.loop-rest-preserved
+loop-rest-preserved c = one_more EntriesKeep c.loop-rest.rest.now c.one-item.result c.in-len1-up.len_at_least c.one-item.is (λ ys q. ((c.actor.ensures, c.event.ensures), q)) c.loop-rest.invariant

@@ -1,0 +1,5 @@
+-- What a reader must believe: the form of an answer, what types keep, which lines of a history are told, and the laws.
+pub mod Formed
+pub mod Kept
+pub mod Told
+pub mod Laws

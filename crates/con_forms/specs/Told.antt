@@ -1,0 +1,32 @@
+-- Which lines of a history a report tells: all of them, up to a picture that has no length.
+use Rattle.std.specs.Prelude.{◌&&◌, ℕ, Bool, true, false, List, [], ◌∷◌, map, if◌then◌else◌}
+use Rattle.con_events.specs.declared.entry.Entry.{Entry}
+use Rattle.con_events.specs.declared.event.Event.{Event}
+use Rattle.con_events.specs.declared.event.Event.TheVariants as event
+use Rattle.con_events.specs.declared.reply.Reply.{Reply}
+use Rattle.con_trace.specs.Report.{History, end_of, ends_behind}
+use Rattle.con_trace.specs.declared.said.Said.{Said}
+
+-- a picture has one of the lengths that are still to come, and any other event none
+abbrev pub has_end : Event → List ℕ → Bool
+has_end event.Paint [] = false
+has_end event.Paint (n ∷ ns) = true
+has_end other ns = true
+
+abbrev pub told : List Entry → List Reply → List ℕ → List Said
+told [] rs ns = []
+told (e ∷ es) [] ns = []
+told (e ∷ es) (r ∷ rs) ns =
+    if has_end e.event ns
+    then (let s : Said = record { entry = e; reply = r; end = end_of e.event ns } in s) ∷ told es rs (ends_behind e.event ns)
+    else []
+
+-- each picture has a length
+abbrev pub is_told : List Entry → List Reply → List ℕ → Bool
+is_told [] rs ns = true
+is_told (e ∷ es) [] ns = true
+is_told (e ∷ es) (r ∷ rs) ns = has_end e.event ns && is_told es rs (ends_behind e.event ns)
+
+-- the history of these lines
+abbrev pub history_told : List Said → List ℕ → History
+history_told ss ns = record { entries = map (λ s. s.entry) ss; replies = map (λ s. s.reply) ss; ends = ns }
