@@ -14,3 +14,4 @@ pub mod Reasons
 pub mod Reports
 pub mod Tells
 pub mod Mirrors
+pub mod ReadBacks

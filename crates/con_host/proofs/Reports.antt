@@ -1,19 +1,10 @@
 -- What a report that was written with a last line says of its status.
 use Rattle.std.proofs.Common.{◌≡◌, ◌⊎◌, inl, inr, sym, subst, ap, ◌∙◌, arith, ℕ, ◌≤◌, List, length, take, Option}
-use Rattle.std.proofs.Math.Seq.{take-length}
 use Rattle.con_events.specs.declared.entry.Entry.{Entry}
 use Rattle.con_events.specs.declared.reply.Reply.{Reply}
 use Rattle.con_outside.specs.Outside.{then_written, WroteFront, WrotePart}
 use Rattle.con_trace.specs.Ending.{Ending, status_of}
-use Rattle.con_host.specs.Telling.{Reported, ended_report}
-
--- a part is a front
-part_front : (text : List ℕ) (before now : Option (List ℕ)) → WrotePart text before now → WroteFront text before now
-part_front text before now (n, less, is) = (n, omega (arith, less), is)
-
--- and so is all of it
-whole_front : (text : List ℕ) (before now : Option (List ℕ)) → now ≡ then_written before text → WroteFront text before now
-whole_front text before now is = (length text, omega arith, is ∙ ap (then_written before) (sym (take-length text)))
+use Rattle.con_host.specs.Telling.{Reported, ended_report, told_report}
 
 pub status_told : (s : ℕ) (text : List ℕ) (told lost : ℕ) (before now : Option (List ℕ)) (failed : Type 0) → Reported s text told lost before now failed → (s ≡ told) ⊎ ((s ≡ lost) ⊎ (s ≡ 9))
 status_told s text told lost before now failed r = elim r [
@@ -21,15 +12,6 @@ status_told s text told lost before now failed r = elim r [
   | inr rest ↦ elim rest [
     | inl e ↦ inr (inl e.0)
     | inr e ↦ inr (inr e.0)
-  ]
-]
-
-pub front_of : (s : ℕ) (text : List ℕ) (told lost : ℕ) (before now : Option (List ℕ)) (failed : Type 0) → Reported s text told lost before now failed → WroteFront text before now
-front_of s text told lost before now failed r = elim r [
-  | inl e ↦ whole_front text before now e.1
-  | inr rest ↦ elim rest [
-    | inl e ↦ part_front text before now e.1
-    | inr e ↦ part_front text before now e.1
   ]
 ]
 
@@ -78,3 +60,8 @@ pub reported_as : (s : ℕ) (h : List Entry) (rs : List Reply) (es : List ℕ) (
     → Reported s (ended_report h rs es last) (status_of last) lost before now failed → Reported s (ended_report h rs es ending) (status_of ending) other before now failed
 reported_as s h rs es last ending lost other before now failed is too r =
     subst (λ n. Reported s (ended_report h rs es ending) (status_of ending) n before now failed) too (subst (λ l. Reported s (ended_report h rs es l) (status_of l) lost before now failed) is r)
+
+-- and so is the front that was written
+pub told_as : (h : List Entry) (rs : List Reply) (es : List ℕ) (last ending : Ending) (before now : Option (List ℕ)) → last ≡ ending → WroteFront (told_report h rs es last) before now
+    → WroteFront (told_report h rs es ending) before now
+told_as h rs es last ending before now is w = subst (λ l. WroteFront (told_report h rs es l) before now) is w

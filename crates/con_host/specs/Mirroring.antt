@@ -11,8 +11,8 @@ use Rattle.con_machine.specs.Follows.{begun}
 use Rattle.con_machine.specs.Once.{TakenOnce}
 use Rattle.con_session.specs.Second.{IsMirrorOutcome}
 use Rattle.con_trace.specs.Ending.{Ending, worded, status_of}
-use Rattle.con_trace.specs.Report.{report, said}
-use Rattle.con_host.specs.Sessions.{IsFile, NotRun, ending_after, failed_after}
+use Rattle.con_host.specs.Telling.{told_report}
+use Rattle.con_host.specs.Sessions.{IsCut, IsFile, NotRun, ReadBack, ending_after, failed_after}
 
 -- the last line of a session that ended so, and whether its second terminal failed: where all else was done, the line says that
 abbrev pub mirror_ending : End → Bool → Ending
@@ -26,15 +26,11 @@ mirror_failed_after end lost = failed_after end
 
 -- the report of a history with its answers and ends, up to this end
 abbrev pub mirror_report : List Entry → List Reply → List ℕ → End → Bool → List ℕ
-mirror_report h rs es end lost = report (said h rs es) (mirror_ending end lost)
+mirror_report h rs es end lost = told_report h rs es (mirror_ending end lost)
 
 -- the status that its last line tells; 9 for want of memory for the report; 6 where all was done, the second terminal did not fail, and the report did
 abbrev pub IsMirrorStatus : ℕ → End → Bool → Type 0
 IsMirrorStatus status end lost = (status ≡ status_of (mirror_ending end lost)) ⊎ ((status ≡ 9) ⊎ ((status ≡ 6) × (end ≡ ends.Done) × (lost ≡ false)))
-
--- With status 6, and with 9 where the session itself came to another end, the report is never whole: not all of it was written.
-abbrev pub IsMirrorCut : ℕ → List Entry → List Reply → List ℕ → End → Bool → Option (List ℕ) → Option (List ℕ) → Type 0
-IsMirrorCut status h rs es end lost before now = (status ≡ 6) ⊎ ((status ≡ 9) × ¬ (end ≡ ends.Memory)) → WrotePart (mirror_report h rs es end lost) before now
 
 -- The session ran by turns, with a second terminal: one history, with all that such a session leaves, A and D being frames that count as Ask; the second terminal's
 -- stream with its ends, and whether it was lost; and the report, which is whole unless the report failed or there was no memory for it.
@@ -51,7 +47,8 @@ pub record RanMirrored (status : ℕ) (session : Clients) (racks : List (List �
   pub front : WroteFront (mirror_report entries replies ends' end lost) before_report report'
   pub whole : ¬ (status ≡ 9) → ¬ failed → report' ≡ then_written before_report (mirror_report entries replies ends' end lost)
   pub done : status ≡ 0 → report' ≡ then_written before_report (mirror_report entries replies ends' end lost)
-  pub cut : IsMirrorCut status entries replies ends' end lost before_report report'
+  pub cut : IsCut status end (mirror_report entries replies ends' end lost) before_report report'
+  pub read : ReadBack entries replies ends' end (mirror_ending end lost) before_report report'
   -- all built bytes of the second terminal's stream were written with 0 and 6, and with every other status but 9, unless it failed
   pub shown : ¬ (status ≡ 9) → (status ≡ 0) ⊎ ((status ≡ 6) ⊎ ¬ second_failed) → written ≡ then_written was outcome.leaves.more.built
 

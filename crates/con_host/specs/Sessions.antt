@@ -1,5 +1,5 @@
 -- How a session of a file ends, by threads and by turns: from the bytes of its file and of its link to those of the terminal and of the report.
-use Rattle.std.specs.Prelude.{◌≡◌, ◌⊎◌, ◌++◌, ◌∷◌, ℕ, ◌≤◌, true, List, length, Option, IfSome, Some, None, Ok, Err, codes}
+use Rattle.std.specs.Prelude.{◌≡◌, ◌⊎◌, ◌++◌, ◌∷◌, ℕ, ◌≤◌, true, false, List, length, Option, IfSome, Some, None, Ok, Err, codes}
 use Rattle.con_events.specs.Session.{Clients}
 use Rattle.con_events.specs.declared.end.End.{End}
 use Rattle.con_events.specs.declared.end.End.TheVariants as ends
@@ -11,13 +11,16 @@ use Rattle.con_script.specs.Document.{document, json_of, path}
 use Rattle.con_script.specs.Session.{Where}
 use Rattle.con_machine.specs.Follows.{begun}
 use Rattle.con_machine.specs.Once.{TakenOnce}
-use Rattle.con_machine.specs.Rounds.{Rounds}
+use Rattle.con_machine.specs.Rounds.{Rounds, is_memory}
 use Rattle.con_session.specs.Outcome.{Leaves}
-use Rattle.con_trace.specs.Ending.{Ending, alone, worded, at_frame, status_of, ending_of, ending_text}
+use Rattle.con_trace.specs.Ending.{Ending, IsEnding, alone, worded, at_frame, status_of, ending_of, ending_text}
 use Rattle.con_host.specs.declared.session.Unrun.{Unrun}
 use Rattle.con_host.specs.declared.session.Unrun.TheVariants as unrun
 use Rattle.con_trace.specs.Line.{ended}
-use Rattle.con_trace.specs.Report.{report, said}
+use Rattle.con_trace.specs.Report.{History, IsHistory, IsReport, report_of}
+use Rattle.con_trace.specs.declared.trace.Trace.{Trace}
+use Rattle.con_forms.specs.Told.{is_told}
+use Rattle.con_host.specs.Telling.{ended_report, told_report}
 use Rattle.std.specs.Str.{encode_utf8_all}
 use Rattle.std.specs.Char.Utf16.{utf16_lossy_chars}
 
@@ -32,9 +35,13 @@ ending_after ends.TooLong = worded 10 (codes "too long")
 ending_after (ends.Bad place kind) = at_frame place kind
 ending_after ends.Memory = alone 9
 
--- the report of a history with its answers and ends, up to this end
+-- the report of a history with its answers and ends, up to this end, where each Paint has its end
+abbrev pub whole_text : List Entry → List Reply → List ℕ → End → List ℕ
+whole_text h rs es end = ended_report h rs es (ending_after end)
+
+-- and in general: it ends before a Paint that has no end
 abbrev pub report_text : List Entry → List Reply → List ℕ → End → List ℕ
-report_text h rs es end = report (said h rs es) (ending_after end)
+report_text h rs es end = told_report h rs es (ending_after end)
 
 -- the status where the report failed: of several causes the session's comes first
 abbrev pub failed_after : End → ℕ
@@ -50,12 +57,33 @@ abbrev pub IsStatus : ℕ → End → Type 0
 IsStatus status end = (status ≡ status_of (ending_after end)) ⊎ ((status ≡ 9) ⊎ ((status ≡ 6) × (end ≡ ends.Done)))
 
 -- With status 6, and with 9 where the session itself came to another end, the report is never whole: not all of it was written.
-abbrev pub IsCut : ℕ → List Entry → List Reply → List ℕ → End → Option (List ℕ) → Option (List ℕ) → Type 0
-IsCut status h rs es end before now = (status ≡ 6) ⊎ ((status ≡ 9) × ¬ (end ≡ ends.Memory)) → WrotePart (report_text h rs es end) before now
+abbrev pub IsCut : ℕ → End → List ℕ → Option (List ℕ) → Option (List ℕ) → Type 0
+IsCut status end text before now = (status ≡ 6) ⊎ ((status ≡ 9) × ¬ (end ≡ ends.Memory)) → WrotePart text before now
+
+-- ---- the report as its reader has it
+
+-- what a report is read as
+abbrev pub trace_of : List Entry → List Reply → List ℕ → ℕ → Trace
+trace_of h rs es status = record { entries = h; replies = rs; ends = es; status = status }
+
+-- a text is a report of this, and of nothing else
+abbrev pub ReadsAs : List ℕ → Trace → Type 0
+ReadsAs text t = IsReport text t × ((other : Trace) → IsReport text other → other ≡ t)
+
+-- what was written is a front of a report
+abbrev pub IsFrontOfReport : Option (List ℕ) → Option (List ℕ) → Type 0
+IsFrontOfReport before now = (h : History) × (last : Ending) × IsHistory h × IsEnding last × WroteFront (report_of h last) before now
+
+-- The whole report, read back, gives this history, these answers, ends and status, and no others; each Paint has its end but for want of memory; and
+-- what was written is a front of a report in any case.
+pub record ReadBack (h : List Entry) (rs : List Reply) (es : List ℕ) (end : End) (last : Ending) (before now : Option (List ℕ)) : Type 0 where
+  pub whole : is_told h rs es ≡ true → ReadsAs (told_report h rs es last) (trace_of h rs es (status_of last))
+  pub all' : is_memory end ≡ false → is_told h rs es ≡ true
+  pub of_report : IsFrontOfReport before now
 
 -- The session ran, in whatever order its actors came: one history, with all that such a session leaves, in which each
 -- record of the input goes to one read at most and each read answers what is of its records, and its report, which is whole unless the report
--- failed or there was no memory for it, and then is cut.
+-- failed or there was no memory for it, and then is cut. Its reader has this history of it.
 pub record Ran (status : ℕ) (session : Clients) (racks : List (List ℕ)) (before left old now before_report report' : Option (List ℕ)) (failed : Type 0) : Type 0 where
   pub entries : List Entry
   pub replies : List Reply
@@ -67,7 +95,8 @@ pub record Ran (status : ℕ) (session : Clients) (racks : List (List ℕ)) (bef
   pub front : WroteFront (report_text entries replies ends' end) before_report report'
   pub whole : ¬ (status ≡ 9) → ¬ (status ≡ 6) → ¬ failed → report' ≡ then_written before_report (report_text entries replies ends' end)
   pub done : status ≡ 0 → report' ≡ then_written before_report (report_text entries replies ends' end)
-  pub cut : IsCut status entries replies ends' end before_report report'
+  pub cut : IsCut status end (report_text entries replies ends' end) before_report report'
+  pub read : ReadBack entries replies ends' end (ending_after end) before_report report'
 
 -- It ran by turns: the same, and its history is rounds of these turns.
 pub record RanByTurns (status : ℕ) (session : Clients) (racks : List (List ℕ)) (before left old now before_report report' : Option (List ℕ)) (failed : Type 0) : Type 0 where

@@ -1,11 +1,12 @@
--- The lines of a history, without the last one; and a report that was written with a last line.
-use Rattle.std.specs.Prelude.{◌≡◌, ◌⊎◌, ℕ, List, [], ◌∷◌, ◌++◌, Option}
+-- The lines of a history, without the last one; a report as far as it is told; and one that was written with a last line.
+use Rattle.std.specs.Prelude.{◌≡◌, ◌⊎◌, ℕ, List, [], ◌∷◌, ◌++◌, Option, if◌then◌else◌}
 use Rattle.con_events.specs.declared.entry.Entry.{Entry}
 use Rattle.con_events.specs.declared.reply.Reply.{Reply}
 use Rattle.con_outside.specs.Outside.{then_written, WrotePart}
 use Rattle.con_trace.specs.Ending.{Ending}
 use Rattle.con_trace.specs.declared.said.Said.{Said}
 use Rattle.con_trace.specs.Report.{report, said, said_text}
+use Rattle.con_forms.specs.Told.{is_told, told}
 
 abbrev pub lines_text : List Said → List ℕ
 lines_text [] = []
@@ -14,6 +15,10 @@ lines_text (s ∷ ss) = said_text s ++ lines_text ss
 -- the report of a history with its answers and ends, and this last line
 abbrev pub ended_report : List Entry → List Reply → List ℕ → Ending → List ℕ
 ended_report h rs es last = report (said h rs es) last
+
+-- the same as far as it is told: it ends before a Paint that has no end, and then has no last line
+abbrev pub told_report : List Entry → List Reply → List ℕ → Ending → List ℕ
+told_report h rs es last = if is_told h rs es then ended_report h rs es last else lines_text (told h rs es)
 
 -- all of it was written, by the status that its last line tells; or a part of it, since the report failed, by the status for that; or a part, by 9, for want
 -- of memory

@@ -12,12 +12,13 @@ ghost use Rattle.con_trace.specs.Ending.{ending_of, status_of};
 
 use crate::session::{Unrun, close, failed_status, last_of, session_of, tell_with};
 use con_events::{End, Session};
+use con_forms::{a_legal_history_is_told, types_are_kept};
 use con_handlers::CtrlHandler;
 use con_link::{one_mirror_answer, one_mirror_frame};
 use con_machine::once_laws::each_record_is_taken_once;
 use con_outside::{Files, Sink, Source};
 use con_session::run_mirrored;
-use con_trace::EndLine;
+use con_trace::{EndLine, report_tells};
 use std::alloc::Global;
 
 // The last line where all was done, but for a second terminal that may have failed.
@@ -78,7 +79,15 @@ fn run<I: Source, O: Sink, N: Sink, R: Sink>(
     one_mirror_answer();
     one_mirror_frame();
     each_record_is_taken_once();
+    a_legal_history_is_told();
+    report_tells();
     let mirrored = run_mirrored(alloc, session, link, term, second, racks);
+    types_are_kept(
+        &mirrored.outcome.entries,
+        &mirrored.outcome.replies,
+        &mirrored.outcome.ends,
+        mirrored.outcome.end,
+    );
     let last = mirror_last_of(mirrored.outcome.end, mirrored.failed);
     let lost = mirror_failed_status(mirrored.outcome.end, mirrored.failed);
     tell_with(alloc, &mirrored.outcome, &last, lost, report)

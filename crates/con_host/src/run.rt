@@ -11,11 +11,13 @@ ghost use Rattle.con_host.specs.Sessions.{HasRun, Ran, ending_after};
 
 use crate::session::{Unrun, close, session_of, tell};
 use con_events::Session;
+use con_forms::{a_legal_history_is_told, types_are_kept};
 use con_handlers::CtrlHandler;
 use con_link::{one_answer, one_frame};
 use con_machine::once_laws::each_record_is_taken_once;
 use con_outside::{Files, Gate, Sink, Source};
 use con_threads::run_session;
+use con_trace::report_tells;
 use std::alloc::Global;
 use std::sync::Wait;
 use std::thread::Threads;
@@ -46,7 +48,15 @@ fn run<T: Threads + Wait + Sync, I: Source + Send, O: Sink + Send, R: Sink, G: G
     one_answer();
     one_frame();
     each_record_is_taken_once();
+    a_legal_history_is_told();
+    report_tells();
     let outcome = run_session(rt, alloc, session, link, term, racks, gate);
+    types_are_kept(
+        &outcome.entries,
+        &outcome.replies,
+        &outcome.ends,
+        outcome.end,
+    );
     tell(alloc, &outcome, report)
 }
 

@@ -4,8 +4,8 @@ ghost use Rattle.std.specs.Prelude.{◌≡◌, ◌≤◌, ℕ, List, Some, Ok, I
 ghost use Rattle.con_outside.specs.Outside.{Rose, then_written, WroteFront};
 ghost use Rattle.con_script.specs.Document.{document};
 ghost use Rattle.con_trace.specs.Ending.{ending_of, status_of};
-ghost use Rattle.con_host.specs.Sessions.{IsCut, IsFile, IsStatus, Explains, Tells, ending_after, failed_after, report_text};
-ghost use Rattle.con_host.specs.Telling.{Reported, ended_report};
+ghost use Rattle.con_host.specs.Sessions.{IsCut, IsFile, IsStatus, Explains, Tells, ending_after, failed_after, report_text, whole_text};
+ghost use Rattle.con_host.specs.Telling.{Reported, ended_report, told_report};
 
 use crate::telling::write_report;
 use con_events::{End, Session};
@@ -104,6 +104,7 @@ pub fn tell_with<R: Sink>(
     report: &mut R,
 ) -> u8
     ensures reported { Reported result (ended_report outcome.now.entries outcome.now.replies outcome.now.ends (ending_of last.now)) (status_of (ending_of last.now)) lost (R.written report.old) (R.written report.new) (Rose (R.faults report.old) (R.faults report.new)) }
+    ensures told { WroteFront (told_report outcome.now.entries outcome.now.replies outcome.now.ends (ending_of last.now)) (R.written report.old) (R.written report.new) }
     ensures never_falls { R.faults report.old ≤ R.faults report.new }
 {
     let written = write_report(
@@ -125,9 +126,9 @@ pub fn tell_with<R: Sink>(
 pub fn tell<R: Sink>(alloc: Global, outcome: &Outcome, report: &mut R) -> u8
     ensures status { IsStatus result outcome.now.end }
     ensures front { WroteFront (report_text outcome.now.entries outcome.now.replies outcome.now.ends outcome.now.end) (R.written report.old) (R.written report.new) }
-    ensures whole { ¬ (result ≡ 9) → ¬ (result ≡ 6) → ¬ (Rose (R.faults report.old) (R.faults report.new)) → R.written report.new ≡ then_written (R.written report.old) (report_text outcome.now.entries outcome.now.replies outcome.now.ends outcome.now.end) }
-    ensures done { result ≡ 0 → R.written report.new ≡ then_written (R.written report.old) (report_text outcome.now.entries outcome.now.replies outcome.now.ends outcome.now.end) }
-    ensures cut { IsCut result outcome.now.entries outcome.now.replies outcome.now.ends outcome.now.end (R.written report.old) (R.written report.new) }
+    ensures whole { ¬ (result ≡ 9) → ¬ (result ≡ 6) → ¬ (Rose (R.faults report.old) (R.faults report.new)) → R.written report.new ≡ then_written (R.written report.old) (whole_text outcome.now.entries outcome.now.replies outcome.now.ends outcome.now.end) }
+    ensures done { result ≡ 0 → R.written report.new ≡ then_written (R.written report.old) (whole_text outcome.now.entries outcome.now.replies outcome.now.ends outcome.now.end) }
+    ensures cut { IsCut result outcome.now.end (whole_text outcome.now.entries outcome.now.replies outcome.now.ends outcome.now.end) (R.written report.old) (R.written report.new) }
     ensures failed { result ≡ 6 → Rose (R.faults report.old) (R.faults report.new) }
     ensures never_falls { R.faults report.old ≤ R.faults report.new }
 {

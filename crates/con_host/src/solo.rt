@@ -11,11 +11,13 @@ ghost use Rattle.con_host.specs.Sessions.{RanByTurns, Soloed, ending_after};
 
 use crate::session::{Unrun, close, session_of, tell};
 use con_events::Session;
+use con_forms::{a_legal_history_is_told, types_are_kept};
 use con_handlers::CtrlHandler;
 use con_link::{one_answer, one_frame};
 use con_machine::once_laws::each_record_is_taken_once;
 use con_outside::{Files, Sink, Source};
 use con_session::run_solo;
+use con_trace::report_tells;
 use std::alloc::Global;
 
 // Runs the session and writes its report.
@@ -43,7 +45,15 @@ fn run<I: Source, O: Sink, R: Sink>(
     one_answer();
     one_frame();
     each_record_is_taken_once();
+    a_legal_history_is_told();
+    report_tells();
     let outcome = run_solo(alloc, session, link, term, racks);
+    types_are_kept(
+        &outcome.entries,
+        &outcome.replies,
+        &outcome.ends,
+        outcome.end,
+    );
     tell(alloc, &outcome, report)
 }
 

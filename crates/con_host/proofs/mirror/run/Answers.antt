@@ -3,7 +3,8 @@ use Rattle.con_link.specs.Reading.{mirrored}
 use Rattle.con_host.proofs.Certain.{mirror_certain}
 use Rattle.con_host.proofs.Foretelling.{left_foretold, left_no_frame, left_too_much}
 use Rattle.con_host.proofs.Mirrors.{apart, lost_by, plain_status, shown_all, told_cut, told_done, told_failed, told_status}
-use Rattle.con_host.proofs.Reports.{front_of, reported_as, whole_of}
+use Rattle.con_host.proofs.ReadBacks.{as_told, cut_as_told, mirror_ends_so, read_back, sound_mirror, sound_mirror_cut}
+use Rattle.con_host.proofs.Reports.{reported_as, told_as, whole_of}
 use Rattle.con_host.proofs.SessionLemmas.{ended_link, ended_term}
 use Rattle.con_host.proofs.mirror.run.Goals as goal
 
@@ -11,7 +12,10 @@ pub returns-clause-ran : goal.returns-clause-ran
 returns-clause-ran g c =
     let ran = c.run_mirrored-mirrored.ensures in
     let told = (reported_as _ _ _ _ _ _ _ _ _ _ _ c.mirror_last_of-last.ensures c.mirror_failed_status-lost.ensures c.tell_with.ensures.reported) in
-    let status = told_status _ _ _ _ _ _ _ told in record {
+    let status = told_status _ _ _ _ _ _ _ told in
+    let front = told_as c.run_mirrored-mirrored.result.outcome.entries c.run_mirrored-mirrored.result.outcome.replies c.run_mirrored-mirrored.result.outcome.ends _ _ _ _ c.mirror_last_of-last.ensures c.tell_with.ensures.told in
+    let read = read_back mirrored _ _ _ _ _ _ _ _ _ _ _ _ _ _ c.a_legal_history_is_told.ensures.fits c.a_legal_history_is_told.ensures.said c.a_legal_history_is_told.ensures.all c.a_legal_history_is_told.ensures.each c.report_tells.ensures
+    ran.outcome.leaves c.types_are_kept.ensures (mirror_ends_so _ _ c.types_are_kept.ensures.end) front in record {
       entries = _;
       replies = _;
       ends' = _;
@@ -21,10 +25,11 @@ returns-clause-ran g c =
       outcome = ran.outcome;
       once = c.each_record_is_taken_once.ensures.session _ _ _;
       status_is = status;
-      front = front_of _ _ _ _ _ _ _ told;
-      whole = whole_of _ _ _ _ _ _ _ told;
-      done = told_done _ _ _ _ _ _ _ told;
-      cut = told_cut _ _ _ _ _ _ _ told;
+      front = front;
+      whole = λ memory sure. as_told _ _ _ _ _ _ (read.all' (sound_mirror _ _ _ status memory)) (whole_of _ _ _ _ _ _ _ told memory sure);
+      done = λ e. as_told _ _ _ _ _ _ (read.all' (sound_mirror _ _ _ status (λ f. let bad : 0 ≡ 9 = sym e ∙ f in absurd (omega arith)))) (told_done _ _ _ _ _ _ _ told e);
+      cut = λ which. cut_as_told _ _ _ _ _ _ (read.all' (sound_mirror_cut _ _ _ status which)) (told_cut _ _ _ _ _ _ _ told which);
+      read = read;
       shown = shown_all _ _ _ _ _ _ _ status ran.second ran.outcome.leaves.more.all';
     }
 

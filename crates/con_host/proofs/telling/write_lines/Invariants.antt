@@ -1,11 +1,10 @@
 use Rattle.std.proofs.Common.{◌≤◌, length}
-use Rattle.con_trace.specs.Report.{said}
-use Rattle.con_host.proofs.TellLemmas.{Tells}
+use Rattle.con_host.proofs.TellLemmas.{Writes}
 use Rattle.con_host.proofs.telling.write_lines.Given as goal
 
 abbrev pub invariant-loop-coming : goal.invariant-loop-coming
 invariant-loop-coming g l = record {
-  tells : Tells (said l.entries l.replies l.ends) l.coming l.answers l.lengths (g.R.Sink.written l.initial.out) (g.R.Sink.written l.out);
+  writes : Writes l.entries l.replies l.ends l.coming l.answers l.lengths (g.R.Sink.written l.initial.out) (g.R.Sink.written l.out);
   never_falls : g.R.Sink.faults l.initial.out ≤ g.R.Sink.faults l.out;
 }
 
