@@ -11,3 +11,9 @@ pub mod Sending
 pub mod Yes
 pub mod OneMore
 pub mod ChainLemmas
+pub mod JudgeLemmas
+pub mod Ending
+pub mod Tracks
+pub mod Behind
+pub mod Found
+pub mod Links

@@ -15,3 +15,4 @@ pub mod Track
 pub mod Flags
 pub mod Playing
 pub mod Inside
+pub mod Judging

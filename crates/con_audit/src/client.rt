@@ -3,6 +3,7 @@ ghost use Rattle.std.specs.Prelude.{◌≡◌, ◌↔◌, ◌==◌, true, drop, 
 ghost use Rattle.con_events.specs.declared.call.Call.TheVariants as calls;
 ghost use Rattle.con_machine.specs.Client.{starting, event_of, next_event, due, ctrl_exit, is_fail, MayGoOn, MayBy, chained, took, moved_on};
 ghost use Rattle.con_machine.specs.Client as client;
+ghost use Rattle.con_audit.specs.Judging.{is_gone};
 ghost use Rattle.con_audit.specs.Track.{stance_of, turn};
 ghost use Rattle.con_events.specs.declared.event.Event.TheVariants as events;
 
@@ -74,6 +75,16 @@ impl<'a> Track<'a> {
             Stance::MayLeave => is_exit(event, CTRL_EXIT) || self.may_go_on(event),
             Stance::MustLeave => is_exit(event, CTRL_EXIT),
             Stance::Gone => false,
+        }
+    }
+
+    /// Whether it has left.
+    pub fn has_left(&self) -> bool
+        ensures { result ≡ is_gone self.now.stance }
+    {
+        match self.stance {
+            Stance::Gone => true,
+            _ => false,
         }
     }
 
