@@ -4,3 +4,5 @@
 pub mod callers;
 #[cfg(test)]
 mod frames;
+#[cfg(test)]
+mod verdicts;
