@@ -3,7 +3,7 @@ use crate::fault::Wrong;
 use crate::part::Part;
 use crate::running::{Ran, host_case};
 use crate::setup::{End, Failing, Setup};
-use con_host::{LINK, MIRROR, REPORT, TERMINAL};
+use con_ending::{LINK, MIRROR, REPORT, TERMINAL};
 use con_units::Bytes;
 use std::alloc::Global;
 use std::sync::Wait;

@@ -13,11 +13,11 @@ use Rattle.con_machine.specs.Turns.{paints}
 use Rattle.con_script.specs.Generated.{session_drawn}
 use Rattle.con_session.specs.Outcome.{IsOutcome}
 use Rattle.con_outside.specs.Outside.{then_written, WroteFront, WrotePart}
-use Rattle.con_host.specs.Ending.{end_line}
+use Rattle.con_ending.specs.Ending.{end_line}
 use Rattle.con_host.specs.Generating.{Generated, GeneratedPart, GeneratedRun, summary_of}
-use Rattle.con_host.specs.Playing.{Told}
+use Rattle.con_ending.specs.Ending.{Told}
 use Rattle.con_host.specs.Summary.{summary_text}
-use Rattle.con_host.proofs.Lines.{part_of}
+use Rattle.con_ending.specs.Laws.{part_of}
 
 short_of_memory : (seed : ℕ) (old now before report : Option (List ℕ)) (failed : Type 0) → GeneratedPart seed old now before report → Generated 9 seed old now before report failed
 short_of_memory seed old now before report failed part =

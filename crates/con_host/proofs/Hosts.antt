@@ -1,22 +1,20 @@
 -- How the top call ends, by what the words ask for.
-use Rattle.std.proofs.Common.{◌≡◌, ℕ, List, [], Option, Some, None, refl, sym, subst, ap, ◌∙◌, arith, ◌⊎◌, inr}
+use Rattle.std.proofs.Common.{◌≡◌, ℕ, List, [], Option, Some, None, refl, sym, subst, ap, ◌∙◌, rules, arith, ◌≤◌, length, ◌⊎◌, inl, inr}
 use Rattle.con_units.specs.declared.place.Size.{Size}
 use Rattle.con_outside.specs.Outside.{then_left, then_written, WroteFront, WrotePart}
 use Rattle.con_outside.specs.Laws.{then_left-none}
-use Rattle.con_host.specs.Ending.{end_line}
+use Rattle.con_ending.specs.Ending.{end_line}
 use Rattle.con_host.specs.Generating.{Generated}
 use Rattle.con_host.specs.Hosting.{Hosted}
 use Rattle.con_host.specs.Mirroring.{HasMirrored}
-use Rattle.con_host.specs.Playing.{Played}
+use Rattle.con_text.specs.Playing.{Played, PlayedPart}
 use Rattle.con_host.specs.Sessions.{HasRun, Soloed}
-use Rattle.con_host.specs.Typing.{Typed}
+use Rattle.con_text.specs.Typing.{Typed, TypedPart}
 use Rattle.con_words.specs.Words.{Asked, typing, playing, running, solo, mirroring, generating}
-use Rattle.con_host.proofs.Ends.{no_memory as no_playing}
 use Rattle.con_host.proofs.Generations.{no_memory as no_generating}
-use Rattle.con_host.proofs.Lines.{part_of, nothing_yet}
+use Rattle.con_ending.specs.Laws.{part_of, nothing_yet}
 use Rattle.con_host.proofs.SessionLemmas.{no_memory as no_running, no_turns}
 use Rattle.con_host.proofs.Mirrors.{no_mirror}
-use Rattle.con_host.proofs.Types.{no_memory as no_typing}
 
 pub no_form : (s : ℕ) (asked : Option Asked) (files : Option (List ℕ → Option (List ℕ))) (files_failed : Type 0) (racks : List (List ℕ)) (before old second before_report report : Option (List ℕ)) (failed second_failed : Type 0) → None ≡ asked → (s ≡ 2) ⊎ (s ≡ 9) → WroteFront (end_line 2) before_report report
     → (s ≡ 2 → ¬ failed → report ≡ then_written before_report (end_line 2)) → (¬ (s ≡ 2) → WrotePart (end_line 2) before_report report) → Hosted s asked files files_failed racks before before old old second second before_report report failed second_failed
@@ -36,6 +34,15 @@ no_form s asked files files_failed racks before old second before_report report 
   mirrored = λ name e. absurd (cc);
   second_same = λ _. refl;
 }
+
+-- there was no memory, and nothing was written
+no_playing : (size : Size) (text : List ℕ) (left before : Option (List ℕ)) (failed : Type 0) → length text ≤ 16781312 → Played 9 size text left before before failed
+no_playing size text left before failed few =
+    let all : PlayedPart size text left before before = inl (refl, few) in search rules
+
+no_typing : (text : List ℕ) (left before report : Option (List ℕ)) (failed : Type 0) → length text ≤ 16781312 → Typed 9 text left before before report report failed
+no_typing text left before report failed few =
+    let all : TypedPart text left before before report report = inl (refl, refl, few) in search rules
 
 -- there was no memory for the words
 pub no_words : (asked : Option Asked) (files : Option (List ℕ → Option (List ℕ))) (files_failed : Type 0) (racks : List (List ℕ)) (before old second before_report : Option (List ℕ)) (failed second_failed : Type 0) → Hosted 9 asked files files_failed racks before before old old second second before_report before_report failed second_failed

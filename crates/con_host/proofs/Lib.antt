@@ -1,9 +1,3 @@
-pub mod Pieces
-pub mod Ends
-pub mod Lines
-pub mod WindowLemmas
-pub mod Types
-pub mod Heard
 pub mod Hosts
 pub mod SessionLemmas
 pub mod TellLemmas

@@ -7,7 +7,7 @@ use Rattle.con_script.specs.Document.{document, json_of}
 use Rattle.con_script.specs.Session.{Where, session_in}
 use Rattle.con_trace.specs.Ending.{Ending, status_of}
 use Rattle.con_host.specs.Foretold.{IsSession}
-use Rattle.con_host.specs.Sessions.{Holds, IsFile, Reason, missing, unread, too_long, no_json, no_session, Tells, ending_for}
+use Rattle.con_ending.specs.Files.{Holds, IsFile, Reason, missing, unread, too_long, no_json, no_session, Tells, ending_for}
 
 some_is : (a b : List ℕ) → Some a ≡ Some b → a ≡ b
 some_is a b e = ap (λ o. unwrap_or o a) e

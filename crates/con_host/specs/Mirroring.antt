@@ -12,7 +12,8 @@ use Rattle.con_machine.specs.Once.{TakenOnce}
 use Rattle.con_session.specs.Second.{IsMirrorOutcome}
 use Rattle.con_trace.specs.Ending.{Ending, worded, status_of}
 use Rattle.con_host.specs.Telling.{told_report}
-use Rattle.con_host.specs.Sessions.{IsCut, IsFile, NotRun, ReadBack, ending_after, failed_after}
+use Rattle.con_host.specs.Sessions.{IsCut, ReadBack, ending_after, failed_after}
+use Rattle.con_ending.specs.Files.{IsFile, NotRun}
 
 -- the last line of a session that ended so, and whether its second terminal failed: where all else was done, the line says that
 abbrev pub mirror_ending : End → Bool → Ending

@@ -8,7 +8,7 @@ use Rattle.con_events.specs.declared.reply.Reply.TheVariants as replies
 use Rattle.con_machine.specs.Follows.{begun}
 use Rattle.con_machine.specs.History.{run}
 use Rattle.con_machine.specs.Turns.{paints}
-use Rattle.con_host.specs.Playing.{dump_after}
+use Rattle.con_text.specs.Playing.{dump_after}
 
 -- 1 for an event that was refused
 abbrev pub refusal : Reply → ℕ

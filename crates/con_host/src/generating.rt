@@ -8,8 +8,8 @@ ghost use Rattle.con_outside.specs.Outside.{Rose};
 ghost use Rattle.con_host.specs.Generating.{Generated, GeneratedRun, summary_of};
 ghost use Rattle.con_host.specs.Summary.{summary_text};
 
-use crate::ending::{DONE, MEMORY, REPORT, TERMINAL, finish};
 use crate::summary::summary;
+use con_ending::{DONE, MEMORY, REPORT, TERMINAL, finish};
 use con_events::{End, Session};
 use con_machine::once_laws::each_record_is_taken_once;
 use con_outside::{Fault, Sink, SureSink, SureSource, write_whole};

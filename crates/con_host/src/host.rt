@@ -12,15 +12,14 @@ ghost use Rattle.con_host.specs.Sessions.{ending_after};
 ghost use Rattle.con_words.specs.Words.{form_of, typing, playing, running, solo, mirroring, generating};
 ghost use Rattle.con_host.specs.Hosting.{Hosted};
 
-use crate::ending::{LINK, MEMORY, MIRROR, REPORT, TERMINAL, TOO_LONG, USAGE, finish};
 use crate::generating::host_gen;
 use crate::mirror::host_mirror;
-use crate::playing::host_play;
 use crate::run::host_run;
 use crate::solo::host_solo;
-use crate::typing::host_type;
+use con_ending::{LINK, MEMORY, MIRROR, REPORT, TERMINAL, TOO_LONG, USAGE, finish};
 use con_handlers::CtrlHandler;
 use con_outside::{Files, Gate, Sink, Source};
+use con_text::{host_play, host_type};
 use con_units::OutOfMemory;
 use con_words::Form;
 use std::alloc::Global;

@@ -1,10 +1,7 @@
 //! The top call: what the program does with its words, its link, its terminal and its report.
 //!
 //! [`console_host`] reads the words, and then
-//! - `type`: reads the link to its end as UTF-8 text, writes it on one screen of 80 by 25 where virtual terminal sequences
-//!   act, and writes one frame that shows it to the terminal ([`host_type`]);
-//! - `play WxH`: plays the link's bytes on the specified terminal of that size, and writes its dump to the report
-//!   ([`host_play`]);
+//! - `type` and `play`: what [`con_text`] does with the link's bytes;
 //! - `run SESSION`: reads the session of a file, runs it by threads, and writes its history to the report ([`host_run`]);
 //! - `solo SESSION`: the same by turns on one thread ([`host_solo`]);
 //! - `mirror SESSION`: the same with a second terminal, which attaches and detaches by frames of the link and shows a part of each
@@ -18,26 +15,17 @@
 //! Never promised: that memory is there, that a read of the link returns, that `run` does, and that two of its threads run at once.
 #![tactic(auto)]
 
-pub mod ending;
-pub mod framing;
 pub mod generating;
 pub mod host;
 pub mod mirror;
-pub mod playing;
-pub mod reading;
 pub mod run;
 pub mod session;
 pub mod solo;
 pub mod summary;
 pub mod telling;
-pub mod text;
-pub mod typing;
 
-pub use ending::{DONE, LINK, MEMORY, MIRROR, REPORT, TERMINAL, TOO_LONG, USAGE};
 pub use generating::host_gen;
 pub use host::console_host;
 pub use mirror::host_mirror;
-pub use playing::host_play;
 pub use run::host_run;
 pub use solo::host_solo;
-pub use typing::host_type;

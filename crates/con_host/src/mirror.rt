@@ -10,7 +10,8 @@ ghost use Rattle.con_host.specs.Sessions.{ending_after};
 ghost use Rattle.con_session.specs.Worker.{told_kind};
 ghost use Rattle.con_trace.specs.Ending.{ending_of, status_of};
 
-use crate::session::{Unrun, close, failed_status, last_of, session_of, tell_with};
+use crate::session::{failed_status, last_of, tell_with};
+use con_ending::{Unrun, close, session_of};
 use con_events::{End, Session};
 use con_forms::{a_legal_history_is_told, types_are_kept};
 use con_handlers::CtrlHandler;

@@ -9,7 +9,8 @@ ghost use Rattle.con_trace.specs.Ending.{status_of};
 ghost use Rattle.con_session.specs.Worker.{told_kind};
 ghost use Rattle.con_host.specs.Sessions.{RanByTurns, Soloed, ending_after};
 
-use crate::session::{Unrun, close, session_of, tell};
+use crate::session::tell;
+use con_ending::{Unrun, close, session_of};
 use con_events::Session;
 use con_forms::{a_legal_history_is_told, types_are_kept};
 use con_handlers::CtrlHandler;

@@ -4,14 +4,14 @@ ghost use Rattle.std.specs.Prelude.{◌≡◌, ℕ, ◌+◌, ◌≤◌, ◌++◌
 ghost use Rattle.con_machine.specs.Follows.{begun};
 ghost use Rattle.con_machine.specs.History.{is_legal};
 ghost use Rattle.con_machine.specs.Turns.{paints};
-ghost use Rattle.con_host.specs.Playing.{dump_after};
+ghost use Rattle.con_text.specs.Playing.{dump_after};
 ghost use Rattle.con_host.specs.Summary.{refusal, refusals, records_left, counts_text, summary_text, window};
 
-use crate::playing::dumped;
 use con_events::{Entry, Reply, Session};
 use con_machine::Console;
 use con_session::Outcome;
 use con_term::Terminal;
+use con_text::dumped;
 use con_units::{OutOfMemory, Size};
 use std::alloc::Global;
 

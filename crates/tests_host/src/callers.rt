@@ -4,7 +4,8 @@ ghost use Rattle.std.specs.Prelude.{◌≡◌, ◌≢◌, ℕ, List, map, Some, 
 ghost use Rattle.con_units.specs.declared.place.Size.{Size};
 ghost use Rattle.con_words.specs.Words.{form_of, typing, playing, solo};
 
-use con_host::{REPORT, TERMINAL, console_host};
+use con_ending::{REPORT, TERMINAL};
+use con_host::console_host;
 use con_outside::{MemoryFiles, MemorySink, MemorySource, NoGate};
 use std::alloc::Global;
 use std::sync::Wait;

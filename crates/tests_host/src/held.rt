@@ -2,7 +2,7 @@
 use crate::order::{HeldSink, Order, Rule};
 use crate::report::has_lines;
 use crate::runs::{host, played, source};
-use con_host::DONE;
+use con_ending::DONE;
 use con_outside::SureSink;
 use con_units::Bytes;
 use std::alloc::Global;

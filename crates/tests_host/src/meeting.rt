@@ -1,6 +1,6 @@
 // Clients that wait for each other.
 use crate::runs::{host, source};
-use con_host::DONE;
+use con_ending::DONE;
 use con_outside::{Gate, SureSink};
 use con_units::Bytes;
 use std::alloc::Global;

@@ -5,7 +5,7 @@ use crate::order::{HeldSource, Order, Rule};
 use crate::report::{ends_with, has_lines};
 use crate::runs::{Racks, Told, host, source};
 use con_handlers::{CtrlHandler, Swallow};
-use con_host::DONE;
+use con_ending::DONE;
 use con_outside::SureSink;
 use con_units::Bytes;
 use std::alloc::Global;

@@ -3,7 +3,7 @@ ghost use Rattle.std.specs.Prelude.{drop, Some};
 
 use crate::order::Order;
 use crate::runs::{host, source};
-use con_host::DONE;
+use con_ending::DONE;
 use con_outside::{Failed, Fault, Sink, Source, SureSink, SureSource};
 use con_units::Bytes;
 use std::alloc::Global;

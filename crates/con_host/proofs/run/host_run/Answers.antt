@@ -1,5 +1,5 @@
 use Rattle.std.proofs.Common.{subst}
-use Rattle.con_host.specs.Sessions.{Explains}
+use Rattle.con_ending.specs.Files.{Explains}
 use Rattle.con_host.proofs.Reasons.{never_eight, never_ten, no_reason}
 use Rattle.con_host.proofs.SessionLemmas.{told_alone}
 use Rattle.con_host.proofs.run.host_run.Goals as goal

@@ -1,0 +1,74 @@
+-- A session's file, and how a call ends that has no session.
+use Rattle.std.specs.Prelude.{◌≡◌, ◌⊎◌, ℕ, ◌≤◌, List, length, Option, IfSome, Some, None, Ok, Err, codes}
+use Rattle.con_events.specs.Session.{Clients}
+use Rattle.con_outside.specs.Outside.{then_written, WroteFront, WrotePart}
+use Rattle.con_outside.specs.Named.{IsTooLong}
+use Rattle.con_script.specs.Document.{document, json_of, path}
+use Rattle.con_script.specs.Session.{Where}
+use Rattle.con_trace.specs.Ending.{Ending, worded, status_of, ending_of, ending_text}
+use Rattle.con_trace.specs.Line.{ended}
+use Rattle.con_ending.specs.declared.file.Unrun.{Unrun}
+use Rattle.con_ending.specs.declared.file.Unrun.TheVariants as unrun
+use Rattle.std.specs.Str.{encode_utf8_all}
+use Rattle.std.specs.Char.Utf16.{utf16_lossy_chars}
+
+-- ---- no session
+
+-- the file of this name, where files are told, has these bytes
+abbrev pub IsFile : Option (List ℕ → Option (List ℕ)) → List ℕ → List ℕ → Type 0
+IsFile files name bytes = (length bytes ≤ 16777216) × IfSome files (λ find. find name ≡ Some bytes)
+
+-- why there is no session: no file has the name, the files failed, the file is too long, its bytes are no JSON, or no session
+pub data Reason : Type 0 where
+  missing : Reason
+  unread : Reason
+  too_long : Reason
+  no_json : List ℕ → Reason
+  no_session : List ℕ → Where → Reason
+
+abbrev pub Holds : Option (List ℕ → Option (List ℕ)) → List ℕ → Type 0 → Reason → Type 0
+Holds files name failed missing = IfSome files (λ find. find name ≡ None)
+Holds files name failed unread = failed
+Holds files name failed too_long = IfSome files (λ find. IsTooLong (find name))
+Holds files name failed (no_json bytes) = IsFile files name bytes × (json_of bytes ≡ None)
+Holds files name failed (no_session bytes w) = IsFile files name bytes × (document bytes ≡ Some (Err w))
+
+-- the last line that says so
+abbrev pub ending_for : Reason → Ending
+ending_for missing = worded 7 (codes "missing")
+ending_for unread = worded 7 (codes "failed")
+ending_for too_long = worded 3 (codes "length")
+ending_for (no_json bytes) = worded 3 (codes "json")
+ending_for (no_session bytes w) = worded 3 (encode_utf8_all (utf16_lossy_chars (path w)))
+
+-- a last line alone: whole unless the report failed; or there was no memory for it
+abbrev pub Tells : ℕ → Ending → Option (List ℕ) → Option (List ℕ) → Type 0 → Type 0
+Tells status last before now failed =
+    ((status ≡ status_of last) × WroteFront (ended (ending_text last)) before now × (¬ failed → now ≡ then_written before (ended (ending_text last))))
+    ⊎ ((status ≡ 9) × WrotePart (ended (ending_text last)) before now)
+
+-- Nothing was taken or written; the last line alone, unless the report failed; or there was no memory, for the session or for that line.
+pub record NotRun (status : ℕ) (files : Option (List ℕ → Option (List ℕ))) (name : List ℕ) (files_failed : Type 0) (before left old now before_report report' : Option (List ℕ)) (failed : Type 0) : Type 0 where
+  pub nothing_taken : left ≡ before
+  pub nothing_written : now ≡ old
+  pub told : ((status ≡ 9) × (report' ≡ before_report)) ⊎ ((why : Reason) × Holds files name files_failed why × Tells status (ending_for why) before_report report' failed)
+
+-- ---- a session or none
+
+-- there is no session; or the file is one, of which this came
+abbrev pub OfFile : (Clients → Type 0) → ℕ → Option (List ℕ → Option (List ℕ)) → List ℕ → Type 0 → Option (List ℕ) → Option (List ℕ) → Option (List ℕ) → Option (List ℕ) → Option (List ℕ) → Option (List ℕ) → Type 0 → Type 0
+OfFile Came status files name files_failed before left old now before_report report' failed =
+    NotRun status files name files_failed before left old now before_report report' failed
+    ⊎ ((bytes : List ℕ) × (session : Clients) × IsFile files name bytes × (document bytes ≡ Some (Ok session)) × Came session)
+
+-- ---- the code's own words
+
+-- what an answer without a session says
+abbrev pub Explains : Option (List ℕ → Option (List ℕ)) → List ℕ → Type 0 → Unrun → Type 0
+Explains files name failed (unrun.Told line) = (why : Reason) × Holds files name failed why × (ending_of line ≡ ending_for why)
+Explains files name failed unrun.OutOfMemory = Unit {0}
+
+-- why bytes are no session, where there was memory to tell
+abbrev pub Misread : List ℕ → Unrun → Type 0
+Misread bytes (unrun.Told line) = ((json_of bytes ≡ None) × (ending_of line ≡ ending_for (no_json bytes))) ⊎ ((w : Where) × (document bytes ≡ Some (Err w)) × (ending_of line ≡ ending_for (no_session bytes w)))
+Misread bytes unrun.OutOfMemory = Unit {0}

@@ -1,0 +1,86 @@
+//! The session of a file, and a last line alone.
+
+ghost use Rattle.std.specs.Prelude.{◌≡◌, ◌≤◌, ℕ, List, Some, Ok, IfOk, IfErr};
+ghost use Rattle.con_outside.specs.Outside.{Rose};
+ghost use Rattle.con_script.specs.Document.{document};
+ghost use Rattle.con_trace.specs.Ending.{ending_of, status_of};
+ghost use Rattle.con_ending.specs.Files.{IsFile, Explains, Misread, Tells};
+
+use con_events::Session;
+use con_outside::{Fault, Files, Found, Sink};
+use con_script::{SessionFault, read_session};
+use con_trace::{EndLine, write_end};
+use std::alloc::Global;
+
+/// Why there is no session.
+#[derive(Drop)]
+pub enum Unrun {
+    /// The last line that says why.
+    Told(EndLine),
+    /// There was no memory.
+    OutOfMemory,
+}
+
+/// The bytes of the file.
+pub fn bytes_of<F: Files>(alloc: Global, name: &str, files: &mut F) -> Result<Vec<u8>, Unrun>
+    ensures bytes { IfOk result (λ bytes. IsFile (F.files files.old) name.now bytes.items) }
+    ensures told { IfErr result (Explains (F.files files.old) name.now (Rose (F.faults files.old) (F.faults files.new))) }
+    ensures never_falls { F.faults files.old ≤ F.faults files.new }
+{
+    let mut bytes = Vec::new(alloc);
+    match files.read_all(name, &mut bytes) {
+        Ok(Found::Whole) => Ok(bytes),
+        Ok(Found::Missing) => Err(Unrun::Told(EndLine::Word(7, "missing"))),
+        Ok(Found::TooLong) => Err(Unrun::Told(EndLine::Word(3, "length"))),
+        Err(Fault::Failed) => Err(Unrun::Told(EndLine::Word(7, "failed"))),
+        Err(Fault::OutOfMemory) => Err(Unrun::OutOfMemory),
+    }
+}
+
+/// The session that the bytes of a file are.
+pub fn session_in(alloc: Global, bytes: &[u8]) -> Result<Session, Unrun>
+    ensures session { IfOk result (λ session. document bytes.now ≡ Some (Ok session)) }
+    ensures told { IfErr result (Misread bytes.now) }
+{
+    match read_session(alloc, bytes) {
+        Ok(session) => Ok(session),
+        Err(SessionFault::Json) => Err(Unrun::Told(EndLine::Word(3, "json"))),
+        Err(SessionFault::At(path)) => Err(Unrun::Told(EndLine::Path(path))),
+        Err(SessionFault::OutOfMemory) => Err(Unrun::OutOfMemory),
+    }
+}
+
+/// The session of the file.
+pub fn session_of<F: Files>(alloc: Global, name: &str, files: &mut F) -> Result<Session, Unrun>
+    ensures session { IfOk result (λ session. (bytes : List ℕ) × IsFile (F.files files.old) name.now bytes × (document bytes ≡ Some (Ok session))) }
+    ensures told { IfErr result (Explains (F.files files.old) name.now (Rose (F.faults files.old) (F.faults files.new))) }
+    ensures never_falls { F.faults files.old ≤ F.faults files.new }
+{
+    match bytes_of(alloc, name, files) {
+        Ok(bytes) => session_in(alloc, bytes.as_slice()),
+        Err(unrun) => Err(unrun),
+    }
+}
+
+/// The status that a last line tells.
+pub fn status_told(last: &EndLine) -> u8
+    ensures { result ≡ status_of (ending_of last.now) }
+{
+    match last {
+        EndLine::Plain(status) => *status,
+        EndLine::Word(status, _) => *status,
+        EndLine::Path(_) => 3,
+        EndLine::Frame(_, _) => 8,
+    }
+}
+
+/// Writes a last line alone, and answers its status, or 9 where there was no memory for it.
+pub fn close<R: Sink>(alloc: Global, report: &mut R, last: &EndLine) -> u8
+    ensures tells { Tells result (ending_of last.now) (R.written report.old) (R.written report.new) (Rose (R.faults report.old) (R.faults report.new)) }
+    ensures never_falls { R.faults report.old ≤ R.faults report.new }
+{
+    match write_end(alloc, report, last) {
+        Ok(()) | Err(Fault::Failed) => status_told(last),
+        Err(Fault::OutOfMemory) => 9,
+    }
+}
