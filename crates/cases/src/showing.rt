@@ -2,8 +2,8 @@
 use crate::fault::{Fault, Wrong};
 use crate::part::Line;
 use crate::setup::number;
-use con_text::host_play;
 use con_outside::{SureSink, SureSource};
+use con_text::host_play;
 use con_units::{Bytes, Size};
 use std::alloc::{AllocError, Global};
 

@@ -1,5 +1,5 @@
 -- What reading a session tells of the file that its bytes came from.
-use Rattle.std.proofs.Common.{◌≡◌, ℕ, List, Option, inl, inr, refl}
+use Rattle.std.proofs.Common.{ℕ, List, Option, inl, inr}
 use Rattle.std.specs.Prelude.{Result, Ok, Err, IfErr}
 use Rattle.con_ending.specs.declared.file.Unrun.{Unrun}
 use Rattle.con_ending.specs.declared.file.Unrun.TheVariants as unrun

@@ -13,9 +13,8 @@ use Rattle.con_machine.specs.Turns.{paints}
 use Rattle.con_script.specs.Generated.{session_drawn}
 use Rattle.con_session.specs.Outcome.{IsOutcome}
 use Rattle.con_outside.specs.Outside.{then_written, WroteFront, WrotePart}
-use Rattle.con_ending.specs.Ending.{end_line}
+use Rattle.con_ending.specs.Ending.{end_line, Told}
 use Rattle.con_host.specs.Generating.{Generated, GeneratedPart, GeneratedRun, summary_of}
-use Rattle.con_ending.specs.Ending.{Told}
 use Rattle.con_host.specs.Summary.{summary_text}
 use Rattle.con_ending.specs.Laws.{part_of}
 

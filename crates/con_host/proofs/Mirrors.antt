@@ -6,13 +6,13 @@ use Rattle.con_machine.specs.Rounds.{is_memory}
 use Rattle.con_outside.specs.Outside.{then_written, WrotePart}
 use Rattle.con_trace.specs.Ending.{ending_of, status_of}
 use Rattle.con_trace.specs.declared.ending.EndLine.{EndLine}
-use Rattle.con_host.specs.Mirroring.{HasMirrored, IsMirrorStatus, RanMirrored, mirror_ending, mirror_failed_after}
-use Rattle.con_ending.specs.Files.{Explains, NotRun, Tells}
-use Rattle.con_host.specs.Sessions.{IsStatus, ending_after, failed_after}
+use Rattle.con_host.specs.Mirroring.{HasMirrored, IsMirrorStatus, mirror_ending, mirror_failed_after}
+use Rattle.con_ending.specs.Files.{Explains, Tells}
+use Rattle.con_host.specs.Sessions.{IsStatus, ending_after}
 use Rattle.con_host.specs.Telling.{Reported}
 use Rattle.con_ending.specs.declared.file.Unrun.TheVariants as unrun
 use Rattle.con_host.proofs.Reports.{cut_by, failed_by, status_told, whole_by}
-use Rattle.con_host.proofs.SessionLemmas.{failed_is, never_done, never_six, two_not_run, two_ran}
+use Rattle.con_host.proofs.SessionLemmas.{never_done, never_six, two_not_run, two_ran}
 
 abbrev last_status : End → Bool → ℕ
 last_status end lost = status_of (mirror_ending end lost)

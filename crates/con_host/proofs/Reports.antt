@@ -1,5 +1,5 @@
 -- What a report that was written with a last line says of its status.
-use Rattle.std.proofs.Common.{◌≡◌, ◌⊎◌, inl, inr, sym, subst, ap, ◌∙◌, arith, ℕ, ◌≤◌, List, length, take, Option}
+use Rattle.std.proofs.Common.{◌≡◌, ◌⊎◌, inl, inr, subst, ℕ, List, Option}
 use Rattle.con_events.specs.declared.entry.Entry.{Entry}
 use Rattle.con_events.specs.declared.reply.Reply.{Reply}
 use Rattle.con_outside.specs.Outside.{then_written, WroteFront, WrotePart}

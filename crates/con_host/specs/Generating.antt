@@ -8,8 +8,7 @@ use Rattle.con_machine.specs.Follows.{begun}
 use Rattle.con_machine.specs.Once.{TakenOnce}
 use Rattle.con_script.specs.Generated.{session_drawn}
 use Rattle.con_session.specs.Outcome.{IsOutcome}
-use Rattle.con_ending.specs.Ending.{end_line}
-use Rattle.con_ending.specs.Ending.{Told}
+use Rattle.con_ending.specs.Ending.{end_line, Told}
 use Rattle.con_host.specs.Summary.{summary_text}
 
 -- The session of a number has run to its end, by turns, without handlers, over a link of no bytes: its history, its replies, the ends of its frames, and the

@@ -2,11 +2,10 @@
 use Rattle.std.specs.Prelude.{◌≡◌, ◌≢◌, ℕ, ◌⊎◌, List, Option, Some, None}
 use Rattle.con_units.specs.declared.place.Size.{Size}
 use Rattle.con_outside.specs.Outside.{WrotePart, then_left}
-use Rattle.con_ending.specs.Ending.{end_line}
+use Rattle.con_ending.specs.Ending.{end_line, Told}
 use Rattle.con_host.specs.Generating.{Generated}
 use Rattle.con_host.specs.Mirroring.{HasMirrored}
 use Rattle.con_text.specs.Playing.{Played}
-use Rattle.con_ending.specs.Ending.{Told}
 use Rattle.con_host.specs.Sessions.{HasRun, Soloed}
 use Rattle.con_text.specs.Typing.{Typed}
 use Rattle.con_words.specs.Words.{Asked, typing, playing, running, solo, mirroring, generating}

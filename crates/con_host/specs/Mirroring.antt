@@ -5,7 +5,7 @@ use Rattle.con_events.specs.declared.end.End.{End}
 use Rattle.con_events.specs.declared.end.End.TheVariants as ends
 use Rattle.con_events.specs.declared.entry.Entry.{Entry}
 use Rattle.con_events.specs.declared.reply.Reply.{Reply}
-use Rattle.con_outside.specs.Outside.{then_written, WroteFront, WrotePart}
+use Rattle.con_outside.specs.Outside.{then_written, WroteFront}
 use Rattle.con_script.specs.Document.{document}
 use Rattle.con_machine.specs.Follows.{begun}
 use Rattle.con_machine.specs.Once.{TakenOnce}

@@ -2,10 +2,9 @@
 use Rattle.std.proofs.Common.{◌≡◌, ℕ, ◌≤◌, List, length, Option, refl, sym, subst, rules, arith, ◌⊎◌, inl, inr}
 use Rattle.con_outside.specs.Outside.{then_written, WroteFront, WrotePart}
 use Rattle.con_units.specs.declared.place.Size.{Size}
-use Rattle.con_ending.specs.Ending.{end_line}
+use Rattle.con_ending.specs.Ending.{end_line, Told}
 use Rattle.con_text.specs.Link.{IsTooLong}
 use Rattle.con_text.specs.Playing.{Played, PlayedPart, IsWhole, dump_after}
-use Rattle.con_ending.specs.Ending.{Told}
 use Rattle.con_ending.specs.Laws.{part_of}
 
 short_of_memory : (size : Size) (text : List ℕ) (left before now : Option (List ℕ)) (failed : Type 0) → PlayedPart size text left before now → Played 9 size text left before now failed

@@ -5,9 +5,8 @@ use Rattle.con_outside.specs.Outside.{then_written, WroteFront, WrotePart}
 use Rattle.con_units.specs.Split.{split}
 use Rattle.con_units.specs.Utf8.{utf8}
 use Rattle.con_term.specs.Play.{units_of}
-use Rattle.con_ending.specs.Ending.{end_line}
+use Rattle.con_ending.specs.Ending.{end_line, Told}
 use Rattle.con_text.specs.Link.{IsTooLong}
-use Rattle.con_ending.specs.Ending.{Told}
 use Rattle.con_text.specs.Playing.{IsWhole}
 use Rattle.con_text.specs.Typing.{Typed, TypedPart, Typing, WroteFrame, IsFrame, ShowsBuffers, PrintsAtMost, text_typed, units_typed, ended, ended_with, cut_units, heard, opening}
 use Rattle.con_text.specs.TypedInTurn.{units_in_turn, typed_none}

@@ -6,7 +6,7 @@ use Rattle.con_units.specs.declared.place.Size.{Size}
 use Rattle.con_term.specs.Page.{Page, blank_page}
 use Rattle.con_term.specs.Dump.{dump}
 use Rattle.con_term.specs.Play.{play}
-use Rattle.con_ending.specs.Ending.{end_line}
+use Rattle.con_ending.specs.Ending.{end_line, Told}
 use Rattle.con_text.specs.Link.{IsTooLong}
 
 abbrev pub is_play_status : ℕ → Bool

@@ -11,10 +11,9 @@ use Rattle.con_screens.specs.Buffer.{new_screen, buffer_written}
 use Rattle.con_screens.specs.Buffers.{Buffers, buffer_at, first_buffers, with_buffer}
 use Rattle.con_screens.specs.Lending.{screen_left}
 use Rattle.con_screens.specs.View.{view_of}
-use Rattle.con_ending.specs.Ending.{end_line}
+use Rattle.con_ending.specs.Ending.{end_line, Told}
 use Rattle.con_text.specs.Link.{IsTooLong}
 use Rattle.con_text.specs.Playing.{IsWhole}
-use Rattle.con_ending.specs.Ending.{Told}
 
 -- one more U+FFFD for a character that is cut at the text's end
 abbrev pub cut_units : List ℕ → List ℕ

@@ -4,8 +4,8 @@
 
 mod words;
 
-use con_handlers::{CtrlHandler, Note, Once, Swallow, Tally};
 use con_ending::MEMORY;
+use con_handlers::{CtrlHandler, Note, Once, Swallow, Tally};
 use con_host::console_host;
 use con_outside::{DiskFiles, DiskSink, Files, NoGate, Sink, Source, StdSink, StdSource};
 use std::alloc::{AllocError, Global};
