@@ -10,7 +10,7 @@
 //!   ([`host_gen`]).
 //!
 //! Its contract says, for each status that it answers, what was taken from the link, and what the terminals and the
-//! report have. Memory does not grow with the link: a piece of 4,096 bytes is read, heard and forgotten.
+//! report have.
 //!
 //! Never promised: that memory is there, that a read of the link returns, that `run` does, and that two of its threads run at once.
 #![tactic(auto)]
