@@ -38,6 +38,7 @@ pub fn bytes_of<F: Files>(alloc: Global, name: &str, files: &mut F) -> Result<Ve
 }
 
 /// The session that the bytes of a file are.
+#[tactic(auto, using(crate::proofs::FileLemmas::no_json_by, crate::proofs::FileLemmas::no_session_by))]
 pub fn session_in(alloc: Global, bytes: &[u8]) -> Result<Session, Unrun>
     ensures session { IfOk result (λ session. document bytes.now ≡ Some (Ok session)) }
     ensures told { IfErr result (Misread bytes.now) }
