@@ -12,12 +12,27 @@ const LOOKS: u32 = 3_000_000;
 /// A client, a step of it, what has to come before the step begins, and what has come when it is done: sums of powers of two.
 pub type Rule = (u8, u32, u64, u64);
 
-/// A gate that keeps the steps of clients to rules. Each power of two may come once. It counts those that waited in vain.
+/// A gate that keeps the steps of clients to rules. Each power of two may come once. It counts those that waited in vain, and the steps of
+/// short scripts.
 #[derive(Drop)]
 pub struct Order {
     rules: &'static [Rule],
     came: AtomicU64,
     late: AtomicU64,
+    entered: AtomicU64,
+    left: AtomicU64,
+}
+
+// The hexadecimal digit of one of the first four steps of one of the first four clients; none of another step.
+fn mark_of(client: u8, n: u32) -> u64 {
+    if n > 3 {
+        return 0;
+    }
+    let place = u32::from(client)
+        .saturating_sub(1)
+        .saturating_mul(4)
+        .saturating_add(n);
+    1u64.checked_shl(place.saturating_mul(4)).unwrap_or(0)
 }
 
 impl Order {
@@ -27,6 +42,8 @@ impl Order {
             rules,
             came: AtomicU64::new(0),
             late: AtomicU64::new(0),
+            entered: AtomicU64::new(0),
+            left: AtomicU64::new(0),
         }
     }
 
@@ -46,6 +63,11 @@ impl Order {
         self.late.fetch_add(1, SeqCst);
     }
 
+    /// How often each step was entered, and how often it was left once it was entered: a digit each (`mark_of`).
+    pub fn steps(&self) -> [u64; 2] {
+        [self.entered.load(SeqCst), self.left.load(SeqCst)]
+    }
+
     /// Whether nobody waited in vain.
     pub fn was_kept(&self) -> bool {
         self.late.load(SeqCst) == 0
@@ -54,6 +76,7 @@ impl Order {
 
 impl Gate for Order {
     fn before(&self, client: u8, n: u32) {
+        self.entered.fetch_add(mark_of(client, n), SeqCst);
         for (one, step, needs, _) in self.rules {
             if *one == client && *step == n {
                 self.wait(*needs);
@@ -62,6 +85,9 @@ impl Gate for Order {
     }
 
     fn after(&self, client: u8, n: u32) {
+        let mark = mark_of(client, n);
+        self.left
+            .fetch_add(self.entered.load(SeqCst) & mark, SeqCst);
         for (one, step, _, done) in self.rules {
             if *one == client && *step == n {
                 self.come(*done);

@@ -13,10 +13,11 @@ use std::sync::Wait;
 use std::test::Fail;
 use std::thread::Threads;
 
-// A session over a link that gives its bytes once all that it needs has come, in the order of a gate.
-fn ordered<T: Threads + Wait + Sync>(
+/// A session, by turns or by threads, over a link that gives its bytes once all that it needs has come, in the order of a gate.
+pub fn ordered<T: Threads + Wait + Sync>(
     rt: &T,
     alloc: Global,
+    form: &str,
     document: &str,
     bytes: &[u8],
     needs: u64,
@@ -36,7 +37,7 @@ fn ordered<T: Threads + Wait + Sync>(
     host(
         rt,
         alloc,
-        ["run", "session"],
+        [form, "session"],
         document,
         &mut link,
         &mut term,
@@ -95,7 +96,7 @@ fn cuts_off<T: Threads + Wait + Sync>(
 ) -> Result<bool, Fail> {
     let order = Order::of(&CUT_RULES);
     let racks = racks_of(alloc, one)?;
-    let told = ordered(rt, alloc, CUT, CUT_LINK, 3, racks, &order)?;
+    let told = ordered(rt, alloc, "run", CUT, CUT_LINK, 3, racks, &order)?;
     Ok(
         told.status == DONE
             && order.was_kept()
@@ -159,7 +160,7 @@ fn one_has_read(alloc: Global, report: &Bytes, one: &str, other: &str) -> Result
 // Whether the first client gets the record where the gate makes the order.
 fn first_reads<T: Threads + Wait + Sync>(rt: &T, alloc: Global) -> Result<bool, Fail> {
     let order = Order::of(&SHORT_RULES);
-    let told = ordered(rt, alloc, SHORT, b"", 0, Vec::new(alloc), &order)?;
+    let told = ordered(rt, alloc, "run", SHORT, b"", 0, Vec::new(alloc), &order)?;
     Ok(
         told.status == DONE
             && order.was_kept()
@@ -199,7 +200,7 @@ fn have_swapped(alloc: Global, report: &Bytes) -> Result<bool, Fail> {
 // Whether each client gets the other one's record where the gate makes the order.
 fn swap<T: Threads + Wait + Sync>(rt: &T, alloc: Global) -> Result<bool, Fail> {
     let order = Order::of(&SWAP_RULES);
-    let told = ordered(rt, alloc, SWAP, b"", 0, Vec::new(alloc), &order)?;
+    let told = ordered(rt, alloc, "run", SWAP, b"", 0, Vec::new(alloc), &order)?;
     Ok(
         told.status == DONE
             && order.was_kept()

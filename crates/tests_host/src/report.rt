@@ -28,17 +28,18 @@ fn lines_from(alloc: Global, report: &[u8], begins: &[u8]) -> Result<Vec<u8>, Fa
     Ok(out)
 }
 
-// The lines of an actor.
-fn lines_of(alloc: Global, report: &Bytes, actor: &str) -> Result<Vec<u8>, Fail> {
-    let begins = quoted(alloc, format!(in alloc; "['{actor}',")?.as_str())?;
-    lines_from(alloc, report.as_slice(), begins.as_slice())
+/// Whether these are the lines that begin so, and no other one.
+pub fn has_from(alloc: Global, report: &Bytes, begins: &str, wanted: &str) -> Result<bool, Fail> {
+    let begins = quoted(alloc, begins)?;
+    let lines = lines_from(alloc, report.as_slice(), begins.as_slice())?;
+    let wanted = quoted(alloc, wanted)?;
+    Ok(lines.as_slice() == wanted.as_slice())
 }
 
 /// Whether these are the lines of an actor, and no other one.
 pub fn has_lines(alloc: Global, report: &Bytes, actor: &str, wanted: &str) -> Result<bool, Fail> {
-    let lines = lines_of(alloc, report, actor)?;
-    let wanted = quoted(alloc, wanted)?;
-    Ok(lines.as_slice() == wanted.as_slice())
+    let begins = format!(in alloc; "['{actor}',")?;
+    has_from(alloc, report, begins.as_str(), wanted)
 }
 
 /// Whether a report, or a part of one, ends so.
