@@ -8,6 +8,7 @@ use crate::wanted::{
     Difference, Wanted, Way, behind_number, dump_lines, first_difference, is_blank, is_line,
     report_lines,
 };
+use con_host::MEMORY;
 use std::alloc::{AllocError, Global};
 use std::str;
 
@@ -93,7 +94,18 @@ fn ends(alloc: Global, lines: &[&str]) -> Result<Vec<usize>, AllocError> {
     Ok(out)
 }
 
-/// What differs from what is wanted, or `None`. The wanted parts stand between parts `or`, and those up to one of them are enough.
+// Whether one of the wanted parts is the status of want of memory.
+fn wants_memory(parts: &[Part<'_>]) -> Result<bool, Wrong> {
+    for part in parts {
+        if part.head == Head::Status && number::<u8>(part.rest)? == MEMORY {
+            return Ok(true);
+        }
+    }
+    Ok(false)
+}
+
+/// What differs from what is wanted, or `None`. The wanted parts stand between parts `or`, and those up to one of them are enough. Want of
+/// memory is a difference of every case that does not want it.
 pub fn difference(
     alloc: Global,
     came: &Came<'_>,
@@ -105,6 +117,9 @@ pub fn difference(
             alloc,
             "lengths after pictures that fall, or do not end with the stream",
         )?));
+    }
+    if came.status == MEMORY && !wants_memory(parts)? {
+        return Ok(Some(String::from_str(alloc, "want of memory")?));
     }
     let mut first = None;
     for parts in parts.split(|part| part.head == Head::Or) {
