@@ -17,9 +17,11 @@ def size(width, height):
     return b"R" + width.to_bytes(2, "big") + height.to_bytes(2, "big")
 
 
-def frame_at(link, at):
-    """How long the frame at a place is, or the kind of its fault."""
+def frame_at(link, at, mirrored=False):
+    """How long the frame at a place is, or the kind of its fault. `A` and `D` are frames of a link with a second terminal."""
     tag, left = link[at : at + 1], len(link) - at
+    if mirrored and tag in (b"A", b"D"):
+        tag = b"R" if tag == b"A" else b"P"
     if tag in (b"Q", b"P", b"X"):
         return 1
     if tag == b"B":
@@ -35,11 +37,11 @@ def frame_at(link, at):
     return "tag"
 
 
-def end_of(link):
+def end_of(link, mirrored=False):
     """The status and the last line of a session over a link, by its bytes alone."""
     at = 0
     while at < len(link):
-        found = frame_at(link, at)
+        found = frame_at(link, at, mirrored)
         if isinstance(found, str):
             return "8", f'["end",8,{at},"{found}"]'
         if link[at : at + 1] == b"X":

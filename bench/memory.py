@@ -71,7 +71,7 @@ void *realloc(void *old, size_t size)
 """
 
 
-def sweep(shim, words, link=None, seconds=20):
+def sweep(shim, words, link=None, seconds=20, folder=None):
     """Runs with each allocation failing in turn, each with its number, until one meets no failure; before them one with all memory. Each has some seconds."""
     mark = shim + ".mark"
     for n in range(MOST):
@@ -80,7 +80,7 @@ def sweep(shim, words, link=None, seconds=20):
         given = open(link, "rb") if link else subprocess.DEVNULL
         try:
             env = {"LD_PRELOAD": shim, "FAIL_AT": str(n), "MARK": mark}
-            ran = subprocess.run(words, env=env, stdin=given, capture_output=True, check=False, timeout=seconds)
+            ran = subprocess.run(words, env=env, stdin=given, capture_output=True, check=False, timeout=seconds, cwd=folder)
         except subprocess.TimeoutExpired:
             ran = subprocess.CompletedProcess(words, f"none within {seconds} seconds", b"", b"")
         if link:

@@ -24,7 +24,7 @@ import hostile
 import memory
 import runs
 
-DONE, WAYS = '["end",0]', ("solo", "run")
+DONE, WAYS, SECOND = '["end",0]', ("solo", "run"), "conpty.mirror"
 table = runs.Table()
 DOCS = os.path.join(os.path.dirname(os.path.abspath(__file__)), "..", "docs")
 
@@ -68,7 +68,7 @@ int open(const char *path, int how, ...)
     static int (*really)(const char *, int, ...);
     if (!really)
         really = dlsym(RTLD_NEXT, "open");
-    return is_due("opening") ? -1 : really(path, how, 0600);
+    return is_due(strstr(path, "conpty.mirror") ? "making" : "opening") ? -1 : really(path, how, 0600);
 }
 
 ssize_t read(int file, void *into, size_t size)
@@ -84,7 +84,7 @@ ssize_t write(int file, const void *from, size_t size)
     static ssize_t (*really)(int, const void *, size_t);
     if (!really)
         really = dlsym(RTLD_NEXT, "write");
-    return is_due(file == 2 ? "report" : "stream") ? -1 : really(file, from, part(size));
+    return is_due(file == 2 ? "report" : file == 1 ? "stream" : "second") ? -1 : really(file, from, part(size));
 }
 """
 
@@ -107,12 +107,23 @@ class Room:
         self.listing = hostile.document(folder, "listing.json", hostile.listing())
         self.listing_link = self.file("listing.link", hostile.LISTING_LINK)
         self.shell, self.shell_link = examples.path("shell", "json"), examples.path("shell", "link")
+        self.mirror, self.mirror_link = examples.path("mirror", "json"), examples.path("mirror", "link")
 
     def path(self, name):
         return os.path.join(self.folder, name)
 
     def file(self, name, text):
         return hostile.written(self.folder, name, [text])
+
+    def second(self):
+        """What a run by `mirror` wrote to its second terminal. The file goes, so that the next run makes it."""
+        try:
+            with open(self.path(SECOND), "rb") as stream:
+                text = stream.read()
+            os.remove(self.path(SECOND))
+            return text
+        except FileNotFoundError:
+            return b""
 
     def library(self, name, source):
         path = self.path(name)
@@ -127,10 +138,10 @@ def shown(ran, size="80x25"):
 
 # ---- each allocation fails in turn
 
-def swept(shim, words, link, kind_of):
+def swept(shim, words, link, kind_of, folder=None):
     """How the runs with each allocation failing ended, by their kinds."""
     kinds, others, begun = collections.Counter(), [], time.perf_counter()
-    for n, ran in memory.sweep(shim, [runs.PROGRAM, *words], link, seconds=5):
+    for n, ran in memory.sweep(shim, [runs.PROGRAM, *words], link, seconds=5, folder=folder):
         kind = kind_of(n, ran)
         kinds[(kind or "otherwise").removeprefix("with status ")] += n > 0
         others += [f"allocation {n}: status {ran.returncode}"] * (kind is None)
@@ -171,6 +182,7 @@ def memories(room):
     both = hostile.document(room.folder, "two scripts", hostile.session([["count", 1]] * 2, clients=2))
     swept(shim, ["solo", room.listing], room.listing_link, Turns())
     swept(shim, ["solo", room.shell], room.shell_link, Turns())
+    swept(shim, ["mirror", room.mirror], room.mirror_link, Turns(), room.folder)
     swept(shim, ["run", both], os.devnull, by_threads)
 
 
@@ -184,12 +196,20 @@ LASTS = {
     "stream": ("5", '["end",5,"term"]'),
     "report": ("6", None),
 }
-CALLS = {"opening": "each opening of the file", "file": "each read of the file", "link": "each read of the link"}
+# The same of the file of a second terminal: the call that makes it, and those that write it.
+SECONDS = {"making": ("12", '["end",12,"mirror"]'), "second": ("12", '["end",12,"mirror"]')}
+CALLS = {
+    "opening": "each opening of the file",
+    "file": "each read of the file",
+    "link": "each read of the link",
+    "making": f"each making of `{SECOND}`",
+    "second": f"each write of `{SECOND}`",
+}
 
 
 def fault_of(what, ran, whole):
     """What is wrong with a run in which a call of this kind failed."""
-    ended, last = LASTS[what]
+    ended, last = (LASTS | SECONDS)[what]
     if (ran.ended, last or ran.err.last_line()) != (ended, ran.err.last_line()):
         return f"status {ran.ended}, {ran.err.last_line()}"
     if not whole.out.first.startswith(ran.out.first):
@@ -200,27 +220,30 @@ def fault_of(what, ran, whole):
 def failing(room, shim, words, link, what, fronts=True):
     """Runs with each call of a kind failing in turn, until a run meets none."""
     mark, others, begun, n = room.path("mark"), [], time.perf_counter(), 1
-    whole = runs.run(words, link)
+    whole, second = runs.run(words, link, folder=room.folder), room.second()
     while True:
         if os.path.exists(mark):
             os.remove(mark)
-        ran = runs.run(words, link, env={"LD_PRELOAD": shim, "FAILS": what, "FAILS_AT": str(n), "MARK": mark})
+        env = {"LD_PRELOAD": shim, "FAILS": what, "FAILS_AT": str(n), "MARK": mark}
+        ran = runs.run(words, link, env=env, folder=room.folder)
+        is_front = second.startswith(room.second())
         if not os.path.exists(mark):
             break
-        fault = fault_of(what, ran, whole if fronts else ran)
+        fault = fault_of(what, ran, whole if fronts else ran) or "" if is_front else f"`{SECOND}` is no front"
         others += [f"call {n}: {fault}"] * bool(fault)
         n += 1
     told = f"{CALLS.get(what, f'each write of the {what}')} by `{' '.join(map(os.path.basename, words))}` fails in turn"
-    kinds = collections.Counter({LASTS[what][0]: n - 1})
-    table.count(told, kinds, others + ["none failed"] * (n == 1), time.perf_counter() - begun, LASTS[what][1] or "")
+    ended, last = (LASTS | SECONDS)[what]
+    table.count(told, collections.Counter({ended: n - 1}), others + ["none failed"] * (n == 1), time.perf_counter() - begun, last or "")
 
 
-def pieces(room, shim, words, link):
+def pieces(room, shim, words, link, fronts=True):
     """A byte at a time: all is as it is with whole pieces."""
-    whole, ran = runs.run(words, link), runs.run(words, link, env={"LD_PRELOAD": shim, "AT_MOST": "1"})
-    same = (whole.out.first, whole.err.first) == (ran.out.first, ran.err.first)
+    whole, second = runs.run(words, link, folder=room.folder), room.second()
+    ran = runs.run(words, link, env={"LD_PRELOAD": shim, "AT_MOST": "1"}, folder=room.folder)
+    same = (whole.out.first, whole.err.first, second) == (ran.out.first, ran.err.first, room.second())
     told = " ".join(map(os.path.basename, words))
-    other = "" if same else "the same stream and report"
+    other = "" if same or not fronts else "the same stream and report"
     table.expect(f"`{told}`, whose reads and writes take a byte at a time", ran, whole.ended, whole.err.last_line(), other)
 
 
@@ -229,12 +252,14 @@ def calls(room):
     shim = room.library("calls.so", SHIM)
     turns = [(["solo", room.listing], room.listing_link, LASTS), (["solo", room.shell], room.shell_link, LASTS)]
     others = [(["gen", "7"], None, ("stream", "report")), (["type"], room.shell, ("link", "stream")), (["play", "80x25"], room.shell, ("link", "report"))]
+    others += [(["mirror", room.mirror], room.mirror_link, LASTS | SECONDS)]
     for words, link, kinds in turns + others:
         for what in kinds:
             failing(room, shim, words, link, what)
         pieces(room, shim, words, link)
-    for what in ("opening", "file", "link", "stream"):
+    for what in LASTS:
         failing(room, shim, ["run", room.shell], room.shell_link, what, fronts=False)
+    pieces(room, shim, ["run", room.shell], room.shell_link, fronts=False)
 
 
 # ---- links that are cut or spoiled
@@ -242,7 +267,7 @@ def calls(room):
 def cuts(way, name, path, link, room):
     kinds, others, begun = collections.Counter(), [], time.perf_counter()
     for word, text in hostile.spoiled(link):
-        ran, wanted = runs.run([way, path], room.file("spoiled", text)), hostile.end_of(text)
+        ran, wanted = runs.run([way, path], room.file("spoiled", text), folder=room.folder), hostile.end_of(text, way == "mirror")
         kinds[wanted[0]] += 1
         others += [f"{word}: {ran.ended}, {ran.err.last_line()}, and not {wanted[1]}"] * ((ran.ended, ran.err.last_line()) != wanted)
     table.count(f"the link of {name}, `{way}`: cut at each byte, and each byte set to 0 and to 255", kinds, others, time.perf_counter() - begun)
@@ -255,6 +280,8 @@ def links(room):
     for name in examples.NAMES:
         with open(examples.path(name, "link"), "rb") as link:
             cuts("solo", name, examples.path(name, "json"), link.read(), room)
+    with open(room.mirror_link, "rb") as link:
+        cuts("mirror", "mirror", room.mirror, link.read(), room)
 
 
 # ---- documents
@@ -288,6 +315,10 @@ def spelled(room):
     ran = runs.run(["solo", named(room, "large", hostile.filled(KEYED, b"a", b'":0}'))])
     is_told = ran.err.first.startswith(b'["end",3,"aaa') and ran.err.count == hostile.MOST - len(KEYED) - 4 + len('["end",3,""]\n')
     table.expect("16,777,216 bytes: an unknown key, which the path tells", ran, "3", other="" if is_told else "the key as its path")
+    key = "\x9b\x7f\u202e".encode()
+    ran = runs.run(["solo", room.file("keyed", KEYED + key + b'":0}')])
+    other = "" if ran.err.first == b'["end",3,"' + key + b'"]\n' else "the key as its path"
+    table.expect("an unknown key of U+009B, U+007F and U+202E, which stands in the path as it is", ran, "3", other=other)
     ran = runs.run(["solo", named(room, "large", hostile.filled(WRITING, b"a", b'"]]}]}'))])
     table.expect("16,777,216 bytes: a `write` of one text, which is refused with 1816", ran, "0", DONE, "" if b'["fail",1816]' in ran.err.last else "1816")
 
@@ -559,6 +590,25 @@ def full(room):
             with open(room.path("grows"), "wb") as out:
                 ran = runs.run(["gen", "7"], limits={"FSIZE": most}, **{number: out})
                 table.expect(f"a file may have {most} bytes, and gets the {what} of `gen 7`", ran, ended, last)
+    with open(room.path("grows"), "wb") as out:
+        ran = runs.run(["gen", "7"], limits={"FSIZE": 10}, out=out, ignored=())
+        table.expect("a file may have 10 bytes, and the program is called alone, where nobody ignores SIGXFSZ", ran, "SIGXFSZ")
+
+
+def seconds(room):
+    """Files of a second terminal that cannot be made or written, and one that is there."""
+    mirror, last = ["mirror", room.mirror], '["end",12,"mirror"]'
+    for what, make in (("is a folder", os.mkdir), ("is a symlink to a full device", lambda path: os.symlink("/dev/full", path))):
+        make(room.path(SECOND))
+        table.expect(f"`{SECOND}` {what}, `mirror`", runs.run(mirror, room.mirror_link, folder=room.folder), "12", last)
+        (os.rmdir if os.path.isdir(room.path(SECOND)) else os.remove)(room.path(SECOND))
+    room.file(SECOND, b"older")
+    ran = runs.run(mirror, room.mirror_link, folder=room.folder)
+    table.expect(f"`{SECOND}` is there, `mirror`: it is written anew", ran, "0", DONE, "another stream" if b"older" in room.second() else "")
+    room.file(SECOND, b"older")
+    ran = runs.run(mirror, os.devnull, folder=room.folder)
+    other = "" if room.second() == b"older" else "the older file"
+    table.expect(f"`{SECOND}` is there, `mirror`, and no second terminal comes: it stays", ran, "0", DONE, other)
 
 
 def gone(room):
@@ -630,6 +680,7 @@ def streams(room):
     table.group("Standard input, output and error")
     closed(room)
     full(room)
+    seconds(room)
     gone(room)
     silent(room)
     signals(room)
@@ -639,10 +690,13 @@ def streams(room):
 
 def limits(room):
     table.group("Limits of the system")
-    for most in (8, 16, 32, 64, 128):
+    for most in (8, 12, 16, 24, 32, 64, 96, 128):
         for way in WAYS:
-            ran = runs.run([way, room.shell], room.shell_link, limits={"AS": most << 20}, seconds=5)
-            table.expect(f"{most} MiB of room, `{way}`", ran, NO_THREAD if way == "run" else ("0", "9"))
+            for what, link in (("", room.shell_link), (", with an empty link", os.devnull)):
+                ran = runs.run([way, room.shell], link, limits={"AS": most << 20}, seconds=5)
+                table.expect(f"{most} MiB of room, `{way}`{what}", ran, NO_THREAD if way == "run" else ("0", "9"))
+    ran = runs.run(["run", room.shell], room.shell_link, limits={"AS": 4 << 20}, seconds=5)
+    table.expect("4 MiB of room, `run`: the system does not load the program", ran, ("127", "9", "SIGSEGV", "SIGKILL"))
     for most in (64, 256, 1024):
         for way in WAYS:
             ran = runs.run([way, room.listing], room.listing_link, limits={"STACK": most << 10}, seconds=5)

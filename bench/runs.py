@@ -60,7 +60,7 @@ class Ran(NamedTuple):
     memory: str
 
 
-def limited(limits, closed, user):
+def limited(limits, closed, user, ignored):
     """What is done in the new process before the program begins."""
 
     def prepare():
@@ -72,8 +72,8 @@ def limited(limits, closed, user):
             os.setgroups([])
             os.setgid(user)
             os.setuid(user)
-        if "FSIZE" in limits:
-            signal.signal(signal.SIGXFSZ, signal.SIG_IGN)
+        for number in ignored:
+            signal.signal(number, signal.SIG_IGN)
 
     return prepare
 
@@ -97,15 +97,20 @@ def ended_of(status):
     return NO_END if status is None else signal.Signals(-status).name if status < 0 else str(status)
 
 
-def run(words, link=None, *, given=None, out=None, err=None, seconds=120, limits=None, closed=(), user=None, env=None, program=None, name=None, beside=None):
+def run(
+    words, link=None, *, given=None, out=None, err=None, seconds=120, limits=None, closed=(), user=None, env=None, program=None, name=None, beside=None,
+    folder=None, ignored=(signal.SIGXFSZ,),
+):
     """Runs the program. `link` is the path of what it reads, `given` an open file in its place; `out` and `err` are open files, or what comes is kept.
-    `name` is what the program is told that it is called; `beside` is called with the process once it runs."""
+    `name` is what the program is told that it is called; `beside` is called with the process once it runs; `folder` is where it runs, and `ignored` are the
+    signals that do nothing."""
     program = program or PROGRAM
     reader = given if given is not None else open(link or os.devnull, "rb")
     floor = resource.getrusage(resource.RUSAGE_SELF).ru_maxrss // 1024 + 1
     how = {"stdout": subprocess.PIPE if out is None else out, "stderr": subprocess.PIPE if err is None else err, "env": {**os.environ, **(env or {})}}
     begun = time.perf_counter()
-    child = subprocess.Popen([name or program, *words], executable=program, stdin=reader, preexec_fn=limited(limits or {}, closed, user), **how)
+    how |= {"cwd": folder, "preexec_fn": limited(limits or {}, closed, user, ignored)}
+    child = subprocess.Popen([name or program, *words], executable=program, stdin=reader, **how)
     if given is None:
         reader.close()
     kept = [Kept(pipe) if pipe else Nothing for pipe in (child.stdout, child.stderr)]
