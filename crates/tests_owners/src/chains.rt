@@ -92,32 +92,15 @@ fn each_is_dropped_once(rt: HostRuntime) -> Result<(), Fail> {
     Ok(())
 }
 
-// Adds a handler, once more where there was no memory for it. The chain is then as it was, so it asks just the others.
-fn add_again(
-    chain: &mut Chain,
-    one: Watched,
-    seen: &AtomicU64,
-    alloc: Global,
-) -> Result<bool, Fail> {
-    let others = chain.len() as u64;
-    let Err(unadded) = chain.add(Box::new(alloc, one)?) else {
-        return Ok(true);
-    };
-    let before = seen.load(Ordering::SeqCst);
-    chain.deliver(1);
-    let is_same = seen.load(Ordering::SeqCst).wrapping_sub(before) == others;
-    Ok(is_same && chain.len() as u64 == others && chain.add(unadded.handler).is_ok())
-}
-
-// With `rt try --test --fail-alloc N` an allocation fails, where the chain grows too.
+// With `rt try --test --fail-alloc N` an allocation fails, where the chain grows too: it is then as it was, so it asks just the others.
 #[test]
 fn one_that_was_refused_is_added(rt: HostRuntime) -> Result<(), Fail> {
     let alloc = rt.alloc();
     let seen = Arc::new(alloc, AtomicU64::new(0))?;
     let dropped = Arc::new(alloc, AtomicU64::new(0))?;
     let mut chain = Chain::new(alloc);
-    let mut added = true;
-    for _ in 0..5 {
+    let mut right = true;
+    for others in 0..5 {
         let one = Watched {
             answer: false,
             asked: 0,
@@ -125,14 +108,20 @@ fn one_that_was_refused_is_added(rt: HostRuntime) -> Result<(), Fail> {
             seen: Arc::try_clone(&seen)?,
             dropped: Arc::try_clone(&dropped)?,
         };
-        added = add_again(&mut chain, one, &seen, alloc)? && added;
+        if let Err(unadded) = chain.add(Box::new(alloc, one)?) {
+            let before = seen.load(Ordering::SeqCst);
+            chain.deliver(1);
+            let asked = seen.load(Ordering::SeqCst).wrapping_sub(before);
+            let added = chain.add(unadded.handler).is_ok();
+            right = right && asked == others && added;
+        }
     }
     let before = seen.load(Ordering::SeqCst);
     chain.deliver(0);
     let asked = seen.load(Ordering::SeqCst).wrapping_sub(before);
     drop(chain);
     assert_eq!(rt;
-        (added, asked, dropped.load(Ordering::SeqCst)),
+        (right, asked, dropped.load(Ordering::SeqCst)),
         (true, 5, 5)
     );
     Ok(())
