@@ -8,7 +8,7 @@ use crate::wanted::{
     Difference, Wanted, Way, behind_number, dump_lines, first_difference, is_blank, is_line,
     report_lines,
 };
-use con_host::MEMORY;
+use con_ending::MEMORY;
 use std::alloc::{AllocError, Global};
 use std::str;
 
