@@ -1,0 +1,7 @@
+pub mod FileLemmas
+pub mod Pictures
+pub mod Ends
+pub mod OneList
+pub mod Fronts
+pub mod Judgements
+mod Rows

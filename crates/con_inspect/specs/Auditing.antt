@@ -1,0 +1,77 @@
+-- How an audit of four files ends.
+use Rattle.std.specs.Prelude.{◌≡◌, ◌⊎◌, ℕ, List, Option, Some, Ok}
+use Rattle.con_events.specs.Session.{Clients}
+use Rattle.con_outside.specs.Outside.{then_written, WrotePart}
+use Rattle.con_script.specs.Document.{document}
+use Rattle.con_trace.specs.Audit.{a_run, found_text}
+use Rattle.con_trace.specs.Ending.{status_of}
+use Rattle.con_trace.specs.Line.{ended}
+use Rattle.con_trace.specs.Report.{IsReport}
+use Rattle.con_trace.specs.declared.trace.Trace.{Trace}
+use Rattle.con_ending.specs.Files.{Reason, Tells, ending_for}
+use Rattle.con_audit.specs.Headline.{IsRun}
+use Rattle.con_inspect.specs.Four.{Four, four_of, AreFiles, Bars}
+use Rattle.con_inspect.specs.Finding.{given, Finds, told, status_found, status_lost}
+use Rattle.con_inspect.specs.declared.finding.Finding.{Finding}
+
+-- ---- what is found of files by name
+
+pub data Judged : Type 0 where
+  barred : Reason → Judged
+  found : Finding → Judged
+
+-- there is nothing to audit; or the files have their bytes, of which the first are a session's document, and this is found
+abbrev pub IsJudged : Option (List ℕ → Option (List ℕ)) → Four → Type 0 → Judged → Type 0
+IsJudged files names failed (barred why) = Bars files names failed why
+IsJudged files names failed (found f) = (four : Four) × AreFiles files names four × (session : Clients) × (document four.session ≡ Some (Ok session))
+    × Finds session four f
+
+-- the status, where there is memory and the report does not fail
+abbrev pub status_for : Judged → ℕ
+status_for (barred why) = status_of (ending_for why)
+status_for (found f) = status_found f
+
+-- ---- how it is told
+
+-- the line of what was found, whole; cut, since the report failed; or cut, since there was no memory
+abbrev pub Reports : ℕ → Finding → Option (List ℕ) → Option (List ℕ) → Type 0 → Type 0
+Reports status f before now failed =
+    ((status ≡ status_found f) × (now ≡ then_written before (ended (found_text (told f)))))
+    ⊎ ((status ≡ status_lost f) × failed × WrotePart (ended (found_text (told f))) before now)
+    ⊎ ((status ≡ 9) × WrotePart (ended (found_text (told f))) before now)
+
+abbrev pub IsTold : ℕ → Judged → Option (List ℕ) → Option (List ℕ) → Type 0 → Type 0
+IsTold status (barred why) before now failed = Tells status (ending_for why) before now failed
+IsTold status (found f) before now failed = Reports status f before now failed
+
+-- ---- all of it
+
+-- The files' bytes are a run: a session's document, a link, the stream of a terminal, and a report of status 0, which determines a legal history that
+-- follows the session and the link to the end, the console's replies, and where in the stream each picture is shown.
+abbrev pub AreARun : Option (List ℕ → Option (List ℕ)) → Four → Type 0
+AreARun files names = (four : Four) × AreFiles files names four × (session : Clients) × (document four.session ≡ Some (Ok session))
+    × (t : Trace) × IsReport four.report t × (t.status ≡ 0) × IsRun (given session four t)
+
+pub record Audits (status : ℕ) (files : Option (List ℕ
+    → Option (List ℕ))) (names : Four) (files_failed : Type 0) (before now : Option (List ℕ)) (failed : Type 0) : Type 0 where
+  -- there was no memory, and nothing was written; or what was found is told
+  pub told : ((status ≡ 9) × (now ≡ before)) ⊎ ((judged : Judged) × IsJudged files names files_failed judged × IsTold status judged before now failed)
+  -- with status 0 a yes was written, whole
+  pub line : status ≡ 0 → now ≡ then_written before (ended (found_text a_run))
+  -- where the answer is yes, the bytes of the files are a run
+  pub run : (status ≡ 0) ⊎ (status ≡ 6) → AreARun files names
+
+abbrev pub HasAudited : ℕ → Option (List ℕ → Option (List ℕ)) → List ℕ → List ℕ → List ℕ → List ℕ → Type 0 → Option (List ℕ) → Option (List ℕ) → Type 0
+    → Type 0
+HasAudited status files session link stream report files_failed before now failed =
+    Audits status files (four_of session link stream report) files_failed before now failed
+
+-- Whatever is found of files that are told, the status is that of it, unless there was no memory.
+abbrev pub IsComplete : ℕ → Option (List ℕ → Option (List ℕ)) → Four → Type 0 → Type 0 → Type 0
+IsComplete status files names files_failed failed = (find : List ℕ → Option (List ℕ)) → files ≡ Some find → ¬ files_failed → ¬ failed
+    → (judged : Judged) → IsJudged files names files_failed judged → (status ≡ status_for judged) ⊎ (status ≡ 9)
+
+-- Files that are told, and do not fail, are found to be one thing: whatever is found of them has one status.
+abbrev pub OneJudgement : Type 0
+OneJudgement = (find : List ℕ → Option (List ℕ)) (names : Four) (one other : Judged) → IsJudged (Some find) names ⊥ one
+    → IsJudged (Some find) names ⊥ other → status_for one ≡ status_for other

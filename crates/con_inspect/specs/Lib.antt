@@ -1,0 +1,4 @@
+-- What a reader must believe: four files by name, what is found of them, and how an audit of them ends.
+pub mod Four
+pub mod Finding
+pub mod Auditing
