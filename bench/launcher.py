@@ -322,6 +322,9 @@ def unproved(copy):
     same(lines[1:], ['["t","quiet",[],["ok"]]', "checked: by nobody", '["end",8,1,"none"]'])
     for words in (["type"], ["gen", "7"], ["run", ""], ["run", "-x"], ["solo", "/a/b"], ["play", "80x25", "more"], ["run", "a", "b"]):
         same(copy.call("unproved", *words)[1][257:].partition(b"|")[2], " ".join(words).encode())
+    words = ("audit", "a", "/b", "c d\n", "-e")
+    at = os.fsencode(copy.room)
+    same(copy.call("unproved", *words, folder=copy.room)[1][257:].partition(b"|")[2], b"audit " + at + b"/a /b " + at + b"/c d\n -e")
     same((copy.noted("proved"), (copy.top / "out").exists()), ([], False))
 
 

@@ -1,4 +1,4 @@
-//! The program: standard input is the link, standard output the terminal, standard error the report, sessions are files, and the second
+//! The program: standard input is the link, standard output the terminal, standard error the report, sessions and what is audited are files, and the second
 //! terminal of `mirror` is the file `conpty.mirror`.
 #![tactic(auto)]
 
