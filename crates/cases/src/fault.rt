@@ -20,6 +20,8 @@ pub enum Fault {
     Number,
     /// A size that no terminal has.
     Size,
+    /// What a case leaves that is no session with status 0 cannot be audited.
+    Audit,
 }
 
 impl fmt::Display for Fault {
@@ -32,6 +34,7 @@ impl fmt::Display for Fault {
             Fault::String => "no string",
             Fault::Number => "no number",
             Fault::Size => "no size of a terminal",
+            Fault::Audit => "only a session with status 0 is audited",
         };
         write!(f, "{text}")
     }

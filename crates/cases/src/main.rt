@@ -2,6 +2,7 @@
 //! printed for each case. The status is 0 where all are right, 1 where one differs, and 2 where a file is none of cases.
 #![tactic(auto)]
 
+mod auditing;
 mod each;
 mod events;
 mod fault;
@@ -15,6 +16,7 @@ mod showing;
 mod strings;
 mod wanted;
 
+use auditing::{audit_difference, is_session, left_difference};
 use each::{each_difference, other_difference};
 use events::events_difference;
 use fault::{Fault, Wrong};
@@ -47,10 +49,20 @@ fn case_difference<T: Threads + Wait + Sync>(
 ) -> Result<Option<String>, Wrong> {
     for _ in 0..times(parts)? {
         let setup = Setup::of(alloc, parts)?;
-        let (failing, is_played) = (setup.failing, setup.is_played());
+        let failing = setup.failing;
+        let is_played = setup.form() == "play";
+        let is_session = is_session(setup.form());
         let ran = host_case(rt, alloc, setup)?;
         let came = Came::of(alloc, &ran, is_played)?;
         if let Some(text) = difference(alloc, &came, parts, failing)? {
+            return Ok(Some(text));
+        }
+        if is_session {
+            if let Some(text) = left_difference(rt, alloc, parts, &ran)? {
+                return Ok(Some(text));
+            }
+        }
+        if let Some(text) = audit_difference(rt, alloc, parts, &ran)? {
             return Ok(Some(text));
         }
         if let Some(words) = other_words(alloc, parts)? {

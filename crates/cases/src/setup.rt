@@ -83,7 +83,8 @@ impl Failing {
 }
 
 impl Setup {
-    fn new(alloc: Global) -> Setup {
+    /// No words, no files, an empty link, and no call that fails.
+    pub fn new(alloc: Global) -> Setup {
         Setup {
             words: Vec::new(alloc),
             names: Vec::new(alloc),
@@ -118,11 +119,11 @@ impl Setup {
         Ok(())
     }
 
-    /// Whether the first word is `play`.
-    pub fn is_played(&self) -> bool {
+    /// The first word, or an empty one.
+    pub fn form(&self) -> &str {
         match self.words.as_slice().first() {
-            Some(word) => word.as_str() == "play",
-            None => false,
+            Some(word) => word.as_str(),
+            None => "",
         }
     }
 

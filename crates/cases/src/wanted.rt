@@ -64,8 +64,8 @@ fn push_bare(out: &mut String, bare: &str) -> Result<(), AllocError> {
     Ok(())
 }
 
-// What a line of a wanted report stands for.
-fn expanded(alloc: Global, line: Line<'_>) -> Result<String, Wrong> {
+/// What a line of a wanted report stands for.
+pub fn expanded(alloc: Global, line: Line<'_>) -> Result<String, Wrong> {
     let strings = strings_in(alloc, line)?;
     let mut out = String::new(alloc);
     let mut inside = false;
@@ -128,8 +128,8 @@ fn bytes_told(alloc: Global, bytes: &[u8]) -> Result<String, AllocError> {
     Ok(out)
 }
 
-// Whether a line of a report is the wanted one.
-fn is_told(wanted: &str, line: &str) -> bool {
+/// Whether a line of a report is the one that a wanted line stands for.
+pub fn is_told(wanted: &str, line: &str) -> bool {
     let mut rest = line;
     for c in wanted.chars() {
         let behind = if c == NUMBER {
