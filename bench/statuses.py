@@ -47,7 +47,8 @@ def made(folder, name, text):
 
 def usages():
     ways = ([way, *words] for way in WAYS for words in ([], ["a", "b"], [""]))
-    for words in ([], *ways, ["mirror"], ["gen", "07"], ["gen", "-1"], ["gen", "4294967296"], ["play", "0x5"], ["--help"]):
+    audits = (["audit", *words] for words in ([], ["a"], ["a", "b", "c"], ["a", "b", "c", ""], ["a", "b", "-c", "d"], ["a", "b", "c", "d", "e"]))
+    for words in ([], *ways, *audits, ["mirror"], ["gen", "07"], ["gen", "-1"], ["gen", "4294967296"], ["play", "0x5"], ["--help"]):
         expect(f"words {words}", run(words), 2, '["end",2,"usage"]')
 
 
@@ -141,12 +142,56 @@ def mirror(folder):
         expect(f"{way}: a link with a second terminal", run([way, session], frames), 8, '["end",8,0,"tag"]')
 
 
-def example(name, way):
-    """By threads events come in another order each time, so their lines are not told."""
+def audit(folder, name, session, link, stream, report):
+    """The words of an audit of a session's file, a link's, and what a run wrote."""
+    left = (("link", link), ("stream", stream), ("report", report))
+    return ["audit", session, *(made(folder, f"{name}.{kind}", text) for kind, text in left)]
+
+
+def audits(folder):
+    """What a session left is a run; with a change it is none. The terminal's stream of an audit has nothing."""
     global wrong
-    with open(examples.path(name, "link"), "rb") as link:
-        ran = run([way, examples.path(name, "json")], link)
+    session = examples.path("version1", "json")
+    with open(examples.path("version1", "link"), "rb") as file:
+        link = file.read()
+    ran = run(["solo", session], link)
+    lines = ran.stderr.splitlines(keepends=True)
+    words = audit(folder, "whole", session, link, ran.stdout, ran.stderr)
+    sound = run(words)
+    expect("audit: what a session left", sound, 0, '["audit","yes"]')
+    if sound.stdout:
+        wrong += 1
+        print("OTHERWISE: an audit wrote to its standard output")
+    # The first line is the link's first frame, so the next one that the terminal's side enters is the second, before the first.
+    unfed = audit(folder, "unfed", session, link, ran.stdout, b"".join(lines[1:]))
+    entered = next(at for at, line in enumerate(lines[1:]) if line.startswith(b'["t",'))
+    expect("audit: a report without its first line", run(unfed), 13, f'["audit","no",{entered},"follows"]')
+    cut = audit(folder, "cut", session, link, ran.stdout, b"".join(lines[:-1]))
+    expect("audit: a report without its last line", run(cut), 13, f'["audit","no",{len(lines) - 1},"line"]')
+    painted = next(at for at, line in enumerate(lines) if b'"painted"' in line)
+    expect("audit: a stream of no byte", run(audit(folder, "dark", session, link, b"", ran.stderr)), 13, f'["audit","no",{painted},"end"]')
+    expect("audit: no JSON", run(audit(folder, "text", made(folder, "a", b"{"), link, ran.stdout, ran.stderr)), 3, '["end",3,"json"]')
+    long = audit(folder, "long", session, b" " * 16_777_217, ran.stdout, ran.stderr)
+    expect("audit: a link that is too long", run(long), 3, '["end",3,"length"]')
+    for at in range(1, 5):
+        none = [*words[:at], os.path.join(folder, "none"), *words[at + 1 :]]
+        expect(f"audit: no file {at}", run(none), 7, '["end",7,"missing"]')
+    expect("audit: a folder", run([*words[:4], folder]), 7, '["end",7,"failed"]')
+    with open("/dev/full", "wb") as full:
+        expect("audit: a line that cannot be written", run(words, err=full), 6)
+        expect("audit: one that tells of no run", run(cut, err=full), 13)
+    expect("audit: little memory", run(long, memory=16 * 1024 * 1024), 9)
+
+
+def example(folder, name, way):
+    """By threads events come in another order each time, so their lines are not told. What is left is a run."""
+    global wrong
+    session = examples.path(name, "json")
+    with open(examples.path(name, "link"), "rb") as file:
+        link = file.read()
+    ran = run([way, session], link)
     expect(f"{way}: example {name}", ran, 0, '["end",0]')
+    expect(f"audit: example {name} by {way}", run(audit(folder, name, session, link, ran.stdout, ran.stderr)), 0, '["audit","yes"]')
     if way == "solo" and examples.without_lengths(ran.stderr) != examples.report_of(name):
         wrong += 1
         print(f"OTHERWISE: the report of {name} is not examples/{name}.report")
@@ -166,9 +211,10 @@ def main():
             links(folder, way)
             failures(folder, way)
             for name in examples.NAMES:
-                example(name, way)
+                example(folder, name, way)
             expect(f"{way}: example fault", run([way, examples.path("fault", "json")], b"Q"), 3, '["end",3,"clients[0].calls[1]"]')
         generations(folder)
+        audits(folder)
         mirror(folder)
     sys.exit(wrong > 0)
 
