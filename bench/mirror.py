@@ -7,27 +7,24 @@ For each number it makes the document of the generated session, and runs it over
 the instructions of both where valgrind is there, else the least processor's time of five runs, and their ratio."""
 import json
 import os
-import re
 import resource
-import shutil
 import struct
 import subprocess
 import sys
 import tempfile
 
-import generated
+sys.dont_write_bytecode = True
 
-PROGRAM = os.path.join(os.path.dirname(os.path.abspath(__file__)), "..", "crates", "conpty", "out", "conpty")
+import counts
+import generated
+from runs import PROGRAM, needs_program
 
 
 def run(form, session, link, folder):
     """What a run took: instructions, or seconds of the processor."""
-    words, how = [os.path.abspath(PROGRAM), form, session], {"input": link, "cwd": folder, "check": True}
-    if shutil.which("valgrind"):
-        words = ["valgrind", "--tool=callgrind", f"--callgrind-out-file={folder}/out", f"--log-file={folder}/log", *words]
-        subprocess.run(words, stdout=subprocess.DEVNULL, stderr=subprocess.DEVNULL, **how)
-        with open(f"{folder}/log", encoding="utf-8") as log:
-            return int(re.search(r"Collected : (\d+)", log.read()).group(1))
+    words, how = [PROGRAM, form, session], {"input": link, "cwd": folder, "check": True}
+    if counts.is_there():
+        return counts.counted(words, link, cwd=folder)[0]
     taken = []
     for _ in range(5):
         before = resource.getrusage(resource.RUSAGE_CHILDREN)
@@ -37,18 +34,22 @@ def run(form, session, link, folder):
     return min(taken)
 
 
+def both_ways(number):
+    """A generated session by `solo` and by `mirror`, and the bytes on the second terminal."""
+    with tempfile.TemporaryDirectory() as folder:
+        session = os.path.join(folder, "session.json")
+        with open(session, "w", encoding="utf-8") as text:
+            json.dump(generated.session(number), text)
+        alone = run("solo", session, b"P", folder)
+        both = run("mirror", session, b"A" + struct.pack(">HH", 80, 25), folder)
+        return alone, both, os.path.getsize(os.path.join(folder, "conpty.mirror"))
+
+
 def main():
-    if not os.access(PROGRAM, os.X_OK):
-        sys.exit("build the program first: ./conpty type </dev/null >/dev/null")
+    needs_program()
     for number in sys.argv[1:] or ["7", "42", "4294967295"]:
-        with tempfile.TemporaryDirectory() as folder:
-            session = os.path.join(folder, "session.json")
-            with open(session, "w", encoding="utf-8") as text:
-                json.dump(generated.session(int(number)), text)
-            alone = run("solo", session, b"P", folder)
-            both = run("mirror", session, b"A" + struct.pack(">HH", 80, 25), folder)
-            size = os.path.getsize(os.path.join(folder, "conpty.mirror"))
-            print(f"session {number:>10}: solo {alone}, mirror {both}, {both / alone:.2f} times; {size} bytes on the second terminal")
+        alone, both, size = both_ways(int(number))
+        print(f"session {number:>10}: solo {alone}, mirror {both}, {both / alone:.2f} times; {size} bytes on the second terminal")
 
 
 if __name__ == "__main__":

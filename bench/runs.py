@@ -1,16 +1,36 @@
 """Runs of the program with its streams, limits, time and memory, and a table of what they came to."""
 import os
+import re
 import resource
 import signal
 import subprocess
+import sys
 import threading
 import time
 from typing import NamedTuple
 
 BUILT = os.path.join(os.path.dirname(os.path.abspath(__file__)), "..", "crates", "conpty", "out", "conpty")
 PROGRAM = os.path.abspath(os.environ.get("CONPTY") or BUILT)
+PARTS = os.path.abspath(os.environ.get("BENCH_PARTS") or os.path.join(os.path.dirname(BUILT), "..", "..", "bench_parts", "out", "bench_parts"))
 NO_END = "no end"
 WIDEST = 60
+
+
+def needs_program():
+    """Ends where the program is not built."""
+    if not os.access(PROGRAM, os.X_OK):
+        sys.exit("build the program first: ./conpty type </dev/null >/dev/null")
+
+
+def needs_parts():
+    """Ends where the bench crate is not built."""
+    if not os.access(PARTS, os.X_OK):
+        sys.exit("build what it is measured beside first: cd crates/bench_parts && rt run")
+
+
+def painted(report):
+    """Where each frame of a report ends in the stream."""
+    return [int(end) for end in re.findall(r'\["painted",(\d+)\]', report)]
 
 
 class Kept(threading.Thread):

@@ -6,12 +6,13 @@
 A line of 1,023 units is kept so many times, 999 by default, and a text is typed. Then come 200 and 400 times F8: what the second 200 took is what F8 costs. In
 each row the lines differ from the text at the place told, or at none: then each F8 finds one. CONPTY may name another program than the one built here."""
 import os
-import re
-import subprocess
 import sys
 import tempfile
 from concurrent.futures import ThreadPoolExecutor
 
+sys.dont_write_bytecode = True
+
+import counts
 import hostile
 import runs
 
@@ -34,26 +35,25 @@ def counted(lines, units, at, keys):
         document, path = hostile.document(folder, "kept", hostile.session(calls)), os.path.join(folder, "link")
         with open(path, "wb") as file:
             file.write(link(lines, units, at, keys))
-        with open(path, "rb") as file:
-            told = subprocess.run(
-                ["valgrind", "--tool=callgrind", "--callgrind-out-file=/dev/null", runs.PROGRAM, "solo", document],
-                stdin=file, stdout=subprocess.DEVNULL, stderr=subprocess.PIPE, check=True, text=True, errors="replace",
-            )
-    return int(re.search(r"Collected : (\d+)", told.stderr).group(1))
+        return counts.counted([runs.PROGRAM, "solo", document], path)[0]
+
+
+def searched(pool, most, shapes=SHAPES):
+    """What an F8 takes, by lines, units before the caret, and where the lines differ from these."""
+    jobs = [(lines, *shape, keys) for lines in most for shape in shapes for keys in (KEYS, 2 * KEYS)]
+    found = dict(zip(jobs, pool.map(lambda job: counted(*job), jobs)))
+    return {(lines, *shape): (found[lines, *shape, 2 * KEYS] - found[lines, *shape, KEYS]) / KEYS for lines in most for shape in shapes}
 
 
 def main():
-    if not os.access(runs.PROGRAM, os.X_OK):
-        sys.exit("build the program first: ./conpty type </dev/null")
+    runs.needs_program()
     most = [int(word) for word in sys.argv[1:]] or [999]
-    jobs = [(lines, units, at, keys) for lines in most for units, at in SHAPES for keys in (KEYS, 2 * KEYS)]
     with ThreadPoolExecutor(os.cpu_count()) as pool:
-        counts = dict(zip(jobs, pool.map(lambda job: counted(*job), jobs)))
+        found = searched(pool, most)
     print(f"{'lines':>6} {'units':>6} {'differ at':>10} {'instructions of an F8':>22}")
-    for lines in most:
-        for units, at in SHAPES:
-            each = (counts[lines, units, at, 2 * KEYS] - counts[lines, units, at, KEYS]) / KEYS
-            print(f"{lines:6} {units:6} {'nowhere' if at is None else at:>10} {each:22,.0f}")
+    for (lines, units, at), each in found.items():
+        print(f"{lines:6} {units:6} {'nowhere' if at is None else at:>10} {each:22,.0f}")
 
 
-main()
+if __name__ == "__main__":
+    main()

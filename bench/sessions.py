@@ -12,14 +12,16 @@ With `large` it makes sessions with as many calls as a document may have, by 64 
 In one link nothing is typed for a while in every byte, so that each is an event; in the other all bytes are typed, and clients read some of them."""
 import json
 import os
-import re
-import shutil
 import subprocess
 import sys
 import tempfile
 import time
 
-PROGRAM = os.path.join(os.path.dirname(os.path.abspath(__file__)), "..", "crates", "conpty", "out", "conpty")
+sys.dont_write_bytecode = True
+
+import counts
+from runs import PROGRAM, needs_program
+
 MOST = 16_777_216
 
 
@@ -37,26 +39,22 @@ def generated(seed):
     return int(counts["calls"]) + 4 + 1 + paints, paints, len(told.stdout), best
 
 
-def instructions(seed, within):
-    """Instructions of a run, or of a function of it with all that it calls."""
-    with tempfile.TemporaryDirectory() as folder:
-        words = ["valgrind", "--tool=callgrind", f"--callgrind-out-file={folder}/out"]
-        if within:
-            words.append(f"--toggle-collect=*{within}*")
-        told = subprocess.run([*words, PROGRAM, "gen", seed], stdin=subprocess.DEVNULL, stdout=subprocess.DEVNULL, stderr=subprocess.PIPE, check=True, text=True)
-    count = int(re.search(r"Collected : (\d+)", told.stderr).group(1))
-    if count == 0:
-        sys.exit(f"no function of the program is named {within}")
-    return count
+WATCHED = "Desk::enter", "Desk::paint", "painting::draw"
+
+
+def parts(seed, events, paints):
+    """Instructions of a generated session: by event in all, of an event that is no Paint, of a Paint, and of its frame."""
+    whole, within, _ = counts.counted([PROGRAM, "gen", seed], within=WATCHED)
+    others, copied, framed = (within[name] for name in WATCHED)
+    return whole / events, others / (events - paints), copied / paints, framed / paints
 
 
 def measure(seeds):
     for seed in seeds:
         events, paints, length, taken = generated(seed)
         line = f"gen {seed:10} {events} events, {paints} Paints, {events / taken:9.0f} events a second, {length / paints:6.0f} bytes a Paint"
-        if shutil.which("valgrind"):
-            whole, others = instructions(seed, "") / events, instructions(seed, "Desk::enter") / (events - paints)
-            copied, framed = instructions(seed, "Desk::paint") / paints, instructions(seed, "painting::draw") / paints
+        if counts.is_there():
+            whole, others, copied, framed = parts(seed, events, paints)
             line += f"; instructions: {whole:.0f} an event in all; {others:.0f} an event that is no Paint, {copied:.0f} a Paint, {framed:.0f} its frame"
         print(line, flush=True)
 
@@ -98,12 +96,12 @@ def large():
 
 
 def main():
-    if not os.access(PROGRAM, os.X_OK):
-        sys.exit("build the program first: ./conpty type </dev/null >/dev/null")
+    needs_program()
     if sys.argv[1:] == ["large"]:
         large()
     else:
         measure(sys.argv[1:] or ["1", "7", "4294967295"])
 
 
-main()
+if __name__ == "__main__":
+    main()

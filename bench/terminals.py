@@ -1,15 +1,22 @@
 #!/usr/bin/env python3
 """Shows frames of `type` on real terminals, each in a window of its own, and tells which show what they should.
 
-    terminals.py CONPTY FOLDER [TERMINAL..]
+    terminals.py FOLDER [TERMINAL..]
 
-CONPTY is the program; pictures go to FOLDER. Each frame is shown, and then the same picture cell by cell, by places and whole
+Pixels that differ go to FOLDER. Each frame is shown, and then the same picture cell by cell, by places and whole
 attributes, from the dump that `play` gives; both windows must have the same pixels. The frames with all indices of 16 to 255
-must have the colours of that table in them. It needs an X server (DISPLAY), ImageMagick's import, and the terminals; one that
+must have the colours of that table in them. Behind the frames of `type` come the pictures of frames.py, each by all frames up to it.
+CONPTY may name another program than the one built here. It needs an X server (DISPLAY), ImageMagick's import, and the terminals; one that
 is not installed is left out. A terminal with colours of its own is told as such."""
-import os, random, re, shutil, subprocess, sys, time
+import os, random, re, shutil, subprocess, sys, tempfile, time
 
-W, H = 80, 25
+sys.dont_write_bytecode = True
+
+import dumps
+import frames
+import runs
+from dumps import H, W
+
 FONT = "DejaVu Sans Mono"
 
 
@@ -88,20 +95,6 @@ def texts():
     return out
 
 
-def cells(dump):
-    """The characters and the attributes of a dump's cells."""
-    lines = dump.decode().split("\n")
-    rows = [line[1:-1] for line in lines[1:1 + H]]
-    looks = [[(0x07, None, None)] * W for _ in range(H)]
-    for line in lines[1 + H:]:
-        m = re.fullmatch(r"@(\d+),(\d+)\+(\d+) ([0-9a-f]{4})(?: f(\d+))?(?: b(\d+))?", line)
-        if m:
-            y, x, n = int(m[1]), int(m[2]), int(m[3])
-            for k in range(n):
-                looks[y + (x + k) // W][(x + k) % W] = int(m[4], 16), m[5], m[6]
-    return rows, looks
-
-
 def near(n):
     """The nibble of an index's nearest colour."""
     if n >= 232:
@@ -110,24 +103,20 @@ def near(n):
     return 4 * (r >= 3) + 2 * (g >= 3) + (b >= 3) + 8 * (5 in (r, g, b))
 
 
-def ansi(nibble):
-    return (nibble >> 2 & 1) | (nibble & 2) | (nibble << 2 & 4), nibble >> 3
-
-
 def spelled(dump):
     """The picture cell by cell."""
-    rows, looks = cells(dump)
+    rows, looks = dumps.cells(dump)
     out = "\x1b[0m\x1b[2J"
     for y in range(H):
         for x in range(W):
             word, fore, back = looks[y][x]
             codes = ["0"]
             if word & 0xFF != 0x07 or fore or back:
-                c, bright = ansi(word & 15)
+                c, bright = dumps.ansi(word & 15)
                 if fore and bright > near(int(fore)) >> 3:
                     codes.append("1")
                 codes.append(f"38;5;{fore}" if fore else str((90 if bright else 30) + c))
-                c, bright = ansi(word >> 4 & 15)
+                c, bright = dumps.ansi(word >> 4 & 15)
                 codes.append(f"48;5;{back}" if back else str((100 if bright else 40) + c))
             if word & 0x4000:
                 codes.append("7")
@@ -205,22 +194,28 @@ def colours(image):
     return count
 
 
-def main():
-    conpty, folder = sys.argv[1:3]
-    only = sys.argv[3:]
-    os.makedirs(folder, exist_ok=True)
-    frames = {}
+def streams_to_show():
+    """By its name a stream, and the bytes that show the same picture cell by cell."""
     for name, text in texts().items():
-        frame, _, status = run([conpty, "type"], text.encode())
+        frame, _, status = run([runs.PROGRAM, "type"], text.encode())
         assert status == 0
-        _, dump, status = run([conpty, "play", f"{W}x{H}"], frame)
-        assert status == 0
-        frames[name] = frame, spelled(dump)
+        yield name, (frame, spelled(frames.dump(frame)))
+    with tempfile.TemporaryDirectory() as folder:
+        stream, ends = frames.session(folder)
+    for (name, _), end in zip(frames.PICTURES, ends):
+        yield name, (stream[:end], spelled(frames.dump(stream[:end])))
+
+
+def main():
+    folder, *only = sys.argv[1:]
+    runs.needs_program()
+    os.makedirs(folder, exist_ok=True)
+    streams = dict(streams_to_show())
     for name, words in terminals(f"{folder}/show.sh").items():
         if shutil.which(words[0]) is None or only and name not in only:
             continue
         told = []
-        for frame, (stream, reference) in frames.items():
+        for frame, (stream, reference) in streams.items():
             shown, size = picture(words, folder, stream, 0.4)
             wanted, again = picture(words, folder, reference, 0.4)
             if shown is None or wanted is None:
@@ -239,7 +234,8 @@ def main():
                 missing = [n for n in range(16, 256) if there.get(bytes(rgb(n)), 0) < 100]
                 if missing:
                     told.append(f"{frame}: {len(missing)} colours of 240 are others, as {missing[0]}")
-        print(f"{name} ({size}): " + ("; ".join(told) or f"{len(frames)} frames the same, all 240 colours right"), flush=True)
+        print(f"{name} ({size}): " + ("; ".join(told) or f"{len(streams)} frames the same, all 240 colours right"), flush=True)
 
 
-main()
+if __name__ == "__main__":
+    main()

@@ -18,9 +18,10 @@ import sys
 import tempfile
 import time
 
-CRATES = os.path.join(os.path.dirname(os.path.abspath(__file__)), "..", "crates")
-PROGRAM = os.path.join(CRATES, "conpty", "out", "conpty")
-PARTS = os.path.join(CRATES, "bench_parts", "out", "bench_parts")
+sys.dont_write_bytecode = True
+
+from runs import PARTS, PROGRAM, needs_parts, needs_program
+
 ROWS, CALLS = 25, 8_192
 
 
@@ -71,21 +72,26 @@ def hundred(folder):
     return others
 
 
+def speeds(folder, clients, times=3):
+    """Events a second by threads, by turns and at a mutex, and what part the processor's time by threads is of that by turns."""
+    name = session(folder, clients, min(1_024, CALLS // clients))
+    told, mutex = {"run": [], "solo": []}, []
+    for _ in range(times):
+        for form, taken in told.items():
+            taken.append(ended(form, name))
+        mutex.append(entered(name))
+    run, solo = (min(told[form], key=lambda ran: ran[4]) for form in ("run", "solo"))
+    return run[3] / run[4], solo[3] / solo[4], max(mutex), min(ran[5] for ran in told["run"]) / min(ran[5] for ran in told["solo"])
+
+
 def speed(folder):
     for clients in (1, 4, 16, 64):
-        name = session(folder, clients, min(1_024, CALLS // clients))
-        told, mutex = {"run": [], "solo": []}, []
-        for _ in range(3):
-            for form, runs in told.items():
-                runs.append(ended(form, name))
-            mutex.append(entered(name))
-        run, solo = (min(told[form], key=lambda ran: ran[4]) for form in ("run", "solo"))
-        here, beside = run[3] / run[4], max(mutex)
-        print(f"{clients:2} clients: {here:8.0f} events a second by threads, {solo[3] / solo[4]:8.0f} by turns, {beside:8.0f} at a mutex; by threads {here / beside:.2f} of those at a mutex, and {run[5] / solo[5]:.2f} of the processor time by turns", flush=True)
+        here, turns, beside, processor = speeds(folder, clients)
+        print(f"{clients:2} clients: {here:8.0f} events a second by threads, {turns:8.0f} by turns, {beside:8.0f} at a mutex; by threads {here / beside:.2f} of those at a mutex, and {processor:.2f} of the processor time by turns", flush=True)
 
 
-def echo(folder):
-    """The time from each of a hundred bytes on the link to its echo."""
+def echoes(folder):
+    """The times from each of a hundred bytes on the link to its echo, in seconds, and the status of the run."""
     name = os.path.join(folder, "line")
     with open(name, "w", encoding="utf-8") as out:
         json.dump({"version": 1, "size": [80, ROWS], "clients": [{"program": "sh", "group": 1, "calls": [["write", 2, "$"], ["read", 1, 500]]}]}, out)
@@ -104,14 +110,17 @@ def echo(folder):
         ran.stdin.write(b"B\x00\x01\r")
         ran.stdin.close()
         ran.stdout.read()
-    print(f"from a byte on the link to its echo: {1e6 * statistics.median(times):.0f} microseconds, at most {1e6 * max(times):.0f}; status {ran.returncode}", flush=True)
+    return times, ran.returncode
+
+
+def echo(folder):
+    times, status = echoes(folder)
+    print(f"from a byte on the link to its echo: {1e6 * statistics.median(times):.0f} microseconds, at most {1e6 * max(times):.0f}; status {status}", flush=True)
 
 
 def main():
-    if not os.access(PROGRAM, os.X_OK):
-        sys.exit("build the program first: ./conpty type </dev/null >/dev/null")
-    if not os.access(PARTS, os.X_OK):
-        sys.exit("build what it is measured beside first: cd crates/bench_parts && rt run")
+    needs_program()
+    needs_parts()
     with tempfile.TemporaryDirectory() as folder:
         others = hundred(folder)
         speed(folder)
@@ -119,4 +128,5 @@ def main():
     sys.exit(others > 0)
 
 
-main()
+if __name__ == "__main__":
+    main()

@@ -6,8 +6,6 @@
 For `type`, `play 80x25` and `play 512x256`, and for each kind of text, it prints megabytes a second, the share of what `wc -c` does,
 peak memory, and, where valgrind is there, instructions a byte (on a shorter text, less those of an empty one)."""
 import os
-import re
-import shutil
 import subprocess
 import sys
 import tempfile
@@ -15,16 +13,20 @@ import time
 
 sys.dont_write_bytecode = True
 
+import counts
 import make_input
+import runs
 
 HERE = os.path.dirname(os.path.abspath(__file__))
-PROGRAM = os.path.join(HERE, "..", "crates", "conpty", "out", "conpty")
+FORMS = ("type",), ("play", "80x25"), ("play", "512x256")
+SHORT = 400_000
 
 
 def made(folder, kind, size):
     name = os.path.join(folder, f"{kind}-{size}")
-    with open(name, "wb") as out:
-        subprocess.run([sys.executable, os.path.join(HERE, "make_input.py"), kind, str(size)], stdout=out, check=True)
+    if not os.path.exists(name):
+        with open(name, "wb") as out:
+            subprocess.run([sys.executable, os.path.join(HERE, "make_input.py"), kind, str(size)], stdout=out, check=True)
     return name
 
 
@@ -45,34 +47,26 @@ def run(words, name):
     return best, peak
 
 
-def instructions(words, name):
-    with tempfile.TemporaryDirectory() as folder, open(name, "rb") as text:
-        told = subprocess.run(
-            ["valgrind", "--tool=callgrind", f"--callgrind-out-file={folder}/out", *words],
-            stdin=text, stdout=subprocess.DEVNULL, stderr=subprocess.PIPE, check=True, text=True,
-        ).stderr
-    return int(re.search(r"Collected : (\d+)", told).group(1))
+def a_byte(form, kind, folder, size=SHORT):
+    """Instructions a byte of a form on a kind of text, less those of an empty text."""
+    whole, none = (counts.counted([runs.PROGRAM, *form], made(folder, kind, length))[0] for length in (size, 0))
+    return (whole - none) / size
 
 
 def main():
     size = int(float(sys.argv[1]) * 1_000_000) if len(sys.argv) > 1 else 16_000_000
-    short = 400_000
-    counts = shutil.which("valgrind")
-    if not os.access(PROGRAM, os.X_OK):
-        sys.exit("build the program first: ./conpty type </dev/null >/dev/null")
+    runs.needs_program()
     with tempfile.TemporaryDirectory() as folder:
-        empty = made(folder, "lines", 0)
-        for form in (["type"], ["play", "80x25"], ["play", "512x256"]):
-            words = [PROGRAM, *form]
-            base = instructions(words, empty) if counts else 0
+        for form in FORMS:
             for kind in make_input.KINDS:
                 name = made(folder, kind, size)
-                taken, peak = run(words, name)
+                taken, peak = run([runs.PROGRAM, *form], name)
                 beside, _ = run(["wc", "-c"], name)
                 line = f"{' '.join(form):12} {kind:10} {size / taken / 1e6:8.1f} MB/s  {beside / taken:6.3f} of wc -c  {peak:6} KiB"
-                if counts:
-                    line += f"  {(instructions(words, made(folder, kind, short)) - base) / short:6.1f} instructions a byte"
+                if counts.is_there():
+                    line += f"  {a_byte(form, kind, folder):6.1f} instructions a byte"
                 print(line, flush=True)
 
 
-main()
+if __name__ == "__main__":
+    main()
