@@ -49,7 +49,7 @@ def row(point, what, figure, aim=None, peer=None, name=""):
     global missed, met
     verdict = "" if aim is None else "met" if figure <= aim else "missed"
     met, missed = met + (verdict == "met"), missed + (verdict == "missed")
-    beside = f"{shown(peer)} {name}".strip() if peer is not None else "–"
+    beside = "–" if peer is None else f"{shown(peer)} ({name})"
     print(f"| {point} | {what} | {shown(figure)} | {shown(aim)} | {beside} | {verdict} |", flush=True)
 
 
@@ -58,7 +58,7 @@ def row(point, what, figure, aim=None, peer=None, name=""):
 def slopes(found, kind, w, heights):
     """What a doubling of the rows adds beside the one before, for each doubling: 2 is a straight line, and 4 a square."""
     steps = [found[kind, w, h].paint for h in heights]
-    adds = [b - a for a, b in zip(steps, steps[1:])]
+    adds = [max(b - a, 1) for a, b in zip(steps, steps[1:])]
     return [b / a for a, b in zip(adds, adds[1:])]
 
 
@@ -78,7 +78,7 @@ def measure_paints(quick, pool):
         step = found[kind, w, h]
         row("a paint", f"{kind}: a Paint, in such passes over the rows that changed", (step.paint - nothing.paint) / paints.changed(kind, w, h) / one_pass, 4)
     row("nothing new", f"a Paint, instructions a cell of the window ({w} by {h})", nothing.paint / (w * h), 0.1)
-    row("nothing new", f"its frame alone, instructions a row", nothing.frame / h, 100)
+    row("nothing new", "its frame alone, instructions a row", nothing.frame / h, 100)
     row("nothing new", "its frame, bytes", nothing.length, 10)
     for kind in ("buffer", "resize"):
         row("nothing new", f"{kind}: a frame, in passes over the cells", found[kind, w, h].frame / (w * h) / one_pass, 1.1 if kind == "buffer" else None)
@@ -107,7 +107,7 @@ def measure_threads(quick, pool):
     row("sessions", "the same, microseconds at the pace of the whole run", 1e6 * others * spent, 2)
     with tempfile.TemporaryDirectory() as folder:
         here, turns, beside, processor = threads.speeds(folder, 64, 3 if quick else 9)
-        row("sessions", "64 clients by threads: the time of the same calls at a mutex goes into theirs so often", beside / here, 2, 1, "a mutex of std")
+        row("sessions", "64 clients by threads: their time beside that of the same calls at a mutex", beside / here, 2, 1, "a mutex of std")
         row("sessions", "64 clients by threads: the processor's time beside that by turns", processor, 1.5, 1, "by turns")
         times, _ = threads.echoes(folder)
         row("sessions", "from a typed byte to its echo, microseconds, the middle of a hundred", 1e6 * sorted(times)[50], 150)

@@ -22,23 +22,24 @@ SHIM = """
 #define _GNU_SOURCE
 #include <dlfcn.h>
 #include <fcntl.h>
-#include <stdio.h>
 #include <stdlib.h>
+#include <sys/mman.h>
 #include <unistd.h>
-static long asked;
-__attribute__((destructor)) static void end(void)
+static long none, *asked = &none;
+/* The count stands in a file, since a program may end without its destructors. */
+__attribute__((constructor)) static void begin(void)
 {
-    char text[32];
-    int file = open(getenv("ASKED"), O_WRONLY | O_CREAT | O_TRUNC, 0600);
-    ssize_t done = write(file, text, snprintf(text, sizeof text, "%ld", asked));
-    (void)done;
+    int file = open(getenv("ASKED"), O_RDWR | O_CREAT | O_TRUNC, 0600);
+    if (file >= 0 && ftruncate(file, sizeof *asked) == 0)
+        asked = mmap(0, sizeof *asked, PROT_READ | PROT_WRITE, MAP_SHARED, file, 0);
+    close(file);
 }
 void *malloc(size_t size)
 {
     static void *(*real)(size_t);
     if (!real)
         real = dlsym(RTLD_NEXT, "malloc");
-    __atomic_add_fetch(&asked, size, __ATOMIC_RELAXED);
+    __atomic_add_fetch(asked, size, __ATOMIC_RELAXED);
     return real(size);
 }
 void *realloc(void *old, size_t size)
@@ -46,7 +47,7 @@ void *realloc(void *old, size_t size)
     static void *(*real)(void *, size_t);
     if (!real)
         real = dlsym(RTLD_NEXT, "realloc");
-    __atomic_add_fetch(&asked, size, __ATOMIC_RELAXED);
+    __atomic_add_fetch(asked, size, __ATOMIC_RELAXED);
     return real(old, size);
 }
 """
@@ -84,8 +85,8 @@ def asked(way, window, few=4, more=24):
             with open(link, "rb") as given:
                 env = {**os.environ, "LD_PRELOAD": shim, "ASKED": told}
                 ran = subprocess.run([runs.PROGRAM, way, document], stdin=given, env=env, stdout=subprocess.DEVNULL, stderr=subprocess.PIPE, check=True)
-            with open(told, encoding="utf-8") as count:
-                found.append((int(count.read()), len(runs.painted(ran.stderr.decode()))))
+            with open(told, "rb") as count:
+                found.append((int.from_bytes(count.read(), sys.byteorder), len(runs.painted(ran.stderr.decode()))))
     (least, seen), (most, all_seen) = found
     return (most - least) / (all_seen - seen) / (CELL * width * height)
 
