@@ -150,15 +150,16 @@ def measure_texts(quick, pool):
     length = 100_000 if quick else throughput.SHORT
     with tempfile.TemporaryDirectory() as folder:
         beside = peers.counters(folder)
-        for kind in ["lines", *SAID]:
-            throughput.made(folder, kind, length)
-        throughput.made(folder, "lines", 0)
+        for kind in SAID:
+            for size in (0, length):
+                throughput.made(folder, kind, size)
 
         def counted(job):
             kind, where, _ = job
             size = "80x25" if where == "type" else where
             here = throughput.a_byte(["type"] if where == "type" else ["play", size], kind, folder, length)
-            found = {name: peers.a_byte(count, kind, size, folder, length) for name, count in beside.items()}
+            # For each line libvterm moves all cells of a large window, one by one: that would take minutes.
+            found = {name: peers.a_byte(count, kind, size, folder, length) for name, count in beside.items() if size == "80x25" or name != "libvterm"}
             best = min(found, key=found.get, default=None)
             return here, best and found[best], best
 
