@@ -141,7 +141,7 @@ def terminals(script):
         "konsole": ["konsole", "--separate", "--hide-menubar", "--hide-tabbar", "-p", "TerminalColumns=80", "-p", "TerminalRows=25",
                     "-p", "ScrollBarPosition=2", "-p", "HighlightScrolledLines=false", "-e"] + sh,
         "xfce4-terminal": ["xfce4-terminal", "--disable-server", "--geometry=80x25+0+0", "--hide-menubar", "--hide-toolbar", "--hide-scrollbar", "-x"] + sh,
-        "qterminal": ["qterminal", "--geometry", "700x460+0+0", "-e", "sh " + script],
+        "qterminal": ["qterminal", "--geometry", "824x590+0+0", "-e", "sh " + script],
         "tmux in xterm": xterm + ["tmux", "-f", "/dev/null", "-L", "frames", "new", "sh", script],
         "screen in xterm": xterm + ["screen", "-c", "/dev/null", "-T", "screen-256color"] + sh,
     }
