@@ -141,7 +141,7 @@ def terminals(script):
         "konsole": ["konsole", "--separate", "--hide-menubar", "--hide-tabbar", "-p", "TerminalColumns=80", "-p", "TerminalRows=25",
                     "-p", "ScrollBarPosition=2", "-p", "HighlightScrolledLines=false", "-e"] + sh,
         "xfce4-terminal": ["xfce4-terminal", "--disable-server", "--geometry=80x25+0+0", "--hide-menubar", "--hide-toolbar", "--hide-scrollbar", "-x"] + sh,
-        "qterminal": ["qterminal", "--geometry", "824x590+0+0", "-e", "sh " + script],
+        "qterminal": ["qterminal", "--geometry", "810x590+0+0", "-e", "sh " + script],
         "tmux in xterm": xterm + ["tmux", "-f", "/dev/null", "-L", "frames", "new", "sh", script],
         "screen in xterm": xterm + ["screen", "-c", "/dev/null", "-T", "screen-256color"] + sh,
     }
@@ -158,7 +158,12 @@ def picture(words, folder, stream, wait):
     for name in ("size.txt", "shown"):
         if os.path.exists(f"{folder}/{name}"):
             os.remove(f"{folder}/{name}")
-    env = dict(os.environ, TERM="xterm-256color", LC_ALL="C.UTF-8", LIBGL_ALWAYS_SOFTWARE="1", XDG_RUNTIME_DIR=folder, TMUX="")
+    # qterminal has no word for a scroll bar, which is no cell.
+    config = f"{folder}/config/qterminal.org"
+    os.makedirs(config, exist_ok=True)
+    with open(f"{config}/qterminal.ini", "w") as it:
+        it.write("[General]\nScrollbarPosition=0\nSavePosOnExit=false\nSaveSizeOnExit=false\n")
+    env = dict(os.environ, TERM="xterm-256color", LC_ALL="C.UTF-8", LIBGL_ALWAYS_SOFTWARE="1", XDG_RUNTIME_DIR=folder, XDG_CONFIG_HOME=f"{folder}/config", TMUX="")
     p = subprocess.Popen(words, env=env, stdout=subprocess.DEVNULL, stderr=open(f"{folder}/log", "w"), start_new_session=True)
     try:
         for _ in range(300):
