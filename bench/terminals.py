@@ -154,7 +154,8 @@ def picture(words, folder, stream, wait):
         it.write(stream + b"\x1b[?25l")
     script = f"{folder}/show.sh"
     with open(script, "w") as it:
-        it.write(f"tmux -L frames set -g status off 2>/dev/null; sleep 0.6; stty size > {folder}/size.txt; cat {path}; touch {folder}/shown; sleep 60\n")
+        it.write("tmux -L frames set -g status off 2>/dev/null; sleep 0.6; while [ \"$(stty size)\" = '0 0' ]; do sleep 0.2; done\n")
+        it.write(f"stty size > {folder}/size.txt; cat {path}; touch {folder}/shown; sleep 60\n")
     for name in ("size.txt", "shown"):
         if os.path.exists(f"{folder}/{name}"):
             os.remove(f"{folder}/{name}")
@@ -163,7 +164,8 @@ def picture(words, folder, stream, wait):
     os.makedirs(config, exist_ok=True)
     with open(f"{config}/qterminal.ini", "w") as it:
         it.write("[General]\nScrollbarPosition=0\nSavePosOnExit=false\nSaveSizeOnExit=false\n")
-    env = dict(os.environ, TERM="xterm-256color", LC_ALL="C.UTF-8", LIBGL_ALWAYS_SOFTWARE="1", XDG_RUNTIME_DIR=folder, XDG_CONFIG_HOME=f"{folder}/config", TMUX="")
+    env = dict(os.environ, TERM="xterm-256color", LC_ALL="C.UTF-8", LIBGL_ALWAYS_SOFTWARE="1", TMUX="")
+    env.update(XDG_RUNTIME_DIR=folder, XDG_CONFIG_HOME=f"{folder}/config")
     p = subprocess.Popen(words, env=env, stdout=subprocess.DEVNULL, stderr=open(f"{folder}/log", "w"), start_new_session=True)
     try:
         for _ in range(300):
