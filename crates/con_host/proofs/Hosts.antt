@@ -10,7 +10,9 @@ use Rattle.con_host.specs.Mirroring.{HasMirrored}
 use Rattle.con_text.specs.Playing.{Played, PlayedPart}
 use Rattle.con_host.specs.Sessions.{HasRun, Soloed}
 use Rattle.con_text.specs.Typing.{Typed, TypedPart}
-use Rattle.con_words.specs.Words.{Asked, typing, playing, running, solo, mirroring, generating}
+use Rattle.con_inspect.specs.Auditing.{Audits, HasAudited}
+use Rattle.con_inspect.specs.Four.{Four, four_of}
+use Rattle.con_words.specs.Words.{Asked, typing, playing, running, solo, mirroring, generating, auditing}
 use Rattle.con_host.proofs.Generations.{no_memory as no_generating}
 use Rattle.con_ending.specs.Laws.{part_of, nothing_yet}
 use Rattle.con_host.proofs.SessionLemmas.{no_memory as no_running, no_turns}
@@ -32,6 +34,7 @@ no_form s asked files files_failed racks before old second before_report report 
   soloed = λ name e. absurd (cc);
   generated = λ seed e. absurd (cc);
   mirrored = λ name e. absurd (cc);
+  audited = λ session link stream trace e. absurd (cc);
   second_same = λ _. refl;
 }
 
@@ -43,6 +46,17 @@ no_playing size text left before failed few =
 no_typing : (text : List ℕ) (left before report : Option (List ℕ)) (failed : Type 0) → length text ≤ 16781312 → Typed 9 text left before before report report failed
 no_typing text left before report failed few =
     let all : TypedPart text left before before report report = inl (refl, refl, few) in search rules
+
+no_audit : (files : Option (List ℕ → Option (List ℕ))) (session link stream trace : List ℕ) (files_failed : Type 0) (before : Option (List ℕ)) (failed : Type 0) → HasAudited 9 files session link stream trace files_failed before before failed
+no_audit files session link stream trace files_failed before failed = record {
+  comes = unit;
+  told = inl (refl, refl);
+  yes = λ e. let bad : 9 ≡ 0 = e in absurd (omega arith);
+  run = λ e. elim e [
+    | inl f ↦ let bad : 9 ≡ 0 = f in absurd (omega arith)
+    | inr f ↦ let bad : 9 ≡ 6 = f in absurd (omega arith)
+  ];
+}
 
 -- there was no memory for the words
 pub no_words : (asked : Option Asked) (files : Option (List ℕ → Option (List ℕ))) (files_failed : Type 0) (racks : List (List ℕ)) (before old second before_report : Option (List ℕ)) (failed second_failed : Type 0) → Hosted 9 asked files files_failed racks before before old old second second before_report before_report failed second_failed
@@ -60,6 +74,7 @@ no_words asked files files_failed racks before old second before_report failed s
   soloed = λ name _. no_turns files name files_failed racks before old before_report failed;
   generated = λ seed _. (refl, no_generating seed old before_report failed);
   mirrored = λ name _. no_mirror files name files_failed racks before old second before_report failed second_failed;
+  audited = λ session link stream trace _. (refl, refl, no_audit files session link stream trace files_failed before_report failed);
   second_same = λ _. refl;
 }
 
@@ -73,6 +88,7 @@ as_typed s asked files files_failed racks before left old now second before_repo
   soloed = λ name e. absurd (cc);
   generated = λ seed e. absurd (cc);
   mirrored = λ name e. absurd (cc);
+  audited = λ session link stream trace e. absurd (cc);
   second_same = λ _. refl;
 }
 
@@ -84,6 +100,7 @@ size_in (Some (running name)) other = other
 size_in (Some (solo name)) other = other
 size_in (Some (mirroring name)) other = other
 size_in (Some (generating seed)) other = other
+size_in (Some (auditing session link stream trace)) other = other
 
 name_in : Option Asked → List ℕ
 name_in None = []
@@ -93,6 +110,7 @@ name_in (Some (running name)) = name
 name_in (Some (solo name)) = name
 name_in (Some (mirroring name)) = name
 name_in (Some (generating seed)) = []
+name_in (Some (auditing session link stream trace)) = []
 
 same_size : (asked : Option Asked) (a b : Size) → Some (playing a) ≡ asked → asked ≡ Some (playing b) → a ≡ b
 unfolding size_in
@@ -120,6 +138,7 @@ as_played s size asked files files_failed racks before left old second before_re
   soloed = λ name e. absurd (cc);
   generated = λ seed e. absurd (cc);
   mirrored = λ name e. absurd (cc);
+  audited = λ session link stream trace e. absurd (cc);
   second_same = λ _. refl;
 }
 
@@ -133,6 +152,7 @@ as_ran s name asked files files_failed racks before left old now second before_r
   soloed = λ name e. absurd (cc);
   generated = λ seed e. absurd (cc);
   mirrored = λ name e. absurd (cc);
+  audited = λ session link stream trace e. absurd (cc);
   second_same = λ _. refl;
 }
 
@@ -146,6 +166,7 @@ as_soloed s name asked files files_failed racks before left old now second befor
   soloed = λ other e. subst (λ n. Soloed s files n files_failed racks before left old now before_report report failed) (same_name asked name other is e) t;
   generated = λ seed e. absurd (cc);
   mirrored = λ name e. absurd (cc);
+  audited = λ session link stream trace e. absurd (cc);
   second_same = λ _. refl;
 }
 
@@ -159,6 +180,7 @@ as_mirrored s name asked files files_failed racks before left old now was writte
   soloed = λ name e. absurd (cc);
   generated = λ seed e. absurd (cc);
   mirrored = λ other e. subst (λ n. HasMirrored s files n files_failed racks before left old now was written before_report report failed second_failed) (same_mirror asked name other is e) t;
+  audited = λ session link stream trace e. absurd (cc);
   second_same = λ other. absurd (other name (sym is));
 }
 
@@ -170,6 +192,7 @@ seed_in (Some (running name)) = 0
 seed_in (Some (solo name)) = 0
 seed_in (Some (mirroring name)) = 0
 seed_in (Some (generating seed)) = seed
+seed_in (Some (auditing session link stream trace)) = 0
 
 same_seed : (asked : Option Asked) (a b : ℕ) → Some (generating a) ≡ asked → asked ≡ Some (generating b) → a ≡ b
 unfolding seed_in
@@ -185,5 +208,34 @@ as_generated s seed asked files files_failed racks before old now second before_
   soloed = λ name e. absurd (cc);
   generated = λ other e. (refl, subst (λ n. Generated s n old now before_report report failed) (same_seed asked seed other is e) t);
   mirrored = λ name e. absurd (cc);
+  audited = λ session link stream trace e. absurd (cc);
+  second_same = λ _. refl;
+}
+
+four_in : Option Asked → Four
+four_in None = four_of [] [] [] []
+four_in (Some typing) = four_of [] [] [] []
+four_in (Some (playing size)) = four_of [] [] [] []
+four_in (Some (running name)) = four_of [] [] [] []
+four_in (Some (solo name)) = four_of [] [] [] []
+four_in (Some (mirroring name)) = four_of [] [] [] []
+four_in (Some (generating seed)) = four_of [] [] [] []
+four_in (Some (auditing session link stream trace)) = four_of session link stream trace
+
+pub same_four : (asked : Option Asked) (a b c d s l t r : List ℕ) → Some (auditing a b c d) ≡ asked → asked ≡ Some (auditing s l t r) → four_of a b c d ≡ four_of s l t r
+unfolding four_in
+same_four asked a b c d s l t r e f = ap four_in (e ∙ f)
+
+pub as_audited : (status : ℕ) (a b c d : List ℕ) (asked : Option Asked) (files : Option (List ℕ → Option (List ℕ))) (files_failed : Type 0) (racks : List (List ℕ)) (before old second before_report report : Option (List ℕ)) (failed second_failed : Type 0) → Some (auditing a b c d) ≡ asked
+    → HasAudited status files a b c d files_failed before_report report failed → Hosted status asked files files_failed racks before before old old second second before_report report failed second_failed
+as_audited status a b c d asked files files_failed racks before old second before_report report failed second_failed is came = record {
+  usage = λ e. absurd (cc);
+  typed = λ e. absurd (cc);
+  played = λ size e. absurd (cc);
+  ran = λ name e. absurd (cc);
+  soloed = λ name e. absurd (cc);
+  generated = λ seed e. absurd (cc);
+  mirrored = λ name e. absurd (cc);
+  audited = λ s l t r e. (refl, refl, subst (λ four. Audits status files four files_failed before_report report failed) (same_four asked a b c d s l t r is e) came);
   second_same = λ _. refl;
 }

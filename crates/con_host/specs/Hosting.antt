@@ -8,7 +8,8 @@ use Rattle.con_host.specs.Mirroring.{HasMirrored}
 use Rattle.con_text.specs.Playing.{Played}
 use Rattle.con_host.specs.Sessions.{HasRun, Soloed}
 use Rattle.con_text.specs.Typing.{Typed}
-use Rattle.con_words.specs.Words.{Asked, typing, playing, running, solo, mirroring, generating}
+use Rattle.con_inspect.specs.Auditing.{HasAudited}
+use Rattle.con_words.specs.Words.{Asked, typing, playing, running, solo, mirroring, generating, auditing}
 
 -- Words that are no form: the line that says so was written, or there was no memory for it.
 pub record Refused (status : ℕ) (before left old now before_report report : Option (List ℕ)) (failed : Type 0) : Type 0 where
@@ -28,5 +29,7 @@ pub record Hosted (status : ℕ) (asked : Option Asked) (files : Option (List �
   pub soloed : (name : List ℕ) → asked ≡ Some (solo name) → Soloed status files name files_failed racks before left old now before_report report failed
   pub generated : (seed : ℕ) → asked ≡ Some (generating seed) → (left ≡ before) × Generated status seed old now before_report report failed
   pub mirrored : (name : List ℕ) → asked ≡ Some (mirroring name) → HasMirrored status files name files_failed racks before left old now was written before_report report failed second_failed
+  pub audited : (session link stream trace : List ℕ) → asked ≡ Some (auditing session link stream trace) → (left ≡ before) × (now ≡ old)
+      × HasAudited status files session link stream trace files_failed before_report report failed
   -- by any other words nothing is written to the second terminal
   pub second_same : ((name : List ℕ) → asked ≢ Some (mirroring name)) → written ≡ was

@@ -9,7 +9,9 @@ ghost use Rattle.con_trace.specs.Ending.{status_of};
 ghost use Rattle.con_units.specs.declared.place.Size.{Size};
 ghost use Rattle.con_host.specs.Foretold.{Foretells, HasNoFrame, HasNoMirrorFrame, IsSession, MirrorForetells};
 ghost use Rattle.con_host.specs.Sessions.{ending_after};
-ghost use Rattle.con_words.specs.Words.{form_of, typing, playing, running, solo, mirroring, generating};
+ghost use Rattle.con_inspect.specs.Auditing.{IsComplete};
+ghost use Rattle.con_inspect.specs.Four.{four_of};
+ghost use Rattle.con_words.specs.Words.{form_of, typing, playing, running, solo, mirroring, generating, auditing};
 ghost use Rattle.con_host.specs.Hosting.{Hosted};
 
 use crate::generating::host_gen;
@@ -18,6 +20,7 @@ use crate::run::host_run;
 use crate::solo::host_solo;
 use con_ending::{LINK, MEMORY, MIRROR, REPORT, TERMINAL, TOO_LONG, USAGE, finish};
 use con_handlers::CtrlHandler;
+use con_inspect::host_audit;
 use con_outside::{Files, Gate, Sink, Source};
 use con_text::{host_play, host_type};
 use con_units::OutOfMemory;
@@ -28,7 +31,7 @@ use std::thread::Threads;
 
 /// Does what the words say, and answers the status: 0 done, 2 the words are no form, 3 the file is no session, 4 the link failed, 5 the
 /// terminal failed, 6 the report failed, 7 the file could not be read, 8 the link has no frame at a place, 9 there was no memory, 10 the
-/// link has more than 16,777,216 bytes, 12 the second terminal of `mirror` failed. `racks` are the handlers that a session's clients
+/// link has more than 16,777,216 bytes, 12 the second terminal of `mirror` failed, 13 the files of `audit` are no run. `racks` are the handlers that a session's clients
 /// may add, by place; `second` is the second terminal of `mirror`, and by other words nothing is written to it; `rt` makes the threads
 /// of `run`, and `gate` is called round each step of its scripts.
 pub fn console_host<
@@ -78,6 +81,8 @@ pub fn console_host<
     ensures no_frame { ((name : List ℕ) → form_of (map string_bytes words.now) ≢ Some (mirroring name)) → result ≡ 8 → IfSome (I.left link.old) HasNoFrame }
     ensures no_mirror_frame { (name : List ℕ) → form_of (map string_bytes words.now) ≡ Some (mirroring name) → result ≡ 8 → IfSome (I.left link.old) HasNoMirrorFrame }
     ensures too_long { result ≡ TOO_LONG → (taken : List ℕ) × (I.left link.old ≡ then_left taken (I.left link.new)) × (16777216 < length taken) }
+    ensures audit_complete { (session link stream trace : List ℕ) → form_of (map string_bytes words.now) ≡ Some (auditing session link stream trace)
+        → IsComplete result (F.files files.old) (four_of session link stream trace) (Rose (F.faults files.old) (F.faults files.new)) (Rose (R.faults report.old) (R.faults report.new)) }
     ensures gen_complete { (seed : ℕ) → form_of (map string_bytes words.now) ≡ Some (generating seed) → ¬ (Rose (O.faults term.old) (O.faults term.new)) → ¬ (Rose (R.faults report.old) (R.faults report.new)) → (result ≡ 0) ⊎ (result ≡ 9) }
 {
     match Form::of(alloc, words) {
@@ -93,5 +98,11 @@ pub fn console_host<
             host_mirror(alloc, name, files, link, term, second, report, racks)
         }
         Ok(Some(Form::Gen(seed))) => host_gen(alloc, seed, term, report),
+        Ok(Some(Form::Audit {
+            session,
+            link,
+            stream,
+            report: trace,
+        })) => host_audit(alloc, session, link, stream, trace, files, report),
     }
 }

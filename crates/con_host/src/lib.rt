@@ -7,7 +7,8 @@
 //! - `mirror SESSION`: the same with a second terminal, which attaches and detaches by frames of the link and shows a part of each
 //!   picture ([`host_mirror`]);
 //! - `gen N`: runs the generated session of a number by turns, without a link, and writes its summary to the report
-//!   ([`host_gen`]).
+//!   ([`host_gen`]);
+//! - `audit SESSION LINK STREAM REPORT`: what [`con_inspect`] says of four files.
 //!
 //! Its contract says, for each status that it answers, what was taken from the link, and what the terminals and the
 //! report have.

@@ -2,8 +2,10 @@ use Rattle.std.proofs.Common.{◌≡◌, None, Some, map, string_bytes, ap, sym,
 use Rattle.std.specs.Prelude.{option_map}
 use Rattle.con_host.specs.Foretold.{IsSession}
 use Rattle.con_words.specs.Asked.{asked_of}
-use Rattle.con_words.specs.Words.{form_of, mirroring, running, solo}
-use Rattle.con_host.proofs.Hosts.{no_form, no_words, same_mirror, same_name, same_run}
+use Rattle.con_inspect.specs.Auditing.{IsComplete}
+use Rattle.con_outside.specs.Outside.{Rose}
+use Rattle.con_words.specs.Words.{auditing, form_of, mirroring, running, solo}
+use Rattle.con_host.proofs.Hosts.{no_form, no_words, same_four, same_mirror, same_name, same_run}
 use Rattle.con_host.proofs.host.console_host.Goals as goal
 
 pub returns-in-Ok-None-clause-outcome : goal.returns-in-Ok-None-clause-outcome
@@ -40,3 +42,10 @@ returns-in-Ok-Some-Mirror-clause-no_frame g c other e =
     let here = c.in-Ok-Some-Mirror in
     let asked : Some (mirroring here.name.now) ≡ form_of (map string_bytes c.args.words.now) = ap (option_map asked_of) (sym (here.field-0-is ∙ ap Some here.field-0-0-is)) ∙ here.ensures.form in
     absurd (other here.name.now (sym asked))
+
+pub returns-in-Ok-Some-Audit-clause-audit_complete : goal.returns-in-Ok-Some-Audit-clause-audit_complete
+returns-in-Ok-Some-Audit-clause-audit_complete g c session link stream trace form =
+    let here = c.in-Ok-Some-Audit in
+    let asked : Some (auditing here.session.now here.link.now here.stream.now here.trace.now) ≡ form_of (map string_bytes c.args.words.now) = ap (option_map asked_of) (sym (here.field-0-is ∙ ap Some here.field-0-0-is)) ∙ here.ensures.form in
+    let same = same_four (form_of (map string_bytes c.args.words.now)) here.session.now here.link.now here.stream.now here.trace.now session link stream trace asked form in
+    subst (λ four. IsComplete c.host_audit.result (g.F.Files.files c.args.files.now) four (Rose (g.F.Files.faults c.args.files.now) (g.F.Files.faults c.host_audit.files.new)) (Rose (g.R.Sink.faults c.args.report.now) (g.R.Sink.faults c.host_audit.report.new))) same c.host_audit.ensures.complete
