@@ -49,9 +49,8 @@ no_typing text left before report failed few =
 
 no_audit : (files : Option (List ℕ → Option (List ℕ))) (session link stream trace : List ℕ) (files_failed : Type 0) (before : Option (List ℕ)) (failed : Type 0) → HasAudited 9 files session link stream trace files_failed before before failed
 no_audit files session link stream trace files_failed before failed = record {
-  comes = unit;
   told = inl (refl, refl);
-  yes = λ e. let bad : 9 ≡ 0 = e in absurd (omega arith);
+  line = λ e. let bad : 9 ≡ 0 = e in absurd (omega arith);
   run = λ e. elim e [
     | inl f ↦ let bad : 9 ≡ 0 = f in absurd (omega arith)
     | inr f ↦ let bad : 9 ≡ 6 = f in absurd (omega arith)

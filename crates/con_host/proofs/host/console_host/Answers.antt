@@ -48,4 +48,4 @@ returns-in-Ok-Some-Audit-clause-audit_complete g c session link stream trace for
     let here = c.in-Ok-Some-Audit in
     let asked : Some (auditing here.session.now here.link.now here.stream.now here.trace.now) ≡ form_of (map string_bytes c.args.words.now) = ap (option_map asked_of) (sym (here.field-0-is ∙ ap Some here.field-0-0-is)) ∙ here.ensures.form in
     let same = same_four (form_of (map string_bytes c.args.words.now)) here.session.now here.link.now here.stream.now here.trace.now session link stream trace asked form in
-    subst (λ four. IsComplete c.host_audit.result (g.F.Files.files c.args.files.now) four (Rose (g.F.Files.faults c.args.files.now) (g.F.Files.faults c.host_audit.files.new)) (Rose (g.R.Sink.faults c.args.report.now) (g.R.Sink.faults c.host_audit.report.new))) same c.host_audit.ensures.complete
+    subst (λ four. IsComplete c.host_audit.result (g.F.Files.files c.args.files.now) four (Rose (g.F.Files.faults c.args.files.now) (g.F.Files.faults c.host_audit.new.files)) (Rose (g.R.Sink.faults c.args.report.now) (g.R.Sink.faults c.host_audit.new.report))) same c.host_audit.ensures.complete
