@@ -2,8 +2,8 @@
 use Rattle.std.specs.Prelude.{Bool, true, false, ◌&&◌, List, [], ◌∷◌, Option, Some, None, codes, option_and_then, option_map, if◌then◌else◌}
 use Rattle.std.specs.Str.{bytes_eq}
 use Rattle.clap.specs.Words.{Row, Text}
-use Rattle.con_words.specs.Command.{Named, first_word}
-use Rattle.con_words.specs.Words.{Asked, typing, running, solo, mirroring, at_size, of_seed, is_word, size_of, seed_of}
+use Rattle.con_words.specs.Command.{Files, Named, files_in, first_word}
+use Rattle.con_words.specs.Words.{Asked, typing, running, solo, mirroring, auditing, at_size, of_seed, is_word, size_of, seed_of}
 
 abbrev pub of_size : Option Text → Option Asked
 of_size None = None
@@ -35,13 +35,21 @@ form_named p =
     else if bytes_eq p.0 (codes "mirror") then of_mirror p.1
     else None
 
+abbrev pub of_files : Files → Option Asked
+of_files (Some session, Some link, Some stream, Some report) = Some (auditing session link stream report)
+of_files _ = None
+
+abbrev pub form_in : Text × List Row → Option Asked
+form_in p = if bytes_eq p.0 (codes "audit") then of_files (files_in p.1) else form_named (first_word p)
+
 -- what was met asks for
 abbrev pub form_met : Option (Text × List Row) → Option Asked
-form_met o = option_and_then form_named (option_map first_word o)
+form_met o = option_and_then form_in o
 
--- at most two words, as forms have them
-abbrev pub are_few : List Text → Bool
-are_few [] = true
-are_few (word ∷ []) = is_word word
-are_few (word ∷ more ∷ []) = is_word word && is_word more
-are_few _ = false
+-- at most two words, or `audit` and four more, as forms have them
+abbrev pub may_be_form : List Text → Bool
+may_be_form [] = true
+may_be_form (word ∷ []) = is_word word
+may_be_form (word ∷ more ∷ []) = is_word word && is_word more
+may_be_form (name ∷ session ∷ link ∷ stream ∷ report ∷ []) = bytes_eq name (codes "audit") && is_word session && is_word link && is_word stream && is_word report
+may_be_form _ = false

@@ -5,13 +5,14 @@ use Rattle.std.specs.Str.{bytes_eq}
 use Rattle.con_units.specs.declared.place.Size.{Size}
 
 -- what the words ask for: a text to be typed, bytes to be played at a size, the session of a file by threads, by turns, or by turns with a second terminal,
--- the generated session of a number
+-- an audit of the files of a session, its link, its stream and its report, the generated session of a number
 pub data Asked : Type 0 where
   typing : Asked
   playing : Size → Asked
   running : List ℕ → Asked
   solo : List ℕ → Asked
   mirroring : List ℕ → Asked
+  auditing : List ℕ → List ℕ → List ℕ → List ℕ → Asked
   generating : ℕ → Asked
 
 -- '1' to '9'
@@ -104,9 +105,13 @@ with_word name word =
     else if bytes_eq (codes "mirror") name then Some (mirroring word)
     else None
 
+abbrev pub with_files : List ℕ → List ℕ → List ℕ → List ℕ → List ℕ → Option Asked
+with_files name session link stream report = if bytes_eq (codes "audit") name then Some (auditing session link stream report) else None
+
 abbrev pub of_words : List (List ℕ) → Option Asked
 of_words (name ∷ []) = alone name
 of_words (name ∷ word ∷ []) = with_word name word
+of_words (name ∷ session ∷ link ∷ stream ∷ report ∷ []) = with_files name session link stream report
 of_words _ = None
 
 -- what the words ask for; they are no form where one of them is empty or begins with '-'

@@ -1,20 +1,44 @@
 //! The words of the command line as one command with subcommands.
 
-ghost use Rattle.std.specs.Prelude.{◌≡◌, false, IfOk, map, option_map, string_bytes};
+ghost use Rattle.std.specs.Prelude.{◌≡◌, codes, false, IfOk, map, option_map, string_bytes};
 ghost use Rattle.clap.specs.declared.builder.command.Command.TheViews.{out-Command};
-ghost use Rattle.clap.specs.Words.{FailsBy, app_of, fault_of, subcommand_of, subcommand_rows_of};
-ghost use Rattle.con_words.specs.Command.{bare, host, taking, first_word, shown};
+ghost use Rattle.clap.specs.Words.{FailsBy, app_of, fault_of, first_of, found_of, rows_of, subcommand_of, subcommand_rows_of};
+ghost use Rattle.con_words.specs.Command.{bare, host, taking, taking_files, with_word, files_in, files_shown};
 
 use clap::{Arg, ArgMatches, Command, Error};
 use std::alloc::{AllocError, Global};
+
+// The command with one word more, which has to be there.
+fn with_word<'a>(
+    alloc: Global,
+    command: Command<'a>,
+    word: &'a str,
+) -> Result<Command<'a>, AllocError>
+    ensures app { IfOk result (λ c. app_of c ≡ with_word (app_of command.entry) word.entry.now) }
+    ensures local { IfOk result (λ c. (out-Command c).has_globals ≡ (out-Command command.entry).has_globals) }
+{
+    command.arg(Arg::new(alloc, word).required(true))
+}
 
 // A subcommand that takes one word.
 fn taking_one<'a>(alloc: Global, name: &'a str) -> Result<Command<'a>, AllocError>
     ensures app { IfOk result (λ c. app_of c ≡ taking name.entry.now) }
     ensures local { IfOk result (λ c. (out-Command c).has_globals ≡ false) }
 {
-    let word = Arg::new(alloc, "word").required(true);
-    Command::new(alloc, name).arg(word)
+    let command = Command::new(alloc, name);
+    with_word(alloc, command, "word")
+}
+
+// The subcommand that takes four words, each the name of a file.
+fn taking_files<'a>(alloc: Global) -> Result<Command<'a>, AllocError>
+    ensures app { IfOk result (λ c. app_of c ≡ taking_files) }
+    ensures local { IfOk result (λ c. (out-Command c).has_globals ≡ false) }
+{
+    let audit = Command::new(alloc, "audit");
+    let one = with_word(alloc, audit, "session")?;
+    let two = with_word(alloc, one, "link")?;
+    let three = with_word(alloc, two, "stream")?;
+    with_word(alloc, three, "report")
 }
 
 // The command, with no subcommand yet.
@@ -38,12 +62,14 @@ fn command<'a>(alloc: Global) -> Result<Command<'a>, AllocError>
     let generating = taking_one(alloc, "gen")?;
     let running = taking_one(alloc, "run")?;
     let mirroring = taking_one(alloc, "mirror")?;
+    let auditing = taking_files(alloc)?;
     let one = alone(alloc).subcommand(typing)?;
     let two = one.subcommand(playing)?;
     let three = two.subcommand(turning)?;
     let four = three.subcommand(generating)?;
     let five = four.subcommand(running)?;
-    five.subcommand(mirroring)
+    let six = five.subcommand(mirroring)?;
+    six.subcommand(auditing)
 }
 
 /// What the command makes of the words.
@@ -55,15 +81,29 @@ pub fn matches<'a>(alloc: Global, words: &'a [String]) -> Result<ArgMatches<'a>,
     command.try_get_matches_from(words)
 }
 
-/// A subcommand's name, and its word where it has one.
-pub type Named<'a> = (&'a str, Option<&'a str>);
-
-/// The subcommand that the words name.
-pub fn met<'a>(found: &ArgMatches<'a>) -> Option<Named<'a>>
-    ensures { option_map shown result ≡ option_map first_word (subcommand_rows_of found.now) }
+/// The word that a subcommand has, where it has one.
+pub fn word<'a>(inner: &ArgMatches<'a>) -> Option<&'a str>
+    ensures { option_map (λ s. s.now) result ≡ first_of (codes "word") (rows_of (found_of inner.now)) }
 {
-    match found.subcommand() {
-        Some((name, inner)) => Some((name, inner.get_str("word"))),
-        None => None,
-    }
+    inner.get_str("word")
+}
+
+/// The words of a session, its link, its stream and its report, where they are there.
+pub type Files<'a> = (
+    Option<&'a str>,
+    Option<&'a str>,
+    Option<&'a str>,
+    Option<&'a str>,
+);
+
+/// The files that a subcommand names.
+pub fn files<'a>(inner: &ArgMatches<'a>) -> Files<'a>
+    ensures { files_shown result ≡ files_in (rows_of (found_of inner.now)) }
+{
+    (
+        inner.get_str("session"),
+        inner.get_str("link"),
+        inner.get_str("stream"),
+        inner.get_str("report"),
+    )
 }

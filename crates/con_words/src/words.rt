@@ -2,7 +2,7 @@
 ghost use Rattle.std.specs.Prelude.{◌≡◌, ℕ, ◌+◌, ◌*◌, ◌-◌, ◌≤◌, ◌<◌, ◌==◌, List, [], ◌∷◌, length, map, take, drop, Option, Some, None, IfSome, IfOk, IsTrue, string_bytes};
 ghost use Rattle.std.specs.List.{position};
 
-use crate::command::{matches, met};
+use crate::command::{Files, files, matches, word};
 use clap::ArgMatches;
 use clap::error::ErrorKind;
 use con_units::{OutOfMemory, Size};
@@ -21,6 +21,14 @@ pub enum Form<'a> {
     Solo(&'a str),
     /// `mirror SESSION`: as `solo`, and a second terminal that attaches and detaches by frames of the link shows a part of it.
     Mirror(&'a str),
+    /// `audit SESSION LINK STREAM REPORT`: the files of these names are a session, a link, and what a run wrote; whether they are a run that was done goes
+    /// to the report.
+    Audit {
+        session: &'a str,
+        link: &'a str,
+        stream: &'a str,
+        report: &'a str,
+    },
     /// `gen N`: the generated session of this number runs by turns; its summary goes to the report.
     Gen(u32),
 }
@@ -30,17 +38,17 @@ impl<'a> Form<'a> {
     ghost use Rattle.con_words.specs.Asked.{asked_of, IsWindowed};
 
     /// The form that the words are, and `None` where they are none: `type` alone, `play` with a size of 1 to 512
-    /// by 1 to 256, in decimal digits without a sign or a leading zero, joined by `x`, `run`, `solo` or `mirror` with a name, or `gen` with a number of 0 to
-    /// 4,294,967,295, in decimal digits without a sign or a leading zero. An empty word and one that begins with `-` stand in no form.
+    /// by 1 to 256, in decimal digits without a sign or a leading zero, joined by `x`, `run`, `solo` or `mirror` with a name, `audit` with four, or `gen` with a
+    /// number of 0 to 4,294,967,295, in decimal digits without a sign or a leading zero. An empty word and one that begins with `-` stand in no form.
     pub fn of(alloc: Global, words: &'a [String]) -> Result<Option<Form<'a>>, OutOfMemory>
         ensures form { IfOk result (λ form. option_map asked_of form ≡ form_of (map string_bytes words.entry.now)) }
         ensures window { IfOk result (λ form. IfSome form IsWindowed) }
     {
-        if !are_few_words(words) {
+        if !may_be_form(words) {
             return Ok(None);
         }
         match matches(alloc, words) {
-            Ok(found) => Ok(form_in(&found)),
+            Ok(found) => Ok(form_met(&found)),
             Err(error) if is_memory(error.kind()) => Err(OutOfMemory),
             Err(_) => Ok(None),
         }
@@ -49,10 +57,11 @@ impl<'a> Form<'a> {
 
 ghost use Rattle.con_words.specs.Words.{is_word, is_first, is_digit, number_of, side_of, size_of, is_x, digit_of, with_digit, spelled_after, seed_of, IsWindow};
 ghost use Rattle.con_words.specs.Asked.{asked_of, IsWindowed};
-ghost use Rattle.con_words.specs.Naming.{are_few, of_size, of_name, of_number, of_run, of_mirror, form_named, form_met};
+ghost use Rattle.con_words.specs.Command.{files_shown};
+ghost use Rattle.con_words.specs.Naming.{may_be_form, of_size, of_name, of_number, of_run, of_mirror, of_files, form_named, form_in, form_met};
 ghost use Rattle.std.specs.Prelude.{true, false, option_map};
 ghost use Rattle.std.specs.List.{list_all};
-ghost use Rattle.clap.specs.Words.{subcommand_rows_of};
+ghost use Rattle.clap.specs.Words.{found_of, rows_of, subcommand_rows_of};
 
 fn is_memory(kind: ErrorKind) -> bool
     ensures memory { result ≡ true → kind ≡ ErrorKind.OutOfMemory }
@@ -61,7 +70,7 @@ fn is_memory(kind: ErrorKind) -> bool
     kind == ErrorKind::OutOfMemory
 }
 
-fn word(word: &str) -> bool
+fn is_word(word: &str) -> bool
     ensures { result ≡ is_word word.now }
 {
     match word.as_bytes() {
@@ -70,27 +79,59 @@ fn word(word: &str) -> bool
     }
 }
 
-// At most two words, of which none is empty or begins with '-'.
-fn are_few_words(words: &[String]) -> bool
-    ensures { result ≡ are_few (map string_bytes words.now) }
+// At most two words, or `audit` and four more, of which none is empty or begins with '-'.
+fn may_be_form(words: &[String]) -> bool
+    ensures { result ≡ may_be_form (map string_bytes words.now) }
 {
     match words {
         [] => true,
-        [one] => word(one.as_str()),
-        [one, two] => word(one.as_str()) && word(two.as_str()),
+        [one] => is_word(one.as_str()),
+        [one, two] => is_word(one.as_str()) && is_word(two.as_str()),
+        [name, session, link, stream, report] => {
+            name.as_str() == "audit"
+                && is_word(session.as_str())
+                && is_word(link.as_str())
+                && is_word(stream.as_str())
+                && is_word(report.as_str())
+        }
         _ => false,
     }
 }
 
 // The form that the command met.
-fn form_in<'a>(found: &ArgMatches<'a>) -> Option<Form<'a>>
+fn form_met<'a>(found: &ArgMatches<'a>) -> Option<Form<'a>>
     ensures form { option_map asked_of result ≡ form_met (subcommand_rows_of found.now) }
     ensures window { IfSome result IsWindowed }
 {
-    match met(found) {
-        Some((name, word)) => form_of_name(name, word),
+    match found.subcommand() {
+        Some((name, inner)) => form_in(name, inner),
         None => None,
     }
+}
+
+// The form of a subcommand with its words.
+fn form_in<'a>(name: &str, inner: &ArgMatches<'a>) -> Option<Form<'a>>
+    ensures form { option_map asked_of result ≡ form_in (name.now, rows_of (found_of inner.now)) }
+    ensures window { IfSome result IsWindowed }
+{
+    if name == "audit" {
+        auditing(files(inner))
+    } else {
+        form_of_name(name, word(inner))
+    }
+}
+
+fn auditing<'a>(files: Files<'a>) -> Option<Form<'a>>
+    ensures form { option_map asked_of result ≡ of_files (files_shown files.entry) }
+    ensures window { IfSome result IsWindowed }
+{
+    let (session, link, stream, report) = files;
+    Some(Form::Audit {
+        session: session?,
+        link: link?,
+        stream: stream?,
+        report: report?,
+    })
 }
 
 fn form_of_name<'a>(name: &str, word: Option<&'a str>) -> Option<Form<'a>>

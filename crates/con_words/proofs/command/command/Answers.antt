@@ -1,7 +1,7 @@
 use Rattle.std.proofs.Common.{rules, ap, ap₂, codes, ◌≡◌, ◌∙◌}
 use Rattle.std.proofs.lemmas.Result.{IfOk-weaker}
 use Rattle.clap.specs.Words.{App, app_of, new_app, with_subcommand}
-use Rattle.con_words.specs.Command.{bare, taking}
+use Rattle.con_words.specs.Command.{bare, taking, taking_files}
 use Rattle.con_words.proofs.command.command.Goals as goal
 
 pub returns : goal.returns
@@ -21,4 +21,7 @@ returns c =
     let five_is : app_of c.in_ok-five.five ≡ with_subcommand (with_subcommand (with_subcommand (with_subcommand (with_subcommand bare (new_app (codes "type")).top) (taking (codes "play")).top) (taking (codes "solo")).top) (taking (codes "gen")).top) (taking (codes "run")).top =
     c.in_ok-five.ensures.shape c.in_ok-running.ensures.local ∙ ap₂ with_subcommand four_is (ap (λ (a : App). a.top) run_is) in
     let mirror_is : app_of c.in_ok-mirroring.mirroring ≡ taking (codes "mirror") = c.in_ok-mirroring.ensures.app in
-    IfOk-weaker c.subcommand-6.result _ _ (λ r h. h.shape c.in_ok-mirroring.ensures.local ∙ ap₂ with_subcommand five_is (ap (λ (a : App). a.top) mirror_is)) c.subcommand-6.ensures
+    let six_is : app_of c.in_ok-six.six ≡ with_subcommand (with_subcommand (with_subcommand (with_subcommand (with_subcommand (with_subcommand bare (new_app (codes "type")).top) (taking (codes "play")).top) (taking (codes "solo")).top) (taking (codes "gen")).top) (taking (codes "run")).top) (taking (codes "mirror")).top =
+    c.in_ok-six.ensures.shape c.in_ok-mirroring.ensures.local ∙ ap₂ with_subcommand five_is (ap (λ (a : App). a.top) mirror_is) in
+    let audit_is : app_of c.in_ok-auditing.auditing ≡ taking_files = c.in_ok-auditing.ensures.app in
+    IfOk-weaker c.subcommand-7.result _ _ (λ r h. h.shape c.in_ok-auditing.ensures.local ∙ ap₂ with_subcommand six_is (ap (λ (a : App). a.top) audit_is)) c.subcommand-7.ensures
