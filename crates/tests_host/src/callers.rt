@@ -2,7 +2,10 @@
 
 ghost use Rattle.std.specs.Prelude.{◌≡◌, ◌≢◌, ℕ, List, map, Some, None, string_bytes};
 ghost use Rattle.con_units.specs.declared.place.Size.{Size};
-ghost use Rattle.con_words.specs.Words.{form_of, typing, playing, solo};
+ghost use Rattle.con_inspect.specs.Auditing.{AreARun};
+ghost use Rattle.con_inspect.specs.Four.{four_of};
+ghost use Rattle.con_outside.specs.Named.{file_in};
+ghost use Rattle.con_words.specs.Words.{auditing, form_of, typing, playing, solo};
 
 use con_ending::{REPORT, TERMINAL};
 use con_host::console_host;
@@ -12,7 +15,7 @@ use std::sync::Wait;
 use std::thread::Threads;
 
 /// With `type` the report's failure is no status; with `play` the terminal's is none, and nothing is shown; nor is it with no form. With `solo`
-/// nothing is written to the second terminal.
+/// nothing is written to the second terminal. With `audit` nothing is shown, and 0 says that the four files are a run.
 pub fn status<T: Threads + Wait + Sync>(
     rt: &T,
     alloc: Global,
@@ -27,6 +30,9 @@ pub fn status<T: Threads + Wait + Sync>(
     ensures played { (size : Size) → form_of (map string_bytes words.now) ≡ Some (playing size) → result ≢ TERMINAL }
     ensures untouched { (size : Size) → form_of (map string_bytes words.now) ≡ Some (playing size) → term.new.written ≡ term.old.written }
     ensures second_untouched { (name : List ℕ) → form_of (map string_bytes words.now) ≡ Some (solo name) → second.new.written ≡ second.old.written }
+    ensures sound { (names link_name stream trace : List ℕ) → form_of (map string_bytes words.now) ≡ Some (auditing names link_name stream trace) → result ≡ 0
+        → AreARun (Some (file_in (map string_bytes files.old.names.items) (map (λ t. t.items) files.old.texts.items))) (four_of names link_name stream trace) }
+    ensures unshown { (names link_name stream trace : List ℕ) → form_of (map string_bytes words.now) ≡ Some (auditing names link_name stream trace) → term.new.written ≡ term.old.written }
     ensures no_form { form_of (map string_bytes words.now) ≡ None → term.new.written ≡ term.old.written }
 {
     console_host(
