@@ -226,7 +226,8 @@ def failing(room, shim, words, link, what, fronts=True):
             os.remove(mark)
         env = {"LD_PRELOAD": shim, "FAILS": what, "FAILS_AT": str(n), "MARK": mark}
         ran = runs.run(words, link, env=env, folder=room.folder)
-        is_front = second.startswith(room.second())
+        left = room.second()
+        is_front = not fronts or second.startswith(left)
         if not os.path.exists(mark):
             break
         fault = fault_of(what, ran, whole if fronts else ran) or "" if is_front else f"`{SECOND}` is no front"
@@ -255,7 +256,8 @@ def calls(room):
     others += [(["mirror", room.mirror], room.mirror_link, LASTS | SECONDS)]
     for words, link, kinds in turns + others:
         for what in kinds:
-            failing(room, shim, words, link, what)
+            # Behind a link that failed clients go on, so that what is shown last may be another picture.
+            failing(room, shim, words, link, what, fronts=(words[0], what) != ("mirror", "link"))
         pieces(room, shim, words, link)
     for what in LASTS:
         failing(room, shim, ["run", room.shell], room.shell_link, what, fronts=False)
@@ -690,13 +692,11 @@ def streams(room):
 
 def limits(room):
     table.group("Limits of the system")
-    for most in (8, 12, 16, 24, 32, 64, 96, 128):
+    for most in (4, 8, 12, 16, 24, 32, 64, 96, 128):
         for way in WAYS:
             for what, link in (("", room.shell_link), (", with an empty link", os.devnull)):
                 ran = runs.run([way, room.shell], link, limits={"AS": most << 20}, seconds=5)
                 table.expect(f"{most} MiB of room, `{way}`{what}", ran, NO_THREAD if way == "run" else ("0", "9"))
-    ran = runs.run(["run", room.shell], room.shell_link, limits={"AS": 4 << 20}, seconds=5)
-    table.expect("4 MiB of room, `run`: the system does not load the program", ran, ("127", "9", "SIGSEGV", "SIGKILL"))
     for most in (64, 256, 1024):
         for way in WAYS:
             ran = runs.run([way, room.listing], room.listing_link, limits={"STACK": most << 10}, seconds=5)

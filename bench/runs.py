@@ -167,7 +167,7 @@ class Table:
         endings = (ended,) if isinstance(ended, str) else ended
         wrong = [f"status {' or '.join(endings)}"] * (ran.ended not in endings) + [f"the last line {last}"] * (last is not None and line != last)
         wanted = "; it has to be " + ", ".join([*wrong, other] if other else wrong) if wrong or other else ""
-        told = line if line.startswith('["end",') or wanted else "another" if line else ""
+        told = line if line.startswith('["end",') and line.isprintable() or wanted else "another" if line else ""
         self.tell(what, ran.ended, told if len(told) <= WIDEST else f"{told[:WIDEST]}..", ran.seconds, ran.memory, wanted)
 
     def count(self, what, kinds, others, seconds, last=""):
