@@ -98,11 +98,15 @@ pub fn console_host<
             host_mirror(alloc, name, files, link, term, second, report, racks)
         }
         Ok(Some(Form::Gen(seed))) => host_gen(alloc, seed, term, report),
-        Ok(Some(Form::Audit {
-            session,
-            link,
-            stream,
-            report: trace,
-        })) => host_audit(alloc, session, link, stream, trace, files, report),
+        Ok(
+            Some(
+                Form::Audit {
+                    session,
+                    link,
+                    stream,
+                    report: trace,
+                },
+            ),
+        ) => host_audit(alloc, session, link, stream, trace, files, report),
     }
 }
