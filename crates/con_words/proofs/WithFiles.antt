@@ -3,14 +3,14 @@ use Rattle.std.proofs.Common.{◌≡◌, ℕ, true, false, nat_eq, List, [], ◌
 use Rattle.std.specs.Prelude.{fold}
 use Rattle.clap.specs.Faults.{check_fault, defaults_fault, level_fault, settle_fault, step_fault, turn_fault, walk_fault}
 use Rattle.clap.specs.Kinds.{Kinds, or_else}
-use Rattle.clap.specs.Simple.{Shape, built, entered, filled, new_rule, new_shape, with_index}
+use Rattle.clap.specs.Simple.{Shape, filled, new_rule, new_shape, with_index}
 use Rattle.clap.specs.Walk.{Held, Names, Row, Rule, Step, Walk, after_step, arg_by_index, finished, idle, nothing_held, reading_by, rows_after, settled, to_positional, value, walk, walked, word_met}
 use Rattle.clap.specs.Words.{fault_of, subcommand_of, Text}
 use Rattle.clap.specs.declared.parser.matches.ValueSource.TheVariants.{CommandLine}
 use Rattle.clap.proofs.OnLiterals.{clap_on_literals}
 use Rattle.con_words.specs.Command.{host}
 use Rattle.con_words.specs.Naming.{form_met}
-use Rattle.con_words.specs.Words.{Asked, auditing, of_words}
+use Rattle.con_words.specs.Words.{auditing, of_words}
 
 -- ---- a word that is a value
 
