@@ -47,13 +47,17 @@ def shown(value):
 def row(point, what, figure, aim=None, peer=None, name=""):
     """A row of the table. The figure must be at most the aim."""
     global missed, met
-    verdict = "" if aim is None else "met" if figure <= aim else "missed"
+    verdict = "" if aim is None or isinstance(figure, str) else "met" if figure <= aim else "missed"
     met, missed = met + (verdict == "met"), missed + (verdict == "missed")
     beside = "–" if peer is None else f"{shown(peer)} ({name})"
     print(f"| {point} | {what} | {shown(figure)} | {shown(aim)} | {beside} | {verdict} |", flush=True)
 
 
 # ---- paints
+
+# Instructions by which the painter compares a cell with the one before.
+PASS = 28
+
 
 def slopes(found, kind, w, heights):
     """What a doubling of the rows adds beside the one before, for each doubling: 2 is a straight line, and 4 a square."""
@@ -70,41 +74,38 @@ def measure_paints(quick, pool):
         # The smallest windows are left out: what does not depend on the rows weighs most there.
         worst = max(slopes(found, kind, width, heights[1:])[-1] for width in widths)
         row("a paint", f"{kind}: what the last doubling of the rows adds, beside the one before", worst, 2.1, 2, "a straight line")
-    nothing, equal = found["none", w, h], found["same", w, h]
-    cells = paints.changed("same", w, h)
-    one_pass = (equal.frame - nothing.frame) / cells
-    row("a paint", f"one pass over the cells of rows that may have changed, instructions a cell ({w} by {h})", one_pass)
+    nothing = found["none", w, h]
     for kind in ("half", "line", "two"):
         step = found[kind, w, h]
-        row("a paint", f"{kind}: a Paint, in such passes over the rows that changed", (step.paint - nothing.paint) / paints.changed(kind, w, h) / one_pass, 4)
+        passes = (step.paint - nothing.paint) / paints.changed(kind, w, h) / PASS
+        row("a paint", f"{kind} ({w} by {h}): a Paint, in passes over the cells of the rows that changed", passes, 4, 1, "one pass")
     row("nothing new", f"a Paint, instructions a cell of the window ({w} by {h})", nothing.paint / (w * h), 0.1)
     row("nothing new", "its frame alone, instructions a row", nothing.frame / h, 100)
     row("nothing new", "its frame, bytes", nothing.length, 10)
     for kind in ("buffer", "resize"):
-        row("nothing new", f"{kind}: a frame, in passes over the cells", found[kind, w, h].frame / (w * h) / one_pass, 1.1 if kind == "buffer" else None)
+        row("nothing new", f"{kind}: a frame, in passes over the cells", found[kind, w, h].frame / (w * h) / PASS, 1.1 if kind == "buffer" else None)
 
 
 def measure_views(quick, pool):
     size = (80, 25) if quick else (512, 256)
     name = f"{size[0]} by {size[1]}"
     for way in ("solo", "run"):
-        row("the view", f"`{way}`: peak memory of a window of {name}, in windows of cells", views.copies(way, (512, 256)), 4 if way == "solo" else None)
-        asked = views.asked(way, size)
-        if asked is not None:
-            row("the view", f"`{way}`: memory asked for by a Paint of one row, in windows of cells ({name})", asked, 1)
+        row("the view", f"`{way}`: the most memory that is held, in windows of cells ({name})", views.copies(way, size), 4)
+        row("the view", f"`{way}`: memory asked for by a Paint of one row, in windows of cells ({name})", views.asked(way, size), 1)
     for way in ("solo", "run"):
-        row("nothing new", f"`{way}`: an Ask and its Paint, microseconds (80 by 25)", views.asks(way, 20_000 if quick else 100_000), 1)
+        row("nothing new", f"`{way}`: an Ask and its Paint, microseconds of the processor (80 by 25)", views.asks(way, 20_000 if quick else 100_000), 1)
 
 
 # ---- sessions
 
 def measure_threads(quick, pool):
     seed = "1"
-    events, count, _, clock = sessions.generated(seed)
+    events, count, _, _ = sessions.generated(seed)
     whole, others, copied, framed = sessions.parts(seed, events, count)
-    spent = clock / (whole * events)
+    _, processor, _ = counts.timed([runs.PROGRAM, "gen", seed], runs=9)
     row("sessions", "an event of a generated session that is no Paint, instructions", others)
-    row("sessions", "the same, microseconds at the pace of the whole run", 1e6 * others * spent, 2)
+    row("sessions", "the same, microseconds of the processor at the pace of the whole run", 1e6 * others * processor / (whole * events), 2)
+    row("sessions", "a Paint of it, instructions, of which the frame has the last", f"{copied + framed:,.0f}, {framed:,.0f}")
     with tempfile.TemporaryDirectory() as folder:
         here, turns, beside, processor = threads.speeds(folder, 64, 3 if quick else 9)
         row("sessions", "64 clients by threads: their time beside that of the same calls at a mutex", beside / here, 2, 1, "a mutex of std")
@@ -139,6 +140,8 @@ AIMS = [
     ("reverse", "type", 90), ("region", "type", 60), ("lifts", "type", 120), ("rows", "type", 60), ("characters", "type", 80), ("cleared", "type", 150),
     ("short", "512x256", 80),
 ]
+# How long a text is for a peer.
+BESIDE = 100_000
 SAID = {
     "sgr": "dense SGR", "motion": "random cursor motion", "random": "random bytes", "reverse": "ESC M at the top of a region", "region": "LF at the bottom of a region",
     "lifts": "CSI S and CSI T", "rows": "rows inserted and deleted", "characters": "characters inserted and deleted", "cleared": "the display erased for every few characters",
@@ -147,11 +150,11 @@ SAID = {
 
 
 def measure_texts(quick, pool):
-    length = 100_000 if quick else throughput.SHORT
+    length = BESIDE if quick else throughput.SHORT
     with tempfile.TemporaryDirectory() as folder:
         beside = peers.counters(folder)
         for kind in SAID:
-            for size in (0, length):
+            for size in (0, BESIDE, length):
                 throughput.made(folder, kind, size)
 
         def counted(job):
@@ -159,7 +162,8 @@ def measure_texts(quick, pool):
             size = "80x25" if where == "type" else where
             here = throughput.a_byte(["type"] if where == "type" else ["play", size], kind, folder, length)
             # For each line libvterm moves all cells of a large window, one by one: that would take minutes.
-            found = {name: peers.a_byte(count, kind, size, folder, length) for name, count in beside.items() if size == "80x25" or name != "libvterm"}
+            there = {name: count for name, count in beside.items() if size == "80x25" or name != "libvterm"}
+            found = {name: peers.a_byte(count, kind, size, folder, BESIDE) for name, count in there.items()}
             best = min(found, key=found.get, default=None)
             return here, best and found[best], best
 
@@ -188,9 +192,9 @@ def measure_terminals(quick, pool):
 def measure_entries(quick, pool):
     size = 1 << 19 if quick else 4 << 20
     for way in entries.WAYS:
-        memory, clock, _, count = entries.measured(way, size, 1 if quick else 3)
+        memory, _, processor, count = entries.measured(way, size, 1 if quick else 3)
         row("entries", f"`{way}`: an entry without text, bytes", memory, 64)
-        row("entries", f"`{way}`: the same, microseconds", clock, 1)
+        row("entries", f"`{way}`: the same, microseconds of the processor", processor, 1)
         row("entries", f"`{way}`: the same, instructions", count)
 
 

@@ -10,7 +10,6 @@ its report in it, then its view and its frame alone, then both by each cell of t
 - two: the last two rows change, each in its first cell
 - half: all cells of the lower half change, and none above
 - line: CR LF at the bottom, and some text, so that rows are lifted
-- same: all cells of the lower half are filled as they were, so that nothing differs of what may
 - none: a frame of output is wanted, and nothing changed
 - buffer: another buffer is shown, with the same cells
 - resize: the window gets the size that it has
@@ -52,20 +51,16 @@ def line(w, h, i):
     return ["write", 2, f"\r\nline {i}"]
 
 
-def same(w, h, i):
-    return ["fill-units", 2, 0, h // 2, w * (h - h // 2), ord("a")]
-
-
 def other(w, h, i):
     return ["activate", [4, 2][i % 2]]
 
 
 # What is done in a step, and of how many cells the rows are that changed.
-KINDS = {"two": two, "half": half, "line": line, "same": same, "none": None, "buffer": other, "resize": None}
+KINDS = {"two": two, "half": half, "line": line, "none": None, "buffer": other, "resize": None}
 
 
 def changed(kind, w, h):
-    return w * {"two": 2, "half": h - h // 2, "same": h - h // 2}.get(kind, h)
+    return w * {"two": 2, "half": h - h // 2}.get(kind, h)
 
 
 def session(kind, w, h, steps):

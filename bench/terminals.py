@@ -154,7 +154,9 @@ def picture(words, folder, stream, wait):
         it.write(stream + b"\x1b[?25l")
     script = f"{folder}/show.sh"
     with open(script, "w") as it:
-        it.write("tmux -L frames set -g status off 2>/dev/null; sleep 0.6; while [ \"$(stty size)\" = '0 0' ]; do sleep 0.2; done\n")
+        it.write("tmux -L frames set -g status off 2>/dev/null; sleep 0.6\n")
+        # Some windows get their size late.
+        it.write(f"for k in 1 2 3 4 5 6 7 8 9 10; do [ \"$(stty size)\" = '{H} {W}' ] || sleep 0.3; done\n")
         it.write(f"stty size > {folder}/size.txt; cat {path}; touch {folder}/shown; sleep 60\n")
     for name in ("size.txt", "shown"):
         if os.path.exists(f"{folder}/{name}"):
