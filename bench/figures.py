@@ -107,8 +107,9 @@ def measure_threads(quick, pool):
     row("sessions", "the same, microseconds of the processor at the pace of the whole run", 1e6 * others * processor / (whole * events), 2)
     row("sessions", "a Paint of it, instructions, of which the frame has the last", f"{copied + framed:,.0f}, {framed:,.0f}")
     with tempfile.TemporaryDirectory() as folder:
-        here, turns, beside, processor = threads.speeds(folder, 64, 3 if quick else 9)
-        row("sessions", "64 clients by threads: their time beside that of the same calls at a mutex", beside / here, 2, 1, "a mutex of std")
+        here, _, beside, processor = threads.speeds(folder, 64, 3 if quick else 9)
+        if beside:
+            row("sessions", "64 clients by threads: their time beside that of the same calls at a mutex", beside / here, 2, 1, "a mutex of std")
         row("sessions", "64 clients by threads: the processor's time beside that by turns", processor, 1.5, 1, "by turns")
         times, _ = threads.echoes(folder)
         row("sessions", "from a typed byte to its echo, microseconds, the middle of a hundred", 1e6 * sorted(times)[50], 150)
@@ -219,8 +220,6 @@ def main():
         call.error(f"the points are {', '.join(POINTS)}")
     points = asked.points or list(POINTS)
     runs.needs_program()
-    if "threads" in points:
-        runs.needs_parts()
     if not counts.is_there():
         sys.exit("install valgrind first")
     print("| point | what | figure | aim: at most | peer | |\n|---|---|---|---|---|---|", flush=True)

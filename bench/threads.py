@@ -73,15 +73,16 @@ def hundred(folder):
 
 
 def speeds(folder, clients, times=3):
-    """Events a second by threads, by turns and at a mutex, and what part the processor's time by threads is of that by turns."""
+    """Events a second by threads, by turns and, where the bench crate is built, at a mutex; what part the processor's time by threads is of that by turns."""
     name = session(folder, clients, min(1_024, CALLS // clients))
     told, mutex = {"run": [], "solo": []}, []
     for _ in range(times):
         for form, taken in told.items():
             taken.append(ended(form, name))
-        mutex.append(entered(name))
+        if os.access(PARTS, os.X_OK):
+            mutex.append(entered(name))
     run, solo = (min(told[form], key=lambda ran: ran[4]) for form in ("run", "solo"))
-    return run[3] / run[4], solo[3] / solo[4], max(mutex), min(ran[5] for ran in told["run"]) / min(ran[5] for ran in told["solo"])
+    return run[3] / run[4], solo[3] / solo[4], max(mutex, default=None), min(ran[5] for ran in told["run"]) / min(ran[5] for ran in told["solo"])
 
 
 def speed(folder):
