@@ -44,38 +44,51 @@ fn named<'a>(setup: &'a Setup, name: &str) -> &'a [u8] {
     &[]
 }
 
+/// The texts of the four files of an audit, in the order of its words.
+type Texts<'a> = (&'a [u8], &'a [u8], &'a [u8], &'a [u8]);
+
 // The four texts that a case has for an audit: what a session with status 0 left, or the files that the words name.
-fn texts<'a>(given: &'a Setup, ran: &'a Ran) -> Option<[&'a [u8]; 4]> {
+fn texts<'a>(given: &'a Setup, ran: &'a Ran) -> Option<Texts<'a>> {
     match given.words.as_slice() {
-        [form, name] if is_session(form.as_str()) && ran.status == DONE => Some([
+        [form, name] if is_session(form.as_str()) && ran.status == DONE => Some((
             named(given, name.as_str()),
             given.link.as_slice(),
             ran.written.as_slice(),
             ran.report.as_slice(),
-        ]),
-        [form, session, link, stream, report] if form.as_str() == "audit" => Some([
+        )),
+        [form, session, link, stream, report] if form.as_str() == "audit" => Some((
             named(given, session.as_str()),
             named(given, link.as_str()),
             named(given, stream.as_str()),
             named(given, report.as_str()),
-        ]),
+        )),
         _ => None,
     }
+}
+
+// One more file of an audit, whose name is its next word.
+fn add_file(alloc: Global, setup: &mut Setup, place: usize, text: &[u8]) -> Result<(), AllocError> {
+    let Some(name) = FILES.get(place) else {
+        return Ok(());
+    };
+    setup.words.push(String::from_str(alloc, *name)?)?;
+    setup.names.push(String::from_str(alloc, *name)?)?;
+    setup.texts.push(Vec::from_slice(alloc, text)?)?;
+    Ok(())
 }
 
 // The audit of what a case has for one, if anything.
 fn audit_of(alloc: Global, parts: &[Part<'_>], ran: &Ran) -> Result<Option<Setup>, Wrong> {
     let given = Setup::of(alloc, parts)?;
-    let Some(texts) = texts(&given, ran) else {
+    let Some((session, link, stream, report)) = texts(&given, ran) else {
         return Ok(None);
     };
     let mut setup = Setup::new(alloc);
     setup.words.push(String::from_str(alloc, "audit")?)?;
-    for (name, text) in FILES.iter().zip(texts.iter()) {
-        setup.words.push(String::from_str(alloc, *name)?)?;
-        setup.names.push(String::from_str(alloc, *name)?)?;
-        setup.texts.push(Vec::from_slice(alloc, *text)?)?;
-    }
+    add_file(alloc, &mut setup, 0, session)?;
+    add_file(alloc, &mut setup, 1, link)?;
+    add_file(alloc, &mut setup, 2, stream)?;
+    add_file(alloc, &mut setup, REPORT, report)?;
     Ok(Some(setup))
 }
 
