@@ -1,11 +1,11 @@
 #!/usr/bin/env python3
 """Whether an audit sees what was changed: one bit of each byte of a run's stream, report and link in turn.
 
-    audit_changes.py [--each K] [--calls N] [--jobs N]
+    audit_changes.py [--each K] [--only FILE] [--calls N] [--jobs N]
 
-A session of two clients, with keys, sizes and questions for pictures in its link, runs by `solo`; by its default it has some 2,000 events. In the file of a copy
-one bit of one byte is another, of the n-th byte bit n modulo 8, and the copy is audited. With `--each K` that is done to each K-th byte alone. Prints for each file
-how many changes were refused, by what, and each that was not with the reason why it is a run as well:
+A session of two clients, with keys, sizes and questions for pictures in its link, runs by `solo`; by its default it has some 2,000 events. In the file of a
+copy one bit of one byte is another, of the n-th byte bit n modulo 8, and the copy is audited. With `--each K` that is done to each K-th byte alone, with
+`--only FILE` in that file alone. Prints for each file how many changes were refused, by what, and each that was not with the reason why it is a run as well:
 
 - stream: each picture up to the next size is the same on the specified terminal (`play`), from a blank one and from one that is full and hides its cursor;
 - link: it stands behind a hangup, where nothing is read;
@@ -150,6 +150,7 @@ def tell(kind, text, count, refused, taken, wrong, hung, pictures):
 def main():
     words = argparse.ArgumentParser(description=__doc__.splitlines()[0])
     words.add_argument("--each", type=int, default=1, metavar="K", help="each K-th byte alone")
+    words.add_argument("--only", choices=KINDS, help="in this file alone")
     words.add_argument("--calls", type=int, default=460, metavar="N", help="how many calls each client makes")
     words.add_argument("--jobs", type=int, default=os.cpu_count(), metavar="N", help="how many audits at once")
     given = words.parse_args()
@@ -170,7 +171,7 @@ def main():
         events, pictures = report.count(b"\n") - 1, pictures_of(session(given.calls), report)
         print(f"a run of {events} events: status {ran.returncode}; audited: {sound.stderr.decode().strip()}", flush=True)
         right = (ran.returncode, sound.returncode) == (0, YES)
-        for kind in KINDS:
+        for kind in [given.only] if given.only else KINDS:
             right = tell(kind, *tried(folder, names, kind, given.each, given.jobs), frames.rindex(b"X"), pictures) and right
     sys.exit(not right)
 
