@@ -151,7 +151,7 @@ def main():
     words = argparse.ArgumentParser(description=__doc__.splitlines()[0])
     words.add_argument("--each", type=int, default=1, metavar="K", help="each K-th byte alone")
     words.add_argument("--only", choices=KINDS, help="in this file alone")
-    words.add_argument("--calls", type=int, default=460, metavar="N", help="how many calls each client makes")
+    words.add_argument("--calls", type=int, default=545, metavar="N", help="how many calls each client makes")
     words.add_argument("--jobs", type=int, default=os.cpu_count(), metavar="N", help="how many audits at once")
     given = words.parse_args()
     if not os.access(PROGRAM, os.X_OK):
