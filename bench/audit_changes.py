@@ -9,7 +9,7 @@ copy one bit of one byte is another, of the n-th byte bit n modulo 8, and the co
 
 - stream: each picture up to the next size is the same on the specified terminal (`play`), from a blank one and from one that is full and hides its cursor;
 - link: it stands behind a hangup, where nothing is read;
-- report: there is no such reason, since a report determines what it tells.
+- report: a picture ends at another place of the stream, and is shown there as well; all else in a report is told by it alone.
 
 Ends with 1 where there is no reason, or where an audit ended otherwise than with 0 and 13."""
 import argparse
@@ -105,15 +105,27 @@ def shows_same(stream, other, at, pictures):
     return bool(behind)
 
 
-def reason(kind, text, at, hung, pictures):
+def shows_there_too(stream, pictures, others):
+    """Whether pictures that end elsewhere in a stream are shown there as well."""
+    if len(pictures) != len(others):
+        return False
+    moved = [(one, other) for one, other in zip(pictures, others) if one != other]
+    for (begun, width, height, end), (start, _, _, there) in moved:
+        for full in (False, True):
+            if dump(width, height, full, stream[begun:end]) != dump(width, height, full, stream[start:there]):
+                return False
+    return bool(moved)
+
+
+def reason(kind, text, at, made, hung, stream, pictures):
     """Why what was changed is a run as well; empty where there is no such reason."""
-    if kind == "link":
-        return "behind the hangup nothing is read" if at > hung else ""
-    if kind != "stream":
-        return ""
     other = bytearray(text)
     other[at] ^= 1 << at % 8
-    return "each picture is the same" if shows_same(text, bytes(other), at, pictures) else ""
+    if kind == "link":
+        return "behind the hangup nothing is read" if at > hung else ""
+    if kind == "stream":
+        return "each picture is the same" if shows_same(text, bytes(other), at, pictures) else ""
+    return "the picture is shown there as well" if shows_there_too(stream, pictures, pictures_of(made, bytes(other))) else ""
 
 
 def tried(folder, names, kind, each, jobs):
@@ -133,13 +145,13 @@ def tried(folder, names, kind, each, jobs):
     return text, len(places), refused, taken, wrong
 
 
-def tell(kind, text, count, refused, taken, wrong, hung, pictures):
+def tell(kind, text, count, refused, taken, wrong, why_of):
     """Prints what came of a file, and answers whether it is as it has to be."""
     by = ", ".join(f"{what} {number}" for what, number in sorted(refused.items()))
     print(f"{kind}: {count} of {len(text)} bytes changed, {sum(refused.values())} refused ({by}), {len(taken)} taken for a run", flush=True)
     right = not wrong
     for at in taken:
-        why = reason(kind, text, at, hung, pictures)
+        why = why_of(kind, text, at)
         right = right and bool(why)
         print(f"  byte {at}, bit {at % 8}, {shown(text, at)}: {why or 'FOR NO REASON'}")
     for at, status, line in wrong:
@@ -168,11 +180,14 @@ def main():
         sound = subprocess.run([PROGRAM, "audit", *(names[it] for it in ("session", "link", "stream", "report"))], capture_output=True, check=False)
         with open(names["report"], "rb") as file:
             report = file.read()
-        events, pictures = report.count(b"\n") - 1, pictures_of(session(given.calls), report)
+        with open(names["stream"], "rb") as file:
+            stream = file.read()
+        events, made = report.count(b"\n") - 1, session(given.calls)
+        why_of = functools.partial(reason, made=made, hung=frames.rindex(b"X"), stream=stream, pictures=pictures_of(made, report))
         print(f"a run of {events} events: status {ran.returncode}; audited: {sound.stderr.decode().strip()}", flush=True)
         right = (ran.returncode, sound.returncode) == (0, YES)
         for kind in [given.only] if given.only else KINDS:
-            right = tell(kind, *tried(folder, names, kind, given.each, given.jobs), frames.rindex(b"X"), pictures) and right
+            right = tell(kind, *tried(folder, names, kind, given.each, given.jobs), why_of) and right
     sys.exit(not right)
 
 
