@@ -11,17 +11,18 @@ def is_there():
     return bool(shutil.which("valgrind"))
 
 
-def called(report, names):
-    """For each of some names, which stand in those of functions, the instructions of these with all that they call."""
-    found, numbers, there = {name: 0 for name in names}, {}, ""
+def called(report, names, caller=""):
+    """For each of some names, which stand in those of functions, the instructions of these with all that they call, where one calls them in whose name `caller`
+    stands."""
+    found, numbers, here, there = {name: 0 for name in names}, {}, "", ""
     for line in report:
         told = re.match(r"(c?)fn=\((\d+)\)(?: (.*))?", line)
         if told:
             is_callee, number, text = told.groups()
             if text:
                 numbers[number] = text
-            there = numbers[number] if is_callee else ""
-        elif line.startswith("calls=") and there:
+            here, there = (here, numbers[number]) if is_callee else (numbers[number], "")
+        elif line.startswith("calls=") and there and caller in here:
             count = int(next(report).split()[1])
             for name in names:
                 found[name] += count * (name in there)

@@ -14,28 +14,12 @@ import sys
 import tempfile
 from concurrent.futures import ThreadPoolExecutor
 
+import counts
+
 CRATE = os.path.join(os.path.dirname(os.path.abspath(__file__)), "..", "crates", "bench_parts")
 PROGRAM = os.path.join(CRATE, "out", "bench_parts")
 KINDS = "mode text line colour cursor words rect key peek begin collect feed quiet ask paint exit".split()
 CROWDS = "plain window queue handles".split()
-
-
-def within(report, callee):
-    """The instructions of a callee of the watched function, with all that it calls."""
-    total, names, here, there = 0, {}, "", None
-    for line in report:
-        told = re.match(r"(c?)fn=\((\d+)\)(?: (.*))?", line)
-        if told:
-            called, number, name = told.groups()
-            if name:
-                names[number] = name
-            if called:
-                there = names[number]
-            else:
-                here, there = names[number], None
-        elif line.startswith("calls=") and there and "enter_watched" in here and callee in there:
-            total += int(next(report).split()[1])
-    return total
 
 
 def measured(job):
@@ -47,7 +31,7 @@ def measured(job):
             capture_output=True, check=True, text=True,
         )
         with open(out, encoding="utf-8") as report:
-            prepared = within(report, "make_room")
+            prepared = counts.called(report, ["make_room"], "enter_watched")["make_room"]
     events, touched = map(int, told.stdout.split())
     return events, touched, int(re.search(r"Collected : (\d+)", told.stderr).group(1)), prepared
 
