@@ -21,11 +21,12 @@ line_read s p n rest initial mask =
     else if is_empty rest then reads.Line (record { program = program_of s.procs p; insert = has_bit s.mode 0x20; initial = initial; mask = mask; presses = [] })
     else reads.Done (answers.Units (front_of n rest))
 
--- the read is made, the program's history has room, and what is left after the read is there
+-- the read is made, the program's history has room, what is left after the read is there, and room for what its line leaves is empty
 pub record IsLineRoom (room : LineRoom) (s : State) (p h n : ℕ) (initial : List ℕ) (mask : ℕ) : Type 0 where
   pub read : room.read ≡ line_read s p n (rest_in s.rests p h) initial mask
   pub history : room.history ≡ room_for_use s.histories (program_of s.procs p)
   pub back : room.back ≡ back_of n (rest_in s.rests p h)
+  pub rest : room.rest ≡ []
 
 -- the read that a read of units opens
 abbrev pub units_read : ℕ → OpenRead

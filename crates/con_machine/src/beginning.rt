@@ -29,6 +29,9 @@ const LINE_INPUT: u32 = 0x0002;
 
 const ECHO_INPUT: u32 = 0x0004;
 
+/// The most units that the text of a line has, with its expansion and CR LF.
+const LINE_UNITS: usize = 5122;
+
 // Whether a read can't begin with a text: it has a control, or more than 1,024 units, or more than are asked for.
 fn is_no_initial(initial: &[u16], n: u32) -> bool
     ensures { result ≡ is_no_initial initial.now n }
@@ -112,6 +115,7 @@ impl Console {
             read,
             history,
             back,
+            rest,
         } = room;
         self.histories
             .use_of(self.procs.program(p), self.procs.programs(), history);
@@ -122,8 +126,7 @@ impl Console {
         if is_empty(self.rests.of(p, h)) {
             let note = self.first_note(p, h, n, initial);
             self.notes.put(note);
-            self.rests
-                .begin(p, h, Units(Vec::new(self.title.allocator())));
+            self.rests.begin(p, h, rest);
         } else {
             self.rests.set(p, h, back);
         }
@@ -220,6 +223,20 @@ impl Console {
         text(self.title.allocator(), &rest[end..])
     }
 
+    // Room for all that the line of a read may leave, where the read opens.
+    fn rest_room(&self, p: u8, h: u32, n: u32) -> Result<Units, OutOfMemory>
+        ensures { IfOk result (λ u. u ≡ []) }
+    {
+        let alloc = self.title.allocator();
+        if n == 0 || !is_empty(self.rests.of(p, h)) {
+            return Ok(Units(Vec::new(alloc)));
+        }
+        match Vec::with_capacity(alloc, LINE_UNITS) {
+            Ok(room) => Ok(Units(room)),
+            Err(_) => Err(OutOfMemory),
+        }
+    }
+
     // The memory of a line read.
     fn line_room(
         &mut self,
@@ -238,10 +255,12 @@ impl Console {
         let back = self.line_back(p, h, n)?;
         let history = self.histories.use_room(self.procs.program(p))?;
         let read = self.line_read(p, h, n, initial, mask)?;
+        let rest = self.rest_room(p, h, n)?;
         Ok(LineRoom {
             read,
             history,
             back,
+            rest,
         })
     }
 

@@ -13,19 +13,21 @@ use con_readers::Answer;
 use con_units::{OutOfMemory, Units};
 
 impl Console {
-    /// The memory of a Collect: what of a line's text is left for its handle.
-    pub(crate) fn collect_room(&self, p: u8) -> Result<Option<Units>, OutOfMemory>
-        ensures room { IfOk result (λ back. HasBack back (noted_of self.now.state.noted p) (answer_in (slice_get self.now.state.reads (place_of self.now.state.reads p)))) }
+    /// The memory of a Collect: what of a line's text is left for its handle, in memory that was taken when the read began.
+    pub(crate) fn collect_room(&mut self, p: u8) -> Result<Option<Units>, OutOfMemory>
+        ensures room { IfOk result (λ back. HasBack back (noted_of self.old.state.noted p) (answer_in (slice_get self.old.state.reads (place_of self.old.state.reads p)))) }
+        ensures same { self.new ≡ self.old }
     {
         let Some(note) = self.notes.of(p) else {
             return Ok(None);
         };
+        let room = self.rests.take_room(note.process, note.handle);
         let Some(answer) = self.readers.answer(p) else {
             return Ok(None);
         };
         match answer {
             Answer::Units(units) => {
-                let back = fronts::part_left(self.title.allocator(), &note, units.as_slice())?;
+                let back = fronts::part_left(room, &note, units.as_slice())?;
                 Ok(Some(back))
             }
             Answer::Records(_) => Ok(None),

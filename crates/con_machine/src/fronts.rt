@@ -1,12 +1,11 @@
 //! Which part of a line's text one read answers, and what is left of it.
-ghost use Rattle.std.specs.Prelude.{◌≡◌, ℕ, ◌≤◌, length, min, take, drop, IfOk, if◌then◌else◌};
+ghost use Rattle.std.specs.Prelude.{◌≡◌, ℕ, ◌≤◌, [], length, min, take, drop, IfOk, if◌then◌else◌};
 ghost use Rattle.con_machine.specs.Reads.{ends_line, line_front, part_told, part_left};
 ghost use Rattle.con_machine.specs.Began.{part_end};
 
-use crate::copies::text;
+use crate::copies::text_in;
 use crate::noted::Noted;
 use con_units::{OutOfMemory, Units};
-use std::alloc::Global;
 
 // Whether a unit and what stands behind it are CR and LF.
 fn ends_line(unit: u16, rest: &[u16]) -> bool
@@ -46,11 +45,12 @@ fn part_end(note: &Noted, units: &[u16]) -> usize
     }
 }
 
-/// What is left of a line's text for its handle, in memory of its own.
-pub(crate) fn part_left(alloc: Global, note: &Noted, units: &[u16]) -> Result<Units, OutOfMemory>
+/// What is left of a line's text for its handle, in memory that is given, or in other where it is too small.
+pub(crate) fn part_left(room: Units, note: &Noted, units: &[u16]) -> Result<Units, OutOfMemory>
+    requires { room ≡ [] }
     ensures { IfOk result (λ u. u ≡ part_left note.now units.now) }
 {
-    text(alloc, &units[part_end(note, units)..])
+    text_in(room, &units[part_end(note, units)..])
 }
 
 /// What a read answers of a line's text.

@@ -66,6 +66,32 @@ fn set(rests: &mut [Rest], process: u8, handle: u32, units: Units)
     }
 }
 
+// An empty rest of a handle takes other memory.
+fn give_room(rests: &mut [Rest], process: u8, handle: u32, room: Units)
+    requires { room ≡ [] }
+    ensures { rests.new ≡ rests.old }
+{
+    let i = place_of(rests, process, handle);
+    if i < rests.len() {
+        let rest = &mut rests[i];
+        rest.give_room(room);
+    }
+}
+
+// The memory of a handle's empty rest, where it has one.
+fn take_room(rests: &mut [Rest], process: u8, handle: u32, alloc: Global) -> Units
+    ensures empty { result ≡ [] }
+    ensures same { rests.new ≡ rests.old }
+{
+    let i = place_of(rests, process, handle);
+    if i < rests.len() {
+        let rest = &mut rests[i];
+        rest.take_room(alloc)
+    } else {
+        Units(Vec::new(alloc))
+    }
+}
+
 impl Rests {
     /// No rest, and room for none.
     pub fn new(alloc: Global) -> Rests
@@ -107,13 +133,15 @@ impl Rests {
         rest_of(self.list.as_slice(), process, handle)
     }
 
-    /// A handle has a rest from here on, an empty one unless there is one.
+    /// A handle has a rest from here on, an empty one unless there is one. An empty one lies in the memory that is given.
     pub fn begin(&mut self, process: u8, handle: u32, empty: Units)
         requires room { 0 < self.old.spare }
         requires empty { empty ≡ [] }
         ensures { self.new.list ≡ rest_begun self.old.list process handle }
     {
-        if !self.has(process, handle) {
+        if self.has(process, handle) {
+            give_room(self.list.as_mut_slice(), process, handle, empty);
+        } else {
             self.list.push_reserved(Rest {
                 process,
                 handle,
@@ -121,6 +149,15 @@ impl Rests {
             });
             self.spare -= 1;
         }
+    }
+
+    /// The memory of a handle's empty rest, which stays empty without it; none where there is no such rest.
+    pub fn take_room(&mut self, process: u8, handle: u32) -> Units
+        ensures empty { result ≡ [] }
+        ensures same { self.new ≡ self.old }
+    {
+        let alloc = *self.list.allocator();
+        take_room(self.list.as_mut_slice(), process, handle, alloc)
     }
 
     /// The rest of a handle that has one becomes another one.

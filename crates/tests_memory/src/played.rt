@@ -42,7 +42,7 @@ fn opened(alloc: Global) -> Result<Console, OutOfMemory> {
     }
 }
 
-// Enters an event that is ready, once more where there was no memory.
+// Enters an event that is ready, once more where there was no memory. All that a Collect needs was taken at its Begin.
 fn entered(
     console: &mut Console,
     actor: Actor,
@@ -53,7 +53,10 @@ fn entered(
     }
     let room = match console.prepare(actor, event) {
         Ok(room) => room,
-        Err(OutOfMemory) => console.prepare(actor, event)?,
+        Err(OutOfMemory) => match event {
+            Event::Collect => return Ok(None),
+            _ => console.prepare(actor, event)?,
+        },
     };
     Ok(Some(console.apply(actor, event, room)))
 }

@@ -1,6 +1,6 @@
 use Rattle.std.proofs.Common.{arith, refl}
 use Rattle.con_machine.proofs.Listing.{copied_more}
-use Rattle.con_machine.proofs.copies.text.Goals as goal
+use Rattle.con_machine.proofs.copies.text_in.Goals as goal
 
 pub loop-unit-preserved : goal.loop-unit-preserved
 loop-unit-preserved c = (
