@@ -1,5 +1,5 @@
 -- What is found of files, and how it is told, in small.
-use Rattle.std.proofs.Common.{◌≡◌, inl, inr, refl, ℕ, ◌≤◌, arith, List, [], ◌∷◌, length, Option, Some, None}
+use Rattle.std.proofs.Common.{◌≡◌, ◌⊎◌, inl, inr, refl, ℕ, ◌≤◌, arith, List, [], ◌∷◌, length, Option, Some, None}
 use Rattle.std.specs.Prelude.{codes}
 use Rattle.con_trace.specs.Audit.{a_run, no_run}
 use Rattle.con_ending.specs.Files.{missing, too_long, no_json}
@@ -7,7 +7,7 @@ use Rattle.con_audit.specs.declared.verdict.What.TheVariants as what
 use Rattle.con_audit.specs.declared.verdict.Verdict.TheVariants as verdicts
 use Rattle.con_inspect.specs.Four.{AreFiles, Bars, four_of}
 use Rattle.con_inspect.specs.Finding.{status_lost, told}
-use Rattle.con_inspect.specs.Auditing.{barred, found, status_for}
+use Rattle.con_inspect.specs.Auditing.{AreARun, IsComplete, barred, found, status_for}
 use Rattle.con_inspect.specs.declared.finding.Finding.TheVariants as findings
 
 -- a file for each name but the empty one, which has the name as its bytes
@@ -26,6 +26,14 @@ no_link = inr ((97 ∷ [], refl), inl refl)
 -- the session is missing
 no_session_there : Bars (Some find) (four_of [] (98 ∷ []) (99 ∷ []) (100 ∷ [])) ⊥ missing
 no_session_there = inl refl
+
+-- files of which one is missing are no run
+no_run_without_link : AreARun (Some find) (four_of (97 ∷ []) [] (99 ∷ []) (100 ∷ [])) → ⊥
+no_run_without_link run = let none : None ≡ Some run.0.link = run.1.1.1 in cc
+
+-- and an audit of them ends with 7, where there is memory
+missing_is_answered : (status : ℕ) → IsComplete status (Some find) (four_of (97 ∷ []) [] (99 ∷ []) []) ⊥ ⊥ → (status ≡ 7) ⊎ (status ≡ 9)
+missing_is_answered status complete = complete find refl (λ e. e) (λ e. e) (barred missing) no_link
 
 -- ---- statuses
 
