@@ -39,7 +39,8 @@ pub record AreFrames (link : List ℕ) (frames : List Frame) : Type 0 where
   pub rest : List ℕ
   pub text : link ≡ flat_map spelling frames ++ rest
   pub frames' : list_all is_frame frames ≡ true
-  pub stop : IsLink frames (Some rest) ⊎ ((list_all goes_on frames ≡ true) × (kind : FrameFault) × (taken left : List ℕ) × (rest ≡ taken ++ left) × Shows kind taken (Some left))
+  pub stop : IsLink frames (Some rest) ⊎ ((list_all goes_on frames ≡ true) × (kind : FrameFault) × (taken left : List ℕ)
+      × (rest ≡ taken ++ left) × Shows kind taken (Some left))
 
 -- ---- the parts that a front of the entries must keep
 

@@ -57,4 +57,5 @@ Keeps what.Whole g frames h x = Unit {0}
 
 -- Behind a front that holds, what one entry more must keep is exactly what keeps the longer front.
 abbrev pub EntryByEntry : Type 0
-EntryByEntry = (w : What) (g : Given) (frames : List Frame) (h : List Entry) (x : Entry) → (w ≡ what.Whole → ⊥) → Holds w g frames h → (Keeps w g frames h x) ↔ (Holds w g frames (h ++ x ∷ []))
+EntryByEntry = (w : What) (g : Given) (frames : List Frame) (h : List Entry) (x : Entry) → (w ≡ what.Whole → ⊥) → Holds w g frames h
+    → (Keeps w g frames h x) ↔ (Holds w g frames (h ++ x ∷ []))

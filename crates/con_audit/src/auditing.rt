@@ -27,7 +27,17 @@ pub fn audit(
     requires short { length link.now ≤ 16777216 }
     requires replies { length replies.now ≡ length entries.now }
     requires ends { length ends.now ≡ paints entries.now }
-    ensures audited { IfOk result (λ verdict. IsAudited (record { session = session.now; racks = racks.now; link = link.now; stream = stream.now; entries = entries.now; replies = replies.now; ends = ends.now }) verdict) }
+    ensures audited { IfOk result (λ verdict. IsAudited
+        (record {
+          session = session.now;
+          racks = racks.now;
+          link = link.now;
+          stream = stream.now;
+          entries = entries.now;
+          replies =
+              replies.now;
+          ends = ends.now;
+        }) verdict) }
 {
     let frames = frames_of(alloc, link)?;
     let frames = frames.as_slice();

@@ -194,7 +194,8 @@ impl<'a> Track<'a> {
 
 // What an event calls for: close ends every client.
 fn called_for(event: u32, doubtful: bool, handled: bool) -> Stance
-    ensures { stance_of result ≡ (if event == 2 then client.MustLeave else if doubtful then client.MayLeave else if handled then client.GoesOn else client.MustLeave) }
+    ensures { stance_of result ≡ (if event == 2 then client.MustLeave else if doubtful then client.MayLeave else if handled
+        then client.GoesOn else client.MustLeave) }
 {
     if event == 2 {
         Stance::MustLeave

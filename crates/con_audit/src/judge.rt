@@ -160,8 +160,10 @@ fn is_seen(watch: &Watch, answer: &Reply) -> bool
 fn see(watch: &mut Watch, stream: &[u8], event: &Event, answer: &Reply) -> Result<bool, OutOfMemory>
     requires size { (z : Size) → event.now ≡ events.Resize z → is_size z ≡ true }
     requires end { EndsAt stream.now watch.old event.now }
-    ensures seen { (s : State) → Pictures event.now answer.now s → IfOk result (λ seen. (seen ≡ true) ↔ Along (IsSeen stream.now) (watched stream.now) watch.old (sights_at s event.now)) }
-    ensures watch { (s : State) → Pictures event.now answer.now s → IfOk result (λ _. watch.new ≡ after (watched stream.now) watch.old (sights_at s event.now)) }
+    ensures seen { (s : State) → Pictures event.now answer.now s
+        → IfOk result (λ seen. (seen ≡ true) ↔ Along (IsSeen stream.now) (watched stream.now) watch.old (sights_at s event.now)) }
+    ensures watch { (s : State) → Pictures event.now answer.now s
+        → IfOk result (λ _. watch.new ≡ after (watched stream.now) watch.old (sights_at s event.now)) }
 {
     match event {
         Event::Paint => {
@@ -225,7 +227,8 @@ impl<'a> Judge<'a> {
         ends: &'a [u64],
     ) -> Result<Judge<'a>, OutOfMemory>
         requires { All (λ rack. length rack ≤ 255) racks.now }
-        ensures { (g : Given) → g.session ≡ session.now → g.racks ≡ racks.now → g.ends ≡ ends.now → IfOk result (λ j. Stands j.console.state j.tracks.items j.side j.watch g frames.now []) }
+        ensures { (g : Given) → g.session ≡ session.now → g.racks ≡ racks.now → g.ends ≡ ends.now
+            → IfOk result (λ j. Stands j.console.state j.tracks.items j.side j.watch g frames.now []) }
     {
         let counts = counts_of(alloc, racks)?;
         let console = Console::new(alloc, session, counts.as_slice())?;
@@ -246,9 +249,11 @@ impl<'a> Judge<'a> {
         entry: &Entry,
         reply: &Reply,
     ) -> Result<Option<What>, OutOfMemory>
-        ensures { (g : Given) (frames : List Frame) (h : List Entry) → Stands self.old.console.state self.old.tracks.items self.old.side self.old.watch g frames h
+        ensures { (g : Given) (frames : List Frame) (h : List Entry)
+            → Stands self.old.console.state self.old.tracks.items self.old.side self.old.watch g frames h
             → g.stream ≡ stream.now → slice_get g.replies (length h) ≡ Some reply.now
-            → IfOk result (λ found. Judges found g frames h entry.now (Stands self.new.console.state self.new.tracks.items self.new.side self.new.watch g frames)) }
+            → IfOk result (λ found. Judges found g frames h entry.now
+            (Stands self.new.console.state self.new.tracks.items self.new.side self.new.watch g frames)) }
     {
         if !self.console.ready(entry.actor, &entry.event) {
             return Ok(Some(What::Ready));
@@ -268,8 +273,10 @@ impl<'a> Judge<'a> {
     ) -> Result<Option<What>, OutOfMemory>
         requires { (z : Size) → entry.now.event ≡ events.Resize z → is_size z ≡ true }
         ensures { (s : State) (g : Given) (frames : List Frame) (h : List Entry) → Stands s self.old.tracks.items self.old.side self.old.watch g frames h
-            → g.stream ≡ stream.now → slice_get g.replies (length h) ≡ Some reply.now → IsAnswered s self.old.console.state entry.now.actor entry.now.event answer.now
-            → IfOk result (λ found. Judges found g frames h entry.now (Stands self.new.console.state self.new.tracks.items self.new.side self.new.watch g frames)) }
+            → g.stream ≡ stream.now → slice_get g.replies (length h) ≡ Some reply.now
+            → IsAnswered s self.old.console.state entry.now.actor entry.now.event answer.now
+            → IfOk result (λ found. Judges found g frames h entry.now
+            (Stands self.new.console.state self.new.tracks.items self.new.side self.new.watch g frames)) }
     {
         if !is_said(&entry.event, answer, reply) {
             return Ok(Some(What::Reply));
@@ -296,7 +303,8 @@ impl<'a> Judge<'a> {
     // The clients and the terminal's side go on by an event, which the console has answered so.
     fn note(&mut self, actor: Actor, event: &Event, answer: &Reply) -> Result<(), OutOfMemory>
         requires { MayStand self.old.tracks.items self.old.side actor event.now }
-        ensures tracks { IfOk result (λ _. self.new.tracks.items ≡ entered_by self.old.tracks.items actor event.now answer.now (is_pending self.old.console.state)) }
+        ensures tracks { IfOk result (λ _. self.new.tracks.items
+            ≡ entered_by self.old.tracks.items actor event.now answer.now (is_pending self.old.console.state)) }
         ensures side { IfOk result (λ _. self.new.side ≡ side_by self.old.side actor event.now) }
         ensures console { self.new.console.state ≡ self.old.console.state }
         ensures watch { self.new.watch ≡ self.old.watch }
@@ -321,7 +329,8 @@ impl<'a> Judge<'a> {
 
     /// Whether all have done what they do, behind all entries.
     pub fn is_whole(&self, stream: &[u8], ends: &[u64]) -> bool
-        ensures { result ≡ ((last_end 0 ends.now == length stream.now) && (all_gone self.now.tracks.items && (self.now.side.sender.ended && not (is_ready self.now.console.state actors.Painter events.Paint)))) }
+        ensures { result ≡ ((last_end 0 ends.now == length stream.now) &&
+            (all_gone self.now.tracks.items && (self.now.side.sender.ended && not (is_ready self.now.console.state actors.Painter events.Paint)))) }
     {
         last_end(ends) == stream.len() as u64
             && have_all_left(self.tracks.as_slice())

@@ -24,7 +24,16 @@ pub fn verdict_on(
     requires few { All (λ rack. length rack ≤ 255) racks.now }
     requires replies { length replies.now ≡ length entries.now }
     ensures { (link : List ℕ) → AreFrames link frames.now
-        → IfOk result (λ verdict. IsAudited (record { session = session.now; racks = racks.now; link = link; stream = stream.now; entries = entries.now; replies = replies.now; ends = ends.now }) verdict) }
+        → IfOk result (λ verdict. IsAudited
+        (record {
+          session = session.now;
+          racks = racks.now;
+          link = link;
+          stream = stream.now;
+          entries = entries.now;
+          replies = replies.now;
+          ends = ends.now;
+        }) verdict) }
 {
     let mut judge = Judge::new(alloc, session, racks, frames, ends)?;
     judged(&mut judge, stream, entries, replies, ends)
@@ -40,7 +49,8 @@ fn judged(
 ) -> Result<Verdict, OutOfMemory>
     requires { length replies.now ≡ length entries.now }
     ensures { (g : Given) (frames : List Frame) → Reads g stream.now entries.now replies.now ends.now
-        → Stands judge.old.console.state judge.old.tracks.items judge.old.side judge.old.watch g frames [] → IfOk result (λ verdict. IsVerdict g frames verdict) }
+        → Stands judge.old.console.state judge.old.tracks.items judge.old.side judge.old.watch g frames []
+        → IfOk result (λ verdict. IsVerdict g frames verdict) }
 {
     for place in 0..entries.len() {
         let found = judge.entry(stream, &entries[place], &replies[place])?;

@@ -54,7 +54,8 @@ fn are_same(cells: &[Cell], others: &[Cell]) -> bool
 
 // Whether a page has the view's sides, visibility, and cursor where it shows.
 fn has_frame(page: &Page, view: &View) -> bool
-    ensures { (result ≡ true) ↔ ((page.now.w ≡ view.now.size.w) × (page.now.h ≡ view.now.size.h) × (page.now.visible ≡ view.now.visible) × (view.now.visible ≡ true → (pos page.now.x ≡ view.now.cursor.x) × (pos page.now.y ≡ view.now.cursor.y))) }
+    ensures { (result ≡ true) ↔ ((page.now.w ≡ view.now.size.w) × (page.now.h ≡ view.now.size.h) × (page.now.visible ≡ view.now.visible)
+        × (view.now.visible ≡ true → (pos page.now.x ≡ view.now.cursor.x) × (pos page.now.y ≡ view.now.cursor.y))) }
 {
     let size = page.size();
     size.w == view.size.w

@@ -201,7 +201,9 @@ pub fn forget(marks: &mut Page, pen: bool)
 fn mark_cells(marks: &mut Page, flags: Flags, found: Found, unit: u16, csi: &Csi)
     requires pen { marks.old.pen ≡ ink flags.pen }
     requires other { any_of is_sgr (item_of found unit csi.now) ≡ false }
-    ensures { marks.new ≡ (if not flags.cursor && any_of rests_on_cursor (item_of found unit csi.now) then forgotten (fold effect marks.old (option_to_list (item_of found unit csi.now))) else fold effect marks.old (option_to_list (item_of found unit csi.now))) }
+    ensures { marks.new ≡ (if not flags.cursor && any_of rests_on_cursor (item_of found unit csi.now)
+        then forgotten (fold effect marks.old (option_to_list (item_of found unit csi.now)))
+        else fold effect marks.old (option_to_list (item_of found unit csi.now))) }
 {
     marks.apply(found, unit, csi);
     if !flags.cursor && rests_on_cursor(found, unit, csi) {
@@ -230,7 +232,8 @@ fn mark_pen(marks: &mut Page, flags: Flags, csi: &Csi)
 fn mark(marks: &mut Page, flags: Flags, found: Found, unit: u16, csi: &Csi)
     requires { marks.old.pen ≡ ink flags.pen }
     ensures { (s : Page) → length marks.old.cells ≡ length s.cells → marks.old ≡ marked s (known_by marks.old flags)
-        → marks.new ≡ marked (fold effect s (option_to_list (item_of found unit csi.now))) (all_learned s (known_by marks.old flags) (option_to_list (item_of found unit csi.now))) }
+        → marks.new ≡ marked (fold effect s (option_to_list (item_of found unit csi.now)))
+        (all_learned s (known_by marks.old flags) (option_to_list (item_of found unit csi.now))) }
 {
     if is_sgr(found, csi) {
         mark_pen(marks, flags, csi);

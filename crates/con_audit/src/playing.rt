@@ -19,7 +19,8 @@ fn learn_unit(
     unit: u16,
 ) -> Flags
     requires tied { marks.old ≡ marked page.old (known_by marks.old flags) }
-    ensures typed { (b : List ℕ) → partial_of b page.new units.new marks.new result ≡ typed_partial (partial_of b page.old units.old marks.old flags) (unit ∷ []) }
+    ensures typed { (b : List ℕ) → partial_of b page.new units.new marks.new result
+        ≡ typed_partial (partial_of b page.old units.old marks.old flags) (unit ∷ []) }
     ensures tied { marks.new ≡ marked page.new (known_by marks.new result) }
 {
     let found = units.advance(unit);
@@ -35,7 +36,8 @@ fn learn_character(
     character: char,
 ) -> Flags
     requires tied { marks.old ≡ marked page.old (known_by marks.old flags) }
-    ensures typed { (b : List ℕ) → partial_of b page.new units.new marks.new result ≡ typed_partial (partial_of b page.old units.old marks.old flags) (units_of character) }
+    ensures typed { (b : List ℕ) → partial_of b page.new units.new marks.new result
+        ≡ typed_partial (partial_of b page.old units.old marks.old flags) (units_of character) }
     ensures tied { marks.new ≡ marked page.new (known_by marks.new result) }
 {
     let code = character as u32;
@@ -56,7 +58,8 @@ fn learn_if(
     character: Option<char>,
 ) -> Flags
     requires tied { marks.old ≡ marked page.old (known_by marks.old flags) }
-    ensures typed { (b : List ℕ) → partial_of b page.new units.new marks.new result ≡ typed_partial (partial_of b page.old units.old marks.old flags) (flat_map units_of (option_to_list character)) }
+    ensures typed { (b : List ℕ) → partial_of b page.new units.new marks.new result
+        ≡ typed_partial (partial_of b page.old units.old marks.old flags) (flat_map units_of (option_to_list character)) }
     ensures tied { marks.new ≡ marked page.new (known_by marks.new result) }
 {
     match character {

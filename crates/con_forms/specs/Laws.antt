@@ -30,7 +30,8 @@ answers s h = map reported (replies_of s h)
 
 -- the lines of a legal history, up to a picture without a length, are those of a history of a report, of whatever state the console begins in
 abbrev pub HistoriesFit : Type 0
-HistoriesFit = (s : State) (n : ℕ) (h : List Entry) (ns : List ℕ) (end : End) → is_legal s h ≡ true → are_of_session n h ≡ true → Kept h (answers s h) ns end → length ns ≤ pictures h
+HistoriesFit = (s : State) (n : ℕ) (h : List Entry) (ns : List ℕ) (end : End) → is_legal s h ≡ true → are_of_session n h ≡ true
+    → Kept h (answers s h) ns end → length ns ≤ pictures h
     → IsHistory (history_told (told h (answers s h) ns) ns)
 
 -- these lines are what a report says of that history

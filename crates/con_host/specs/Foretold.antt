@@ -52,4 +52,5 @@ HasNoMirrorFrame link = HasNoFrameBy mirrored link
 
 -- files are told, and the one of this name is this session
 abbrev pub IsSession : Option (List ℕ → Option (List ℕ)) → List ℕ → Clients → Type 0
-IsSession files name session = (find : List ℕ → Option (List ℕ)) × (bytes : List ℕ) × (files ≡ Some find) × (find name ≡ Some bytes) × (length bytes ≤ 16777216) × (document bytes ≡ Some (Ok session))
+IsSession files name session = (find : List ℕ → Option (List ℕ)) × (bytes : List ℕ) × (files ≡ Some find) × (find name ≡ Some bytes)
+    × (length bytes ≤ 16777216) × (document bytes ≡ Some (Ok session))

@@ -34,7 +34,8 @@ is_gen_status n = nat_eq n 0 || nat_eq n 5 || nat_eq n 6 || nat_eq n 9
 abbrev pub GeneratedPart : ℕ → Option (List ℕ) → Option (List ℕ) → Option (List ℕ) → Option (List ℕ) → Type 0
 GeneratedPart seed old now before report =
     ((now ≡ old) × (report ≡ before))
-    ⊎ ((run : GeneratedRun seed) × ((WroteFront run.stream old now × ((report ≡ before) ⊎ WrotePart (end_line 5) before report)) ⊎ ((now ≡ then_written old run.stream) × WrotePart (summary_of seed run) before report)))
+    ⊎ ((run : GeneratedRun seed) × ((WroteFront run.stream old now × ((report ≡ before) ⊎ WrotePart (end_line 5) before report))
+    ⊎ ((now ≡ then_written old run.stream) × WrotePart (summary_of seed run) before report)))
 
 -- What the terminal and the report have, for each status that comes.
 pub record Generated (status seed : ℕ) (old now before report : Option (List ℕ)) (failed : Type 0) : Type 0 where

@@ -21,14 +21,18 @@ pub record Refused (status : ℕ) (before left old now before_report report : Op
 
 -- By what the words ask for, whose statuses are those of its record: what the link had left before and after, what the terminal has, what the second
 -- terminal has, and what the report has; `failed` says that the report failed, `second_failed` that the second terminal did, `files_failed` that the files did.
-pub record Hosted (status : ℕ) (asked : Option Asked) (files : Option (List ℕ → Option (List ℕ))) (files_failed : Type 0) (racks : List (List ℕ)) (before left old now was written before_report report : Option (List ℕ)) (failed second_failed : Type 0) : Type 0 where
+pub record Hosted (status : ℕ) (asked : Option Asked) (files : Option (List ℕ
+    → Option (List ℕ))) (files_failed : Type 0) (racks : List (List ℕ))
+    (before left old now was written before_report report : Option (List ℕ)) (failed second_failed : Type 0) : Type 0 where
   pub usage : asked ≡ None → Refused status before left old now before_report report failed
   pub typed : asked ≡ Some typing → (text : List ℕ) × (before ≡ then_left text left) × Typed status text left old now before_report report failed
-  pub played : (size : Size) → asked ≡ Some (playing size) → (now ≡ old) × ((text : List ℕ) × (before ≡ then_left text left) × Played status size text left before_report report failed)
+  pub played : (size : Size) → asked ≡ Some (playing size) → (now ≡ old)
+      × ((text : List ℕ) × (before ≡ then_left text left) × Played status size text left before_report report failed)
   pub ran : (name : List ℕ) → asked ≡ Some (running name) → HasRun status files name files_failed racks before left old now before_report report failed
   pub soloed : (name : List ℕ) → asked ≡ Some (solo name) → Soloed status files name files_failed racks before left old now before_report report failed
   pub generated : (seed : ℕ) → asked ≡ Some (generating seed) → (left ≡ before) × Generated status seed old now before_report report failed
-  pub mirrored : (name : List ℕ) → asked ≡ Some (mirroring name) → HasMirrored status files name files_failed racks before left old now was written before_report report failed second_failed
+  pub mirrored : (name : List ℕ) → asked ≡ Some (mirroring name)
+      → HasMirrored status files name files_failed racks before left old now was written before_report report failed second_failed
   pub audited : (session link stream trace : List ℕ) → asked ≡ Some (auditing session link stream trace) → (left ≡ before) × (now ≡ old)
       × HasAudited status files session link stream trace files_failed before_report report failed
   -- by any other words nothing is written to the second terminal

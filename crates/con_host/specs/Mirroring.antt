@@ -35,7 +35,8 @@ IsMirrorStatus status end lost = (status ≡ status_of (mirror_ending end lost))
 
 -- The session ran by turns, with a second terminal: one history, with all that such a session leaves, A and D being frames that count as Ask; the second terminal's
 -- stream with its ends, and whether it was lost; and the report, which is whole unless the report failed or there was no memory for it.
-pub record RanMirrored (status : ℕ) (session : Clients) (racks : List (List ℕ)) (before left old now was written before_report report' : Option (List ℕ)) (failed second_failed : Type 0) : Type 0 where
+pub record RanMirrored (status : ℕ) (session : Clients) (racks : List (List ℕ))
+    (before left old now was written before_report report' : Option (List ℕ)) (failed second_failed : Type 0) : Type 0 where
   pub entries : List Entry
   pub replies : List Reply
   pub ends' : List ℕ
@@ -54,7 +55,9 @@ pub record RanMirrored (status : ℕ) (session : Clients) (racks : List (List �
   pub shown : ¬ (status ≡ 9) → (status ≡ 0) ⊎ ((status ≡ 6) ⊎ ¬ second_failed) → written ≡ then_written was outcome.leaves.more.built
 
 -- There is no session, and nothing was written to the second terminal; or the file is one, of which this came.
-abbrev pub HasMirrored : ℕ → Option (List ℕ → Option (List ℕ)) → List ℕ → Type 0 → List (List ℕ) → Option (List ℕ) → Option (List ℕ) → Option (List ℕ) → Option (List ℕ) → Option (List ℕ) → Option (List ℕ) → Option (List ℕ) → Option (List ℕ) → Type 0 → Type 0 → Type 0
+abbrev pub HasMirrored : ℕ → Option (List ℕ → Option (List ℕ)) → List ℕ → Type 0 → List (List ℕ) → Option (List ℕ) → Option (List ℕ)
+    → Option (List ℕ) → Option (List ℕ) → Option (List ℕ) → Option (List ℕ) → Option (List ℕ) → Option (List ℕ) → Type 0 → Type 0 → Type 0
 HasMirrored status files name files_failed racks before left old now was written before_report report' failed second_failed =
     (NotRun status files name files_failed before left old now before_report report' failed × (written ≡ was))
-    ⊎ ((bytes : List ℕ) × (session : Clients) × IsFile files name bytes × (document bytes ≡ Some (Ok session)) × RanMirrored status session racks before left old now was written before_report report' failed second_failed)
+    ⊎ ((bytes : List ℕ) × (session : Clients) × IsFile files name bytes × (document bytes ≡ Some (Ok session))
+    × RanMirrored status session racks before left old now was written before_report report' failed second_failed)

@@ -77,7 +77,8 @@ pub record ReadBack (h : List Entry) (rs : List Reply) (es : List ℕ) (end : En
 -- The session ran, in whatever order its actors came: one history, with all that such a session leaves, in which each
 -- record of the input goes to one read at most and each read answers what is of its records, and its report, which is whole unless the report
 -- failed or there was no memory for it, and then is cut. Its reader has this history of it.
-pub record Ran (status : ℕ) (session : Clients) (racks : List (List ℕ)) (before left old now before_report report' : Option (List ℕ)) (failed : Type 0) : Type 0 where
+pub record Ran (status : ℕ) (session : Clients) (racks : List (List ℕ)) (before left old now before_report report' : Option (List ℕ))
+    (failed : Type 0) : Type 0 where
   pub entries : List Entry
   pub replies : List Reply
   pub ends' : List ℕ
@@ -92,18 +93,23 @@ pub record Ran (status : ℕ) (session : Clients) (racks : List (List ℕ)) (bef
   pub read : ReadBack entries replies ends' end (ending_after end) before_report report'
 
 -- It ran by turns: the same, and its history is rounds of these turns.
-pub record RanByTurns (status : ℕ) (session : Clients) (racks : List (List ℕ)) (before left old now before_report report' : Option (List ℕ)) (failed : Type 0) : Type 0 where
+pub record RanByTurns (status : ℕ) (session : Clients) (racks : List (List ℕ)) (before left old now before_report report' : Option (List ℕ))
+    (failed : Type 0) : Type 0 where
   pub ran : Ran status session racks before left old now before_report report' failed
   pub rounds : Rounds (begun session racks) ran.entries session racks ran.end
 
 -- ---- all of it
 
 -- by threads
-abbrev pub HasRun : ℕ → Option (List ℕ → Option (List ℕ)) → List ℕ → Type 0 → List (List ℕ) → Option (List ℕ) → Option (List ℕ) → Option (List ℕ) → Option (List ℕ) → Option (List ℕ) → Option (List ℕ) → Type 0 → Type 0
+abbrev pub HasRun : ℕ → Option (List ℕ → Option (List ℕ)) → List ℕ → Type 0 → List (List ℕ) → Option (List ℕ) → Option (List ℕ)
+    → Option (List ℕ) → Option (List ℕ) → Option (List ℕ) → Option (List ℕ) → Type 0 → Type 0
 HasRun status files name files_failed racks before left old now before_report report' failed =
-    OfFile (λ session. Ran status session racks before left old now before_report report' failed) status files name files_failed before left old now before_report report' failed
+    OfFile (λ session. Ran status session racks before left old now before_report report' failed) status files name files_failed before left
+    old now before_report report' failed
 
 -- by turns
-abbrev pub Soloed : ℕ → Option (List ℕ → Option (List ℕ)) → List ℕ → Type 0 → List (List ℕ) → Option (List ℕ) → Option (List ℕ) → Option (List ℕ) → Option (List ℕ) → Option (List ℕ) → Option (List ℕ) → Type 0 → Type 0
+abbrev pub Soloed : ℕ → Option (List ℕ → Option (List ℕ)) → List ℕ → Type 0 → List (List ℕ) → Option (List ℕ) → Option (List ℕ)
+    → Option (List ℕ) → Option (List ℕ) → Option (List ℕ) → Option (List ℕ) → Type 0 → Type 0
 Soloed status files name files_failed racks before left old now before_report report' failed =
-    OfFile (λ session. RanByTurns status session racks before left old now before_report report' failed) status files name files_failed before left old now before_report report' failed
+    OfFile (λ session. RanByTurns status session racks before left old now before_report report' failed) status files name files_failed
+    before left old now before_report report' failed

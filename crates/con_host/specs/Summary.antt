@@ -26,7 +26,8 @@ records_left session h = length (run (begun session []) h).records
 
 -- the lines of the counts; a generated session has 2,000 calls
 abbrev pub counts_text : ℕ → ℕ → ℕ → List ℕ
-counts_text refused records painted = codes "calls 2000\nrefused " ++ (decimal refused ++ (codes "\nrecords " ++ (decimal records ++ (codes "\npaints " ++ (decimal painted ++ codes "\n")))))
+counts_text refused records painted = codes "calls 2000\nrefused "
+    ++ (decimal refused ++ (codes "\nrecords " ++ (decimal records ++ (codes "\npaints " ++ (decimal painted ++ codes "\n")))))
 
 -- the window of a generated session
 abbrev pub window : Size

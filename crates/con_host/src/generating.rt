@@ -41,7 +41,8 @@ fn finished(
 ) -> Result<Generation, OutOfMemory>
     requires legal { is_legal (begun session.now []) outcome.now.entries ≡ true }
     requires painted { length outcome.now.ends ≡ paints outcome.now.entries }
-    ensures { IfOk result (λ g. (g.stream.items ≡ stream.items) × (g.summary.items ≡ summary_text session.now outcome.now.entries outcome.now.replies stream.items)) }
+    ensures { IfOk result (λ g. (g.stream.items ≡ stream.items)
+        × (g.summary.items ≡ summary_text session.now outcome.now.entries outcome.now.replies stream.items)) }
 {
     let summary = summary(alloc, session, outcome, stream.as_slice())?;
     Ok(Generation { stream, summary })
@@ -71,7 +72,8 @@ fn run(alloc: Global, seed: u32) -> Result<Generation, OutOfMemory>
 /// Runs the generated session of a number by turns, without a link: its stream to the terminal, its summary to the report. The stream is
 /// kept until the session has ended.
 pub fn host_gen<O: Sink, R: Sink>(alloc: Global, seed: u32, term: &mut O, report: &mut R) -> u8
-    ensures outcome { Generated result seed (O.written term.old) (O.written term.new) (R.written report.old) (R.written report.new) (Rose (R.faults report.old) (R.faults report.new)) }
+    ensures outcome { Generated result seed (O.written term.old) (O.written term.new) (R.written report.old) (R.written report.new)
+        (Rose (R.faults report.old) (R.faults report.new)) }
     ensures term_failed { result ≡ TERMINAL → Rose (O.faults term.old) (O.faults term.new) }
     ensures report_failed { result ≡ REPORT → Rose (R.faults report.old) (R.faults report.new) }
     ensures never_fall { (O.faults term.old ≤ O.faults term.new) × (R.faults report.old ≤ R.faults report.new) }

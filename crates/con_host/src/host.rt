@@ -65,25 +65,41 @@ pub fn console_host<
     ensures term_failed { result ≡ TERMINAL → Rose (O.faults term.old) (O.faults term.new) }
     ensures report_failed { result ≡ REPORT → Rose (R.faults report.old) (R.faults report.new) }
     ensures second_failed { result ≡ MIRROR → Rose (N.faults second.old) (N.faults second.new) }
-    ensures type_complete { form_of (map string_bytes words.now) ≡ Some typing → ¬ (Rose (I.faults link.old) (I.faults link.new)) → ¬ (Rose (O.faults term.old) (O.faults term.new)) → ¬ (Rose (R.faults report.old) (R.faults report.new))
+    ensures type_complete { form_of (map string_bytes words.now) ≡ Some typing → ¬ (Rose (I.faults link.old) (I.faults link.new))
+        → ¬ (Rose (O.faults term.old) (O.faults term.new)) → ¬ (Rose (R.faults report.old) (R.faults report.new))
         → IfSome (I.left link.old) (λ bytes. length bytes ≤ 16777216 → (result ≡ 0) ⊎ (result ≡ 9)) }
-    ensures play_complete { (size : Size) → form_of (map string_bytes words.now) ≡ Some (playing size) → ¬ (Rose (I.faults link.old) (I.faults link.new)) → ¬ (Rose (O.faults term.old) (O.faults term.new)) → ¬ (Rose (R.faults report.old) (R.faults report.new))
+    ensures play_complete { (size : Size) → form_of (map string_bytes words.now) ≡ Some (playing size)
+        → ¬ (Rose (I.faults link.old) (I.faults link.new)) → ¬ (Rose (O.faults term.old) (O.faults term.new))
+        → ¬ (Rose (R.faults report.old) (R.faults report.new))
         → IfSome (I.left link.old) (λ bytes. length bytes ≤ 16777216 → (result ≡ 0) ⊎ (result ≡ 9)) }
-    ensures run_foretold { (name : List ℕ) (session : Clients) (bytes : List ℕ) (end : End) → form_of (map string_bytes words.now) ≡ Some (running name) → IsSession (F.files files.old) name session → I.left link.old ≡ Some bytes → Foretells bytes end
-        → ¬ (Rose (F.faults files.old) (F.faults files.new)) → ¬ (Rose (I.faults link.old) (I.faults link.new)) → ¬ (Rose (O.faults term.old) (O.faults term.new)) → ¬ (Rose (R.faults report.old) (R.faults report.new))
+    ensures run_foretold { (name : List ℕ) (session : Clients) (bytes : List ℕ) (end : End)
+        → form_of (map string_bytes words.now) ≡ Some (running name) → IsSession (F.files files.old) name session
+        → I.left link.old ≡ Some bytes → Foretells bytes end
+        → ¬ (Rose (F.faults files.old) (F.faults files.new)) → ¬ (Rose (I.faults link.old) (I.faults link.new))
+        → ¬ (Rose (O.faults term.old) (O.faults term.new)) → ¬ (Rose (R.faults report.old) (R.faults report.new))
         → (result ≡ status_of (ending_after end)) ⊎ (result ≡ 9) }
-    ensures solo_foretold { (name : List ℕ) (session : Clients) (bytes : List ℕ) (end : End) → form_of (map string_bytes words.now) ≡ Some (solo name) → IsSession (F.files files.old) name session → I.left link.old ≡ Some bytes → Foretells bytes end
-        → ¬ (Rose (F.faults files.old) (F.faults files.new)) → ¬ (Rose (I.faults link.old) (I.faults link.new)) → ¬ (Rose (O.faults term.old) (O.faults term.new)) → ¬ (Rose (R.faults report.old) (R.faults report.new))
+    ensures solo_foretold { (name : List ℕ) (session : Clients) (bytes : List ℕ) (end : End)
+        → form_of (map string_bytes words.now) ≡ Some (solo name) → IsSession (F.files files.old) name session
+        → I.left link.old ≡ Some bytes → Foretells bytes end
+        → ¬ (Rose (F.faults files.old) (F.faults files.new)) → ¬ (Rose (I.faults link.old) (I.faults link.new))
+        → ¬ (Rose (O.faults term.old) (O.faults term.new)) → ¬ (Rose (R.faults report.old) (R.faults report.new))
         → (result ≡ status_of (ending_after end)) ⊎ (result ≡ 9) }
-    ensures mirror_foretold { (name : List ℕ) (session : Clients) (bytes : List ℕ) (end : End) → form_of (map string_bytes words.now) ≡ Some (mirroring name) → IsSession (F.files files.old) name session → I.left link.old ≡ Some bytes → MirrorForetells bytes end
-        → ¬ (Rose (F.faults files.old) (F.faults files.new)) → ¬ (Rose (I.faults link.old) (I.faults link.new)) → ¬ (Rose (O.faults term.old) (O.faults term.new)) → ¬ (Rose (N.faults second.old) (N.faults second.new)) → ¬ (Rose (R.faults report.old) (R.faults report.new))
+    ensures mirror_foretold { (name : List ℕ) (session : Clients) (bytes : List ℕ) (end : End)
+        → form_of (map string_bytes words.now) ≡ Some (mirroring name) → IsSession (F.files files.old) name session
+        → I.left link.old ≡ Some bytes → MirrorForetells bytes end
+        → ¬ (Rose (F.faults files.old) (F.faults files.new)) → ¬ (Rose (I.faults link.old) (I.faults link.new))
+        → ¬ (Rose (O.faults term.old) (O.faults term.new)) → ¬ (Rose (N.faults second.old) (N.faults second.new))
+        → ¬ (Rose (R.faults report.old) (R.faults report.new))
         → (result ≡ status_of (ending_after end)) ⊎ (result ≡ 9) }
     ensures no_frame { ((name : List ℕ) → form_of (map string_bytes words.now) ≢ Some (mirroring name)) → result ≡ 8 → IfSome (I.left link.old) HasNoFrame }
-    ensures no_mirror_frame { (name : List ℕ) → form_of (map string_bytes words.now) ≡ Some (mirroring name) → result ≡ 8 → IfSome (I.left link.old) HasNoMirrorFrame }
+    ensures no_mirror_frame { (name : List ℕ) → form_of (map string_bytes words.now) ≡ Some (mirroring name) → result ≡ 8
+        → IfSome (I.left link.old) HasNoMirrorFrame }
     ensures too_long { result ≡ TOO_LONG → (taken : List ℕ) × (I.left link.old ≡ then_left taken (I.left link.new)) × (16777216 < length taken) }
     ensures audit_complete { (session link stream trace : List ℕ) → form_of (map string_bytes words.now) ≡ Some (auditing session link stream trace)
-        → IsComplete result (F.files files.old) (four_of session link stream trace) (Rose (F.faults files.old) (F.faults files.new)) (Rose (R.faults report.old) (R.faults report.new)) }
-    ensures gen_complete { (seed : ℕ) → form_of (map string_bytes words.now) ≡ Some (generating seed) → ¬ (Rose (O.faults term.old) (O.faults term.new)) → ¬ (Rose (R.faults report.old) (R.faults report.new)) → (result ≡ 0) ⊎ (result ≡ 9) }
+        → IsComplete result (F.files files.old) (four_of session link stream trace) (Rose (F.faults files.old) (F.faults files.new))
+        (Rose (R.faults report.old) (R.faults report.new)) }
+    ensures gen_complete { (seed : ℕ) → form_of (map string_bytes words.now) ≡ Some (generating seed)
+        → ¬ (Rose (O.faults term.old) (O.faults term.new)) → ¬ (Rose (R.faults report.old) (R.faults report.new)) → (result ≡ 0) ⊎ (result ≡ 9) }
 {
     match Form::of(alloc, words) {
         Err(OutOfMemory) => MEMORY,

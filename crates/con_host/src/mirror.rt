@@ -71,11 +71,14 @@ fn run<I: Source, O: Sink, N: Sink, R: Sink>(
     ensures term_failed { result ≡ 5 → Rose (O.faults term.old) (O.faults term.new) }
     ensures report_failed { result ≡ 6 → Rose (R.faults report.old) (R.faults report.new) }
     ensures second_failed { result ≡ 12 → Rose (N.faults second.old) (N.faults second.new) }
-    ensures foretold { (bytes : List ℕ) (end : Ended) → I.left link.old ≡ Some bytes → MirrorForetells bytes end → ¬ (Rose (I.faults link.old) (I.faults link.new)) → ¬ (Rose (O.faults term.old) (O.faults term.new)) → ¬ (Rose (N.faults second.old) (N.faults second.new)) → ¬ (Rose (R.faults report.old) (R.faults report.new))
+    ensures foretold { (bytes : List ℕ) (end : Ended) → I.left link.old ≡ Some bytes → MirrorForetells bytes end
+        → ¬ (Rose (I.faults link.old) (I.faults link.new)) → ¬ (Rose (O.faults term.old) (O.faults term.new))
+        → ¬ (Rose (N.faults second.old) (N.faults second.new)) → ¬ (Rose (R.faults report.old) (R.faults report.new))
         → (result ≡ status_of (ending_after end)) ⊎ (result ≡ 9) }
     ensures no_frame { result ≡ 8 → IfSome (I.left link.old) HasNoMirrorFrame }
     ensures too_long { result ≡ 10 → (taken : List ℕ) × (I.left link.old ≡ then_left taken (I.left link.new)) × (16777216 < length taken) }
-    ensures never_fall { (I.faults link.old ≤ I.faults link.new) × (O.faults term.old ≤ O.faults term.new) × (N.faults second.old ≤ N.faults second.new) × (R.faults report.old ≤ R.faults report.new) }
+    ensures never_fall { (I.faults link.old ≤ I.faults link.new) × (O.faults term.old ≤ O.faults term.new)
+        × (N.faults second.old ≤ N.faults second.new) × (R.faults report.old ≤ R.faults report.new) }
 {
     one_mirror_answer();
     one_mirror_frame();
@@ -115,12 +118,16 @@ pub fn host_mirror<F: Files, I: Source, O: Sink, N: Sink, R: Sink>(
     ensures term_failed { result ≡ 5 → Rose (O.faults term.old) (O.faults term.new) }
     ensures report_failed { result ≡ 6 → Rose (R.faults report.old) (R.faults report.new) }
     ensures second_failed { result ≡ 12 → Rose (N.faults second.old) (N.faults second.new) }
-    ensures foretold { (session : Clients) (bytes : List ℕ) (end : Ended) → IsSession (F.files files.old) name.now session → I.left link.old ≡ Some bytes → MirrorForetells bytes end
-        → ¬ (Rose (F.faults files.old) (F.faults files.new)) → ¬ (Rose (I.faults link.old) (I.faults link.new)) → ¬ (Rose (O.faults term.old) (O.faults term.new)) → ¬ (Rose (N.faults second.old) (N.faults second.new)) → ¬ (Rose (R.faults report.old) (R.faults report.new))
+    ensures foretold { (session : Clients) (bytes : List ℕ) (end : Ended) → IsSession (F.files files.old) name.now session
+        → I.left link.old ≡ Some bytes → MirrorForetells bytes end
+        → ¬ (Rose (F.faults files.old) (F.faults files.new)) → ¬ (Rose (I.faults link.old) (I.faults link.new))
+        → ¬ (Rose (O.faults term.old) (O.faults term.new)) → ¬ (Rose (N.faults second.old) (N.faults second.new))
+        → ¬ (Rose (R.faults report.old) (R.faults report.new))
         → (result ≡ status_of (ending_after end)) ⊎ (result ≡ 9) }
     ensures no_frame { result ≡ 8 → IfSome (I.left link.old) HasNoMirrorFrame }
     ensures too_long { result ≡ 10 → (taken : List ℕ) × (I.left link.old ≡ then_left taken (I.left link.new)) × (16777216 < length taken) }
-    ensures never_fall { (F.faults files.old ≤ F.faults files.new) × (I.faults link.old ≤ I.faults link.new) × (O.faults term.old ≤ O.faults term.new) × (N.faults second.old ≤ N.faults second.new) × (R.faults report.old ≤ R.faults report.new) }
+    ensures never_fall { (F.faults files.old ≤ F.faults files.new) × (I.faults link.old ≤ I.faults link.new)
+        × (O.faults term.old ≤ O.faults term.new) × (N.faults second.old ≤ N.faults second.new) × (R.faults report.old ≤ R.faults report.new) }
 {
     match session_of(alloc, name, files) {
         Ok(session) => run(alloc, &session, link, term, second, report, racks),

@@ -40,7 +40,9 @@ fn run<T: Threads + Wait + Sync, I: Source + Send, O: Sink + Send, R: Sink, G: G
     ensures link_failed { result ≡ 4 → Rose (I.faults link.old) (I.faults link.new) }
     ensures term_failed { result ≡ 5 → Rose (O.faults term.old) (O.faults term.new) }
     ensures report_failed { result ≡ 6 → Rose (R.faults report.old) (R.faults report.new) }
-    ensures foretold { (bytes : List ℕ) (end : Ended) → I.left link.old ≡ Some bytes → Foretells bytes end → ¬ (Rose (I.faults link.old) (I.faults link.new)) → ¬ (Rose (O.faults term.old) (O.faults term.new)) → ¬ (Rose (R.faults report.old) (R.faults report.new))
+    ensures foretold { (bytes : List ℕ) (end : Ended) → I.left link.old ≡ Some bytes → Foretells bytes end
+        → ¬ (Rose (I.faults link.old) (I.faults link.new)) → ¬ (Rose (O.faults term.old) (O.faults term.new))
+        → ¬ (Rose (R.faults report.old) (R.faults report.new))
         → (result ≡ status_of (ending_after end)) ⊎ (result ≡ 9) }
     ensures no_frame { result ≡ 8 → IfSome (I.left link.old) HasNoFrame }
     ensures too_long { result ≡ 10 → (taken : List ℕ) × (I.left link.old ≡ then_left taken (I.left link.new)) × (16777216 < length taken) }
@@ -87,12 +89,15 @@ pub fn host_run<
     ensures link_failed { result ≡ 4 → Rose (I.faults link.old) (I.faults link.new) }
     ensures term_failed { result ≡ 5 → Rose (O.faults term.old) (O.faults term.new) }
     ensures report_failed { result ≡ 6 → Rose (R.faults report.old) (R.faults report.new) }
-    ensures foretold { (session : Clients) (bytes : List ℕ) (end : Ended) → IsSession (F.files files.old) name.now session → I.left link.old ≡ Some bytes → Foretells bytes end
-        → ¬ (Rose (F.faults files.old) (F.faults files.new)) → ¬ (Rose (I.faults link.old) (I.faults link.new)) → ¬ (Rose (O.faults term.old) (O.faults term.new)) → ¬ (Rose (R.faults report.old) (R.faults report.new))
+    ensures foretold { (session : Clients) (bytes : List ℕ) (end : Ended) → IsSession (F.files files.old) name.now session
+        → I.left link.old ≡ Some bytes → Foretells bytes end
+        → ¬ (Rose (F.faults files.old) (F.faults files.new)) → ¬ (Rose (I.faults link.old) (I.faults link.new))
+        → ¬ (Rose (O.faults term.old) (O.faults term.new)) → ¬ (Rose (R.faults report.old) (R.faults report.new))
         → (result ≡ status_of (ending_after end)) ⊎ (result ≡ 9) }
     ensures no_frame { result ≡ 8 → IfSome (I.left link.old) HasNoFrame }
     ensures too_long { result ≡ 10 → (taken : List ℕ) × (I.left link.old ≡ then_left taken (I.left link.new)) × (16777216 < length taken) }
-    ensures never_fall { (F.faults files.old ≤ F.faults files.new) × (I.faults link.old ≤ I.faults link.new) × (O.faults term.old ≤ O.faults term.new) × (R.faults report.old ≤ R.faults report.new) }
+    ensures never_fall { (F.faults files.old ≤ F.faults files.new) × (I.faults link.old ≤ I.faults link.new)
+        × (O.faults term.old ≤ O.faults term.new) × (R.faults report.old ≤ R.faults report.new) }
 {
     match session_of(alloc, name, files) {
         Ok(session) => run(rt, alloc, &session, link, term, report, racks, gate),

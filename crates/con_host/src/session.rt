@@ -36,8 +36,10 @@ pub fn tell_with<R: Sink>(
     lost: u8,
     report: &mut R,
 ) -> u8
-    ensures reported { Reported result (ended_report outcome.now.entries outcome.now.replies outcome.now.ends (ending_of last.now)) (status_of (ending_of last.now)) lost (R.written report.old) (R.written report.new) (Rose (R.faults report.old) (R.faults report.new)) }
-    ensures told { WroteFront (told_report outcome.now.entries outcome.now.replies outcome.now.ends (ending_of last.now)) (R.written report.old) (R.written report.new) }
+    ensures reported { Reported result (ended_report outcome.now.entries outcome.now.replies outcome.now.ends (ending_of last.now))
+        (status_of (ending_of last.now)) lost (R.written report.old) (R.written report.new) (Rose (R.faults report.old) (R.faults report.new)) }
+    ensures told { WroteFront (told_report outcome.now.entries outcome.now.replies outcome.now.ends (ending_of last.now))
+        (R.written report.old) (R.written report.new) }
     ensures never_falls { R.faults report.old ≤ R.faults report.new }
 {
     let written = write_report(
@@ -58,10 +60,14 @@ pub fn tell_with<R: Sink>(
 /// Writes the report of a session that ran, and answers its status.
 pub fn tell<R: Sink>(alloc: Global, outcome: &Outcome, report: &mut R) -> u8
     ensures status { IsStatus result outcome.now.end }
-    ensures front { WroteFront (report_text outcome.now.entries outcome.now.replies outcome.now.ends outcome.now.end) (R.written report.old) (R.written report.new) }
-    ensures whole { ¬ (result ≡ 9) → ¬ (result ≡ 6) → ¬ (Rose (R.faults report.old) (R.faults report.new)) → R.written report.new ≡ then_written (R.written report.old) (whole_text outcome.now.entries outcome.now.replies outcome.now.ends outcome.now.end) }
-    ensures done { result ≡ 0 → R.written report.new ≡ then_written (R.written report.old) (whole_text outcome.now.entries outcome.now.replies outcome.now.ends outcome.now.end) }
-    ensures cut { IsCut result outcome.now.end (whole_text outcome.now.entries outcome.now.replies outcome.now.ends outcome.now.end) (R.written report.old) (R.written report.new) }
+    ensures front { WroteFront (report_text outcome.now.entries outcome.now.replies outcome.now.ends outcome.now.end) (R.written report.old)
+        (R.written report.new) }
+    ensures whole { ¬ (result ≡ 9) → ¬ (result ≡ 6) → ¬ (Rose (R.faults report.old) (R.faults report.new))
+        → R.written report.new ≡ then_written (R.written report.old) (whole_text outcome.now.entries outcome.now.replies outcome.now.ends outcome.now.end) }
+    ensures done { result ≡ 0 → R.written report.new
+        ≡ then_written (R.written report.old) (whole_text outcome.now.entries outcome.now.replies outcome.now.ends outcome.now.end) }
+    ensures cut { IsCut result outcome.now.end (whole_text outcome.now.entries outcome.now.replies outcome.now.ends outcome.now.end)
+        (R.written report.old) (R.written report.new) }
     ensures failed { result ≡ 6 → Rose (R.faults report.old) (R.faults report.new) }
     ensures never_falls { R.faults report.old ≤ R.faults report.new }
 {

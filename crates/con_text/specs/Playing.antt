@@ -28,7 +28,8 @@ dump_after size text = dump_bytes (play (record { page = blank_page size.w size.
 -- last line.
 abbrev pub PlayedPart : Size → List ℕ → Option (List ℕ) → Option (List ℕ) → Option (List ℕ) → Type 0
 PlayedPart size text left before now =
-    ((now ≡ before) × (length text ≤ 16781312)) ⊎ ((IsWhole text left × WrotePart (dump_after size text) before now) ⊎ (((length text ≤ 16777216) × WrotePart (end_line 4) before now) ⊎ (IsTooLong text × WrotePart (end_line 10) before now)))
+    ((now ≡ before) × (length text ≤ 16781312)) ⊎ ((IsWhole text left × WrotePart (dump_after size text) before now)
+    ⊎ (((length text ≤ 16777216) × WrotePart (end_line 4) before now) ⊎ (IsTooLong text × WrotePart (end_line 10) before now)))
 
 -- The text that was taken from the link, what is left of it, and what the report has, for each status that comes.
 pub record Played (status : ℕ) (size : Size) (text : List ℕ) (left before now : Option (List ℕ)) (failed : Type 0) : Type 0 where

@@ -26,7 +26,8 @@ unfolding heard
 heard-append t a b =
     let first = split_after utf8 t.held a in let second = split_after utf8 first.tail b in
     sym (rw (split_after-append utf8 t.held a b, flat_map-append units_of first.items second.items)
-    (ap (λ (s : Buffers). record { buffers = s; held = second.tail }) (sym (units_in_turn t.buffers (flat_map units_of first.items) (flat_map units_of second.items)))))
+    (ap (λ (s : Buffers). record { buffers = s; held = second.tail })
+    (sym (units_in_turn t.buffers (flat_map units_of first.items) (flat_map units_of second.items)))))
 
 pub typed_in_turn : (a b : List ℕ) (s t u : Typing) → t ≡ heard s a → u ≡ heard t b → u ≡ heard s (a ++ b)
 typed_in_turn a b s t u p q = q ∙ (ap (λ x. heard x b) p ∙ heard-append s a b)

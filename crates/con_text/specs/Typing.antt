@@ -78,7 +78,8 @@ abbrev pub TypedPart : List ℕ → Option (List ℕ) → Option (List ℕ) → 
 TypedPart text left before now before_report report =
     ((now ≡ before) × (report ≡ before_report) × (length text ≤ 16781312))
     ⊎ ((IsWhole text left × WroteFrame text before now × ((report ≡ before_report) ⊎ WrotePart (end_line 5) before_report report))
-    ⊎ ((now ≡ before) × (((length text ≤ 16777216) × WrotePart (end_line 4) before_report report) ⊎ (IsTooLong text × WrotePart (end_line 10) before_report report))))
+    ⊎ ((now ≡ before) × (((length text ≤ 16777216) × WrotePart (end_line 4) before_report report)
+    ⊎ (IsTooLong text × WrotePart (end_line 10) before_report report))))
 
 -- The text that was taken from the link, what is left of it, and what the terminal and the report have, for each status that comes.
 pub record Typed (status : ℕ) (text : List ℕ) (left before now before_report report : Option (List ℕ)) (failed : Type 0) : Type 0 where

@@ -16,7 +16,8 @@ pub fn frame(alloc: Global, view: &View) -> Result<Vec<u8>, OutOfMemory>
     requires window { IsWindow view.now.size.w view.now.size.h }
     requires whole { IsWhole view.now }
     ensures shows { IfOk result (λ bytes. (t : Terminal) → IsTerminal view.now.size.w view.now.size.h t → Shows (play t bytes.items) view.now) }
-    ensures few { IfOk result (λ bytes. (t : Terminal) → IsTerminal view.now.size.w view.now.size.h t → printed t bytes.items ≤ view.now.size.w * view.now.size.h) }
+    ensures few { IfOk result (λ bytes. (t : Terminal) → IsTerminal view.now.size.w view.now.size.h t
+        → printed t bytes.items ≤ view.now.size.w * view.now.size.h) }
 {
     let mut painter = Painter::new(alloc, view.size)?;
     let Ok(marks) = Vec::from_elem(alloc, true, view.size.h as usize) else {

@@ -140,7 +140,8 @@ pub fn host_type<I: Source, O: Sink, R: Sink>(
     report: &mut R,
 ) -> u8
     ensures outcome { (text : List ℕ) × (I.left link.old ≡ then_left text (I.left link.new))
-        × Typed result text (I.left link.new) (O.written term.old) (O.written term.new) (R.written report.old) (R.written report.new) (Rose (R.faults report.old) (R.faults report.new)) }
+        × Typed result text (I.left link.new) (O.written term.old) (O.written term.new) (R.written report.old) (R.written report.new)
+        (Rose (R.faults report.old) (R.faults report.new)) }
     ensures link_failed { result ≡ LINK → Rose (I.faults link.old) (I.faults link.new) }
     ensures term_failed { result ≡ TERMINAL → Rose (O.faults term.old) (O.faults term.new) }
     ensures never_fall { (I.faults link.old ≤ I.faults link.new) × (O.faults term.old ≤ O.faults term.new) × (R.faults report.old ≤ R.faults report.new) }

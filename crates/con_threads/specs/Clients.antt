@@ -21,7 +21,8 @@ use Rattle.con_threads.specs.declared.scribe.Scribe.{Scribe}
 
 -- Client p, as far as its thread has seen the history: it follows its script, and its thread keeps it as it is. Where the thread had
 -- no memory behind an entry (`broken`), it keeps nothing more. A client that is gone has dropped its handlers.
-pub record ClientGoes (b : Begun) (p : ℕ) (h : List Entry) (steps : List Step) (broken : Bool) (w : Worker) (places : List ℕ) (ms : List Memory) (slots : List ℕ) : Type 0 where
+pub record ClientGoes (b : Begun) (p : ℕ) (h : List Entry) (steps : List Step) (broken : Bool) (w : Worker) (places : List ℕ)
+    (ms : List Memory) (slots : List ℕ) : Type 0 where
   pub stands : ClientStands b h p
   pub worker : broken ≡ false → IsWorker (client_at b h p) steps w
   pub hands : broken ≡ false → w.gone ≡ false → HandsStandBy b p h places ms slots

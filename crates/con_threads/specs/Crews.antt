@@ -35,7 +35,8 @@ pub record Belongs (id : BookId) (start : Page) (k : ℕ) (v : ClientView) : Typ
 module _ {C : Type 0} (view : C → ClientView) where
   -- each is the client of its place, and has done nothing
   abbrev pub AreNew : BookId → Page → List Script → List C → Type 0
-  AreNew id start scripts cs = (k : ℕ) (c : C) → slice_get cs k ≡ Some c → (script : Script) × (slice_get scripts k ≡ Some script) × Begins id start script (k + 1) (view c)
+  AreNew id start scripts cs = (k : ℕ) (c : C) → slice_get cs k ≡ Some c → (script : Script) × (slice_get scripts k ≡ Some script)
+      × Begins id start script (k + 1) (view c)
 
   abbrev pub IsCrew : BookId → Page → List C → Type 0
   IsCrew id start cs = (k : ℕ) (c : C) → slice_get cs k ≡ Some c → Belongs id start k (view c)

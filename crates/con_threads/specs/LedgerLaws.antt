@@ -37,9 +37,11 @@ entries_of-append s (x ∷ xs) ys =
 -- a console and what it answered, after some entries and then more
 pub paged_paged : (p : Page) (h g : List Entry) → paged (paged p h) g ≡ paged p (h ++ g)
 paged_paged p h g =
-    let answered : (p.replies ++ map listed (replies_of p.state h)) ++ map listed (replies_of (run p.state h) g) ≡ p.replies ++ map listed (replies_of p.state (h ++ g)) =
+    let answered : (p.replies ++ map listed (replies_of p.state h)) ++ map listed (replies_of (run p.state h) g) ≡ p.replies
+    ++ map listed (replies_of p.state (h ++ g)) =
     append_assoc p.replies (map listed (replies_of p.state h)) (map listed (replies_of (run p.state h) g))
-    ∙ ap (λ (rs : List Reply). p.replies ++ rs) (sym (map-append listed (replies_of p.state h) (replies_of (run p.state h) g)) ∙ ap (λ (rs : List Reply). map listed rs) (sym (replies-append p.state h g))) in
+    ∙ ap (λ (rs : List Reply). p.replies ++ rs) (sym (map-append listed (replies_of p.state h) (replies_of (run p.state h) g))
+    ∙ ap (λ (rs : List Reply). map listed rs) (sym (replies-append p.state h g))) in
     λ i. record { state = sym (run-append p.state h g) i; replies = answered i }
 
 pub paged_none : (p : Page) → p ≡ paged p []
@@ -55,7 +57,8 @@ after_paged p (x ∷ xs) =
 pub after_state : (p : Page) (log : List (Logged Event)) → (after next_page p log).state ≡ run p.state (entries_of p.state log)
 after_state p log = ap (λ (q : Page). q.state) (after_paged p log)
 
-pub after_replies : (p : Page) (log : List (Logged Event)) → (after next_page p log).replies ≡ p.replies ++ map listed (replies_of p.state (entries_of p.state log))
+pub after_replies : (p : Page) (log : List (Logged Event))
+    → (after next_page p log).replies ≡ p.replies ++ map listed (replies_of p.state (entries_of p.state log))
 after_replies p log = ap (λ (q : Page). q.replies) (after_paged p log)
 
 -- ---- each entry was ready where it stands
@@ -75,7 +78,8 @@ pub history_legal : (s : State) (log : List (Logged Event)) → is_legal s (entr
 history_legal s [] = refl
 history_legal s (x ∷ xs) =
     let f : List Entry = front_of s (actor_of x.actor) x.event in
-    legal-append s f (entries_of (run s f) xs) ∙ both_true (is_legal s f) (is_legal (run s f) (entries_of (run s f) xs)) (front_legal s (actor_of x.actor) x.event) (history_legal (run s f) xs)
+    legal-append s f (entries_of (run s f) xs)
+    ∙ both_true (is_legal s f) (is_legal (run s f) (entries_of (run s f) xs)) (front_legal s (actor_of x.actor) x.event) (history_legal (run s f) xs)
 
 -- ---- a log in which each event was ready
 
@@ -93,25 +97,31 @@ front_whole s None e r = absurd (let k : false ≡ true = r in cc)
 front_whole s (Some a) e r = ap (λ (b : Bool). if b then entry a e ∷ [] else []) r
 
 -- so each event of it has one
-pub each_entered : (p : Page) (log : List (Logged Event)) → book.is_legal next_page page_ready p log ≡ true → entries_of p.state log ≡ map (λ x. entry_by x.actor x.event) log
+pub each_entered : (p : Page) (log : List (Logged Event)) → book.is_legal next_page page_ready p log ≡ true
+    → entries_of p.state log ≡ map (λ x. entry_by x.actor x.event) log
 each_entered p [] l = refl
 each_entered p (x ∷ xs) l =
     let f : List Entry = front_of p.state (actor_of x.actor) x.event in
     let q : Page = next_page p x.actor x.event in
-    let one : f ≡ entry_by x.actor x.event ∷ [] = front_whole p.state (actor_of x.actor) x.event (and_left (page_ready p x.actor x.event) (book.is_legal next_page page_ready q xs) l) in
+    let one : f ≡ entry_by x.actor x.event
+    ∷ [] = front_whole p.state (actor_of x.actor) x.event (and_left (page_ready p x.actor x.event) (book.is_legal next_page page_ready q xs) l) in
     ap (λ (es : List Entry). es ++ entries_of (run p.state f) xs) one
-    ∙ ap (λ (es : List Entry). entry_by x.actor x.event ∷ es) (each_entered q xs (and_right (page_ready p x.actor x.event) (book.is_legal next_page page_ready q xs) l))
+    ∙ ap (λ (es : List Entry). entry_by x.actor x.event
+    ∷ es) (each_entered q xs (and_right (page_ready p x.actor x.event) (book.is_legal next_page page_ready q xs) l))
 
 length_replies : (s : State) (h : List Entry) → length (replies_of s h) ≡ length h
 length_replies s [] = refl
 length_replies s (x ∷ xs) = let e = length_replies (step s x.actor x.event).after xs in omega (arith, e)
 
-pub log_entries : (start : Page) (log : List (Logged Event)) (page : Page) → IsLogOf start log page → map (λ x. entry_by x.actor x.event) log ≡ entries_of start.state log
+pub log_entries : (start : Page) (log : List (Logged Event)) (page : Page) → IsLogOf start log page
+    → map (λ x. entry_by x.actor x.event) log ≡ entries_of start.state log
 log_entries start log page is = sym (each_entered start log is.legal)
 
-pub log_replies : (start : Page) (log : List (Logged Event)) (page : Page) → IsLogOf start log page → page.replies ≡ map listed (replies_of start.state (entries_of start.state log))
+pub log_replies : (start : Page) (log : List (Logged Event)) (page : Page) → IsLogOf start log page
+    → page.replies ≡ map listed (replies_of start.state (entries_of start.state log))
 log_replies start log page is =
-    ap (λ (q : Page). q.replies) is.page' ∙ (after_replies start log ∙ ap (λ (rs : List Reply). rs ++ map listed (replies_of start.state (entries_of start.state log))) is.none_before)
+    ap (λ (q : Page). q.replies) is.page' ∙ (after_replies start log
+    ∙ ap (λ (rs : List Reply). rs ++ map listed (replies_of start.state (entries_of start.state log))) is.none_before)
 
 -- a reply for each event of it
 pub log_counted : (start : Page) (log : List (Logged Event)) (page : Page) → IsLogOf start log page → length log ≡ length page.replies
@@ -159,11 +169,13 @@ not_same_by n m a b false is i j ne = refl
 not_same : (n m : ℕ) (a b : Actor) → actor_of n ≡ Some a → actor_of m ≡ Some b → (m == n) ≡ false → is_same a b ≡ false
 not_same n m a b i j ne = not_same_by n m a b (is_same a b) refl i j ne
 
-front_others_by : (s : State) (a b : Actor) (e : Event) (r : Bool) → is_same a b ≡ false → list_all (λ x. not (is_same a x.actor)) (if r then entry b e ∷ [] else []) ≡ true
+front_others_by : (s : State) (a b : Actor) (e : Event) (r : Bool) → is_same a b ≡ false
+    → list_all (λ x. not (is_same a x.actor)) (if r then entry b e ∷ [] else []) ≡ true
 front_others_by s a b e true n = ap (λ (c : Bool). not c && true) n
 front_others_by s a b e false n = refl
 
-front_others : (s : State) (n m : ℕ) (a : Actor) (o : Option Actor) (e : Event) → actor_of n ≡ Some a → actor_of m ≡ o → (m == n) ≡ false → list_all (λ x. not (is_same a x.actor)) (front_of s o e) ≡ true
+front_others : (s : State) (n m : ℕ) (a : Actor) (o : Option Actor) (e : Event) → actor_of n ≡ Some a → actor_of m ≡ o → (m == n) ≡ false
+    → list_all (λ x. not (is_same a x.actor)) (front_of s o e) ≡ true
 front_others s n m a None e i j ne = refl
 front_others s n m a (Some b) e i j ne = front_others_by s a b e (is_ready s b e) (not_same n m a b i j ne)
 
@@ -176,7 +188,8 @@ own_tail true e es h = absurd (let k : e ∷ es ≡ [] = h in cc)
 own_tail false e es h = h
 
 -- events of other numbers are entries of other actors
-pub others_entered : (n : ℕ) (a : Actor) (s : State) (log : List (Logged Event)) → actor_of n ≡ Some a → own n log ≡ [] → list_all (λ x. not (is_same a x.actor)) (entries_of s log) ≡ true
+pub others_entered : (n : ℕ) (a : Actor) (s : State) (log : List (Logged Event)) → actor_of n ≡ Some a → own n log ≡ []
+    → list_all (λ x. not (is_same a x.actor)) (entries_of s log) ≡ true
 others_entered n a s [] i none = refl
 others_entered n a s (x ∷ xs) i none =
     let f : List Entry = front_of s (actor_of x.actor) x.event in

@@ -37,11 +37,14 @@ pub record IsPainterThread (t : PainterThread) : Type 0 where
 
 -- a turn: a Paint with its piece, or none, or there was no memory
 abbrev pub PainterTurn : Result (Option (List ℕ)) OutOfMemory → PainterThread → PainterThread → Type 0
-PainterTurn (Ok (Some p)) old new = (b : Begun) (size : Size) (ps : List (List ℕ)) → opened old.scribe ≡ b.state → Draws b (history old.scribe) size old.painter ps old.ends.items old.end
+PainterTurn (Ok (Some p)) old new = (b : Begun) (size : Size) (ps : List (List ℕ)) → opened old.scribe ≡ b.state
+    → Draws b (history old.scribe) size old.painter ps old.ends.items old.end
     → Draws b (history new.scribe) size new.painter (ps ++ p ∷ []) new.ends.items new.end
-PainterTurn (Ok None) old new = (b : Begun) (size : Size) (ps : List (List ℕ)) → opened old.scribe ≡ b.state → Draws b (history old.scribe) size old.painter ps old.ends.items old.end
+PainterTurn (Ok None) old new = (b : Begun) (size : Size) (ps : List (List ℕ)) → opened old.scribe ≡ b.state
+    → Draws b (history old.scribe) size old.painter ps old.ends.items old.end
     → Draws b (history new.scribe) size new.painter ps new.ends.items new.end
-PainterTurn (Err e) old new = (b : Begun) (size : Size) (ps : List (List ℕ)) → opened old.scribe ≡ b.state → Draws b (history old.scribe) size old.painter ps old.ends.items old.end
+PainterTurn (Err e) old new = (b : Begun) (size : Size) (ps : List (List ℕ)) → opened old.scribe ≡ b.state
+    → Draws b (history old.scribe) size old.painter ps old.ends.items old.end
     → DrawsLess b (history new.scribe) size ps new.ends.items
 
 -- it is the same painter, and goes on as it went, with the pieces that it put into the pipe
@@ -49,21 +52,27 @@ pub record HasDrawn (old new : PainterThread) (put put' : PipeIn) : Type 0 where
   pub same : IsSameScribe old.scribe new.scribe
   pub is_painter : IsPainterThread new
   pub pipe : IsSameIn put put'
-  pub drawn : (b : Begun) (size : Size) → opened old.scribe ≡ b.state → PainterGoes b (history old.scribe) size old.painter (pieces_put put) old.ends.items old.end old.broken
+  pub drawn : (b : Begun) (size : Size) → opened old.scribe ≡ b.state
+      → PainterGoes b (history old.scribe) size old.painter (pieces_put put) old.ends.items old.end old.broken
       → PainterGoes b (history new.scribe) size new.painter (pieces_put put') new.ends.items new.end new.broken
 
 -- a turn at the sink: a Paint with its piece, which is written whole or `failed`, or none, or there was no memory
 abbrev pub PaintsTo : Result (Option Bool) OutOfMemory → PainterThread → PainterThread → Option (List ℕ) → Option (List ℕ) → Type 0
-PaintsTo (Ok (Some failed)) old new was now = (b : Begun) (size : Size) (before : Option (List ℕ)) (ps : List (List ℕ)) → opened old.scribe ≡ b.state → CanvasIs b (history old.scribe) size old.painter ps old.ends.items old.end before was false
+PaintsTo (Ok (Some failed)) old new was now = (b : Begun) (size : Size) (before : Option (List ℕ)) (ps : List (List ℕ))
+    → opened old.scribe ≡ b.state → CanvasIs b (history old.scribe) size old.painter ps old.ends.items old.end before was false
     → (qs : List (List ℕ)) × CanvasIs b (history new.scribe) size new.painter qs new.ends.items new.end before now failed
-PaintsTo (Ok None) old new was now = (b : Begun) (size : Size) (before : Option (List ℕ)) (ps : List (List ℕ)) → opened old.scribe ≡ b.state → CanvasIs b (history old.scribe) size old.painter ps old.ends.items old.end before was false
+PaintsTo (Ok None) old new was now = (b : Begun) (size : Size) (before : Option (List ℕ)) (ps : List (List ℕ)) → opened old.scribe ≡ b.state
+    → CanvasIs b (history old.scribe) size old.painter ps old.ends.items old.end before was false
     → (qs : List (List ℕ)) × CanvasIs b (history new.scribe) size new.painter qs new.ends.items new.end before now false
-PaintsTo (Err e) old new was now = (b : Begun) (size : Size) (before : Option (List ℕ)) (ps : List (List ℕ)) → opened old.scribe ≡ b.state → CanvasIs b (history old.scribe) size old.painter ps old.ends.items old.end before was false
+PaintsTo (Err e) old new was now = (b : Begun) (size : Size) (before : Option (List ℕ)) (ps : List (List ℕ)) → opened old.scribe ≡ b.state
+    → CanvasIs b (history old.scribe) size old.painter ps old.ends.items old.end before was false
     → CanvasEnds b (history new.scribe) size new.ends.items before now
 
 -- the Paints that were due were entered and written, until the sink failed
 abbrev pub HasFinished : Result Bool OutOfMemory → PainterThread → PainterThread → Option (List ℕ) → Option (List ℕ) → Bool → Type 0
-HasFinished (Ok later) old new was now failed = (b : Begun) (size : Size) (before : Option (List ℕ)) (ps : List (List ℕ)) → opened old.scribe ≡ b.state → CanvasIs b (history old.scribe) size old.painter ps old.ends.items old.end before was failed
+HasFinished (Ok later) old new was now failed = (b : Begun) (size : Size) (before : Option (List ℕ)) (ps : List (List ℕ))
+    → opened old.scribe ≡ b.state → CanvasIs b (history old.scribe) size old.painter ps old.ends.items old.end before was failed
     → (qs : List (List ℕ)) × CanvasIs b (history new.scribe) size new.painter qs new.ends.items new.end before now later
-HasFinished (Err e) old new was now failed = (b : Begun) (size : Size) (before : Option (List ℕ)) (ps : List (List ℕ)) → opened old.scribe ≡ b.state → CanvasIs b (history old.scribe) size old.painter ps old.ends.items old.end before was failed
+HasFinished (Err e) old new was now failed = (b : Begun) (size : Size) (before : Option (List ℕ)) (ps : List (List ℕ))
+    → opened old.scribe ≡ b.state → CanvasIs b (history old.scribe) size old.painter ps old.ends.items old.end before was failed
     → CanvasEnds b (history new.scribe) size new.ends.items before now

@@ -32,7 +32,18 @@ same_self s = record { pass = (refl, (refl, refl, refl, refl, refl, refl)); acto
 
 pub same_then : (s t u : Scribe) → IsSameScribe s t → IsSameScribe t u → IsSameScribe s u
 same_then s t u x y = record {
-  pass = (y.pass.0 ∙ x.pass.0, (y.pass.1.0 ∙ x.pass.1.0, y.pass.1.1 ∙ x.pass.1.1, y.pass.1.2 ∙ x.pass.1.2, y.pass.1.3 ∙ x.pass.1.3, y.pass.1.4 ∙ x.pass.1.4, y.pass.1.5 ∙ x.pass.1.5));
+  pass = (
+    y.pass.0 ∙ x.pass.0,
+    (
+      y.pass.1.0 ∙ x.pass.1.0,
+      y.pass.1.1 ∙ x.pass.1.1,
+      y.pass.1.2 ∙ x.pass.1.2,
+      y.pass.1.3
+          ∙ x.pass.1.3,
+      y.pass.1.4 ∙ x.pass.1.4,
+      y.pass.1.5 ∙ x.pass.1.5,
+    ),
+  );
   actor = y.actor ∙ x.actor;
   more = begins_further (seen u.pass) (seen t.pass) (seen s.pass) y.more x.more;
 }
@@ -51,16 +62,21 @@ sees_run s a h g x = ap (λ (z : List Entry). run s z) x.entries' ∙ run-append
 
 -- a history that is legal stays so
 pub sees_legal : (s : State) (a : Actor) (h g : List Entry) → SeesMore s a h g → is_legal s h ≡ true → is_legal s g ≡ true
-sees_legal s a h g x l = ap (λ (z : List Entry). is_legal s z) x.entries' ∙ (legal-append s h x.between ∙ both_true (is_legal s h) (is_legal (run s h) x.between) l x.legal)
+sees_legal s a h g x l = ap (λ (z : List Entry). is_legal s z) x.entries'
+    ∙ (legal-append s h x.between ∙ both_true (is_legal s h) (is_legal (run s h) x.between) l x.legal)
 
 -- entries of others behind entries of others
-others_then : (a : Actor) (xs ys : List Entry) → list_all (λ z. not (is_same a z.actor)) xs ≡ true → list_all (λ z. not (is_same a z.actor)) ys ≡ true → list_all (λ z. not (is_same a z.actor)) (xs ++ ys) ≡ true
-others_then a xs ys e f = list_all-append (λ z. not (is_same a z.actor)) xs ys ∙ both_true (list_all (λ z. not (is_same a z.actor)) xs) (list_all (λ z. not (is_same a z.actor)) ys) e f
+others_then : (a : Actor) (xs ys : List Entry) → list_all (λ z. not (is_same a z.actor)) xs ≡ true
+    → list_all (λ z. not (is_same a z.actor)) ys ≡ true → list_all (λ z. not (is_same a z.actor)) (xs ++ ys) ≡ true
+others_then a xs ys e f = list_all-append (λ z. not (is_same a z.actor)) xs ys
+    ∙ both_true (list_all (λ z. not (is_same a z.actor)) xs) (list_all (λ z. not (is_same a z.actor)) ys) e f
 
-legal_then : (s : State) (a : Actor) (h g : List Entry) (x : SeesMore s a h g) (ys : List Entry) → is_legal (run s g) ys ≡ true → is_legal (run s h) (x.between ++ ys) ≡ true
+legal_then : (s : State) (a : Actor) (h g : List Entry) (x : SeesMore s a h g) (ys : List Entry) → is_legal (run s g) ys ≡ true
+    → is_legal (run s h) (x.between ++ ys) ≡ true
 legal_then s a h g x ys l =
     legal-append (run s h) x.between ys
-    ∙ both_true (is_legal (run s h) x.between) (is_legal (run (run s h) x.between) ys) x.legal (ap (λ (t : State). is_legal t ys) (sym (sees_run s a h g x)) ∙ l)
+    ∙ both_true (is_legal (run s h) x.between) (is_legal (run (run s h) x.between) ys) x.legal
+    (ap (λ (t : State). is_legal t ys) (sym (sees_run s a h g x)) ∙ l)
 
 -- the entries between, behind those that were there
 between_then : (s : State) (a : Actor) (h g : List Entry) (x : SeesMore s a h g) (ys : List Entry) → g ++ ys ≡ h ++ (x.between ++ ys)
@@ -95,7 +111,8 @@ sees_entered s a e t h g k x y =
 pub entered_sees : (s : State) (a : Actor) (e : Event) (t : Told) (h g : List Entry) (x : HasEntered s a e t h g) → SeesMore s a h (h ++ x.between)
 entered_sees s a e t h g x = record { between = x.between; others = x.others; legal = x.legal; entries' = refl }
 
-pub entered_run : (s : State) (a : Actor) (e : Event) (t : Told) (h g : List Entry) (x : HasEntered s a e t h g) → run s g ≡ (step (run s (h ++ x.between)) a e).after
+pub entered_run : (s : State) (a : Actor) (e : Event) (t : Told) (h g : List Entry) (x : HasEntered s a e t h g)
+    → run s g ≡ (step (run s (h ++ x.between)) a e).after
 entered_run s a e t h g x = ap (λ (z : List Entry). run s z) x.entries' ∙ run-append s (h ++ x.between) (entry a e ∷ [])
 
 pub entered_legal : (s : State) (a : Actor) (e : Event) (t : Told) (h g : List Entry) → HasEntered s a e t h g → is_legal s h ≡ true → is_legal s g ≡ true
@@ -130,7 +147,8 @@ same_painter (actors.Client q) = refl
 same_painter actors.Terminal = refl
 same_painter actors.Painter = refl
 
-pub no_client : (p : ℕ) (xs : List Entry) → list_all (λ x. not (is_same (actors.Client p) x.actor)) xs ≡ true → list_all (λ x. not (is_client p x.actor)) xs ≡ true
+pub no_client : (p : ℕ) (xs : List Entry) → list_all (λ x. not (is_same (actors.Client p) x.actor)) xs ≡ true
+    → list_all (λ x. not (is_client p x.actor)) xs ≡ true
 no_client p xs e = sym (same_tests (λ x. is_same (actors.Client p) x.actor) (λ x. is_client p x.actor) (λ x. same_client p x.actor) xs) ∙ e
 
 pub no_terminal : (xs : List Entry) → list_all (λ x. not (is_same actors.Terminal x.actor)) xs ≡ true → list_all (λ x. not (is_terminal x.actor)) xs ≡ true
@@ -141,4 +159,11 @@ no_painter xs e = sym (same_tests (λ x. is_same actors.Painter x.actor) (λ x. 
 
 -- to the painter the console ran on
 pub sees_ran : (s : State) (h g : List Entry) → SeesMore s actors.Painter h g → Ran (run s h) (run s g) h g
-sees_ran s h g x = record { entries = x.between; after' = x.entries'; state = sees_run s actors.Painter h g x; legal = x.legal; others = no_painter x.between x.others }
+sees_ran s h g x = record {
+  entries = x.between;
+  after' = x.entries';
+  state = sees_run s actors.Painter h g x;
+  legal = x.legal;
+  others =
+      no_painter x.between x.others;
+}

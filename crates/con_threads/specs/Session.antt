@@ -46,14 +46,17 @@ pub record AreMade (id : BookId) (start : Page) (side : SideThread) (painter : P
   pub pipe : IsPipe put writer.take
 
 -- They go as the session's beginning says: of the link this was left at the beginning, and is now, and this was written at the beginning, and is now.
-pub record EdgesGo (b : Begun) (before left old now : Option (List ℕ)) (side : SideThread) (painter : PainterThread) (put : PipeIn) (writer : WriterThread) : Type 0 where
+pub record EdgesGo (b : Begun) (before left old now : Option (List ℕ)) (side : SideThread) (painter : PainterThread) (put : PipeIn)
+    (writer : WriterThread) : Type 0 where
   pub side' : SideGoes b (history side.scribe) side.side side.hung side.broken before left side.reader
   pub painter' : PainterGoes b (history painter.scribe) b.session.size painter.painter (pieces_put put) painter.ends.items painter.end painter.broken
   pub writer' : Writes old now (pieces_taken writer.take) writer.failed writer.broken
 
 module _ {M R A Room : Type 0} {g : Ghosts M Page Event R A Room} where
   -- all threads of n clients have returned
-  pub record AreBack {C : Type 0} (view : C → ClientView) (id : BookId) (n : ℕ) (opening : Pass M Page Event R A Room g) (side : SideThread) (painter : PainterThread) (put : PipeIn) (writer : WriterThread) (cs : List C) : Type 0 where
+  pub record AreBack {C : Type 0} (view : C
+      → ClientView) (id : BookId) (n : ℕ) (opening : Pass M Page Event R A Room g) (side : SideThread) (painter : PainterThread)
+      (put : PipeIn) (writer : WriterThread) (cs : List C) : Type 0 where
     pub opening' : IsOpening id (view_of opening).start (1001 ∷ 1000 ∷ down_from n) opening
     pub none_before : (view_of opening).start.replies ≡ []
     pub edges : AreMade id (view_of opening).start side painter put writer
@@ -65,7 +68,8 @@ module _ {M R A Room : Type 0} {g : Ghosts M Page Event R A Room} where
 -- ---- the end
 
 -- a session whose threads did all that they do, before its end is told
-pub record IsDone (b : Begun) (h : List Entry) (rs : List Reply) (es : List ℕ) (side : Side) (hung failed : Bool) (before left old now : Option (List ℕ)) : Type 0 where
+pub record IsDone (b : Begun) (h : List Entry) (rs : List Reply) (es : List ℕ) (side : Side) (hung failed : Bool)
+    (before left old now : Option (List ℕ)) : Type 0 where
   pub legal : is_legal b.state h ≡ true
   pub replies : rs ≡ map listed (replies_of b.state h)
   pub numbered : are_of_session (clients_in b) h ≡ true

@@ -62,7 +62,8 @@ module _ {M R A Room : Type 0} {g : Ghosts M Page Event R A Room} where
     pub none_before : (view_of opening).start.replies ≡ []
 
   -- The painter's pass has taken in those of the terminal's side and of n clients, and nobody else has a pass but the opening one.
-  pub record IsGathered (id : BookId) (start : Page) (n : ℕ) (opening last : Pass M Page Event R A Room g) (side : View Page Event) (clients : List (View Page Event)) : Type 0 where
+  pub record IsGathered (id : BookId) (start : Page) (n : ℕ) (opening last : Pass M Page Event R A Room g) (side : View Page Event)
+      (clients : List (View Page Event)) : Type 0 where
     pub opening' : IsOpening id start (1001 ∷ 1000 ∷ down_from n) opening
     pub book : pass_id last ≡ id
     pub single : (view_of last).opens ≡ false
@@ -76,7 +77,8 @@ module _ {M R A Room : Type 0} {g : Ghosts M Page Event R A Room} where
     pub none_before : start.replies ≡ []
 
 -- The whole history and its replies, once the book is closed: the painter had seen all of it, and the others all of their own entries.
-pub record IsHistory (start : Page) (n : ℕ) (painter side : View Page Event) (clients : List (View Page Event)) (h : List Entry) (rs : List Reply) : Type 0 where
+pub record IsHistory (start : Page) (n : ℕ) (painter side : View Page Event) (clients : List (View Page Event)) (h : List Entry)
+    (rs : List Reply) : Type 0 where
   pub whole : h ≡ entries_of start.state painter.seen
   pub legal : is_legal start.state h ≡ true
   pub replies : rs ≡ map listed (replies_of start.state h)

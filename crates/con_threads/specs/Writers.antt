@@ -13,6 +13,7 @@ Writes before now taken failed broken = Written before now taken (failed || brok
 pub record HasWritten (old new : WriterThread) (was now : Option (List ℕ)) (faults faults' : ℕ) : Type 0 where
   pub pipe : IsSameOut old.take new.take
   pub ended : has_ended new.take ≡ true
-  pub wrote : (before : Option (List ℕ)) → Writes before was (pieces_taken old.take) old.failed old.broken → Writes before now (pieces_taken new.take) new.failed new.broken
+  pub wrote : (before : Option (List ℕ)) → Writes before was (pieces_taken old.take) old.failed old.broken
+      → Writes before now (pieces_taken new.take) new.failed new.broken
   pub fails : new.failed ≡ true → (old.failed ≡ true) ⊎ Rose faults faults'
   pub never_falls : faults ≤ faults'

@@ -28,7 +28,9 @@ pub fn closed(
     last: Pass<Ledger>,
 ) -> (Vec<Entry>, Vec<Reply>)
     requires { MayClose (book_id book) opening last }
-    ensures { (n : ℕ) (side : View Page Event) (clients : List (View Page Event)) → IsGathered (book_id book) (view_of opening).start n opening last side clients → IsHistory (view_of opening).start n (view_of last) side clients result.0.items result.1.items }
+    ensures { (n : ℕ) (side : View Page Event) (clients : List (View Page Event))
+        → IsGathered (book_id book) (view_of opening).start n opening last side clients
+        → IsHistory (view_of opening).start n (view_of last) side clients result.0.items result.1.items }
 {
     let mut opening = opening;
     take_in(&book, &mut opening, last);

@@ -101,7 +101,8 @@ pub fn make_edges(
     ensures made { IfOk result (λ e. AreMade (book_id book.now) (view_of opening.old).start e.side e.painter e.put e.writer) }
     ensures open { IfOk result (λ e. is_finished e.put ≡ false) }
     ensures fine { IfOk result (λ e. (e.side.side.end ≡ End.Done) × (e.writer.failed ≡ false)) }
-    ensures go { IfOk result (λ e. (session : Clients) (racks : List (List ℕ)) (before old : Option (List ℕ)) → (view_of opening.old).start.state ≡ begun session racks → EdgesGo (begins session racks None) before before old old e.side e.painter e.put e.writer) }
+    ensures go { IfOk result (λ e. (session : Clients) (racks : List (List ℕ)) (before old : Option (List ℕ))
+        → (view_of opening.old).start.state ≡ begun session racks → EdgesGo (begins session racks None) before before old old e.side e.painter e.put e.writer) }
 {
     let Ends { put, take } = pipe(alloc, FRAMES)?;
     let side = SideThread {

@@ -22,7 +22,8 @@ fn still_gone(all: bool, gone: bool, broken: bool) -> bool
 fn take_client(book: &Book<Ledger>, into: &mut Pass<Ledger>, client: ClientThread<'_>)
     requires books { (pass_id into.old ≡ book_id book.now) × (pass_id client.scribe.pass ≡ book_id book.now) }
     requires single { (view_of client.scribe.pass).opens ≡ false }
-    ensures taken { HasTaken (joined (view_of client.entry.scribe.pass) ∷ (view_of client.entry.scribe.pass).kept ++ (view_of into.old).kept) into.old into.new }
+    ensures taken { HasTaken (joined (view_of client.entry.scribe.pass) ∷ (view_of client.entry.scribe.pass).kept
+        ++ (view_of into.old).kept) into.old into.new }
     ensures covers { Covers (view_of client.entry.scribe.pass) → Covers (view_of into.old) → Covers (view_of into.new) }
 {
     let ClientThread {

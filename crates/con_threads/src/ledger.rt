@@ -78,7 +78,8 @@ impl Ledger {
     pub fn left(self, log: Vec<Logged<Event>>) -> (Vec<Entry>, Vec<Reply>)
         requires { (start : Page) × IsLogOf start log.items (page_of self) }
         ensures entries { (start : Page) → IsLogOf start log.items (page_of self) → result.0.items ≡ entries_of start.state log.items }
-        ensures replies { (start : Page) → IsLogOf start log.items (page_of self) → result.1.items ≡ map listed (replies_of start.state (entries_of start.state log.items)) }
+        ensures replies { (start : Page) → IsLogOf start log.items (page_of self)
+            → result.1.items ≡ map listed (replies_of start.state (entries_of start.state log.items)) }
     {
         let Ledger {
             console: _,

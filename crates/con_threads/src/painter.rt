@@ -53,7 +53,8 @@ impl PainterThread {
         ensures scribe { IsScribe self.new.scribe }
         ensures flag { self.new.broken ≡ self.old.broken }
         ensures tied { IfOk result (λ _. IsTied (run (opened self.new.scribe) (history self.new.scribe)) self.new.painter) }
-        ensures idle { IfOk result (λ piece. IfNone piece (is_ready (run (opened self.new.scribe) (history self.new.scribe)) actors.Painter events.Paint ≡ false)) }
+        ensures idle { IfOk result (λ piece. IfNone piece (is_ready
+            (run (opened self.new.scribe) (history self.new.scribe)) actors.Painter events.Paint ≡ false)) }
         ensures drew { PainterTurn result self.old self.new }
     {
         if self.ends.reserve(1).is_err() {
@@ -87,7 +88,8 @@ impl PainterThread {
         ensures is { IsPainterThread self.new }
         ensures whole { IfOk result (λ _. self.new.broken ≡ false) }
         ensures broken { OnErr result (self.new.broken ≡ true) }
-        ensures idle { IfOk result (λ piece. IfNone piece (is_ready (run (opened self.new.scribe) (history self.new.scribe)) actors.Painter events.Paint ≡ false)) }
+        ensures idle { IfOk result (λ piece. IfNone piece (is_ready
+            (run (opened self.new.scribe) (history self.new.scribe)) actors.Painter events.Paint ≡ false)) }
         ensures drew { PainterTurn result self.old self.new }
     {
         match self.turn(rt, alloc, book) {
@@ -168,7 +170,8 @@ impl PainterThread {
         ensures same { IsSameScribe self.old.scribe self.new.scribe }
         ensures is { IsPainterThread self.new }
         ensures whole { IfOk result (λ _. self.new.broken ≡ false) }
-        ensures idle { IfOk result (λ failed. IfNone failed (is_ready (run (opened self.new.scribe) (history self.new.scribe)) actors.Painter events.Paint ≡ false)) }
+        ensures idle { IfOk result (λ failed. IfNone failed
+            (is_ready (run (opened self.new.scribe) (history self.new.scribe)) actors.Painter events.Paint ≡ false)) }
         ensures failed { result ≡ Ok (Some true) → Rose (O.faults term.old) (O.faults term.new) }
         ensures never_falls { O.faults term.old ≤ O.faults term.new }
         ensures drew { PaintsTo result self.old self.new (O.written term.old) (O.written term.new) }
@@ -198,7 +201,8 @@ impl PainterThread {
         requires whole { self.old.broken ≡ false }
         ensures same { IsSameScribe self.old.scribe self.new.scribe }
         ensures is { IsPainterThread self.new }
-        ensures idle { IfOk result (λ later. later ≡ false → is_ready (run (opened self.new.scribe) (history self.new.scribe)) actors.Painter events.Paint ≡ false) }
+        ensures idle { IfOk result (λ later. later ≡ false
+            → is_ready (run (opened self.new.scribe) (history self.new.scribe)) actors.Painter events.Paint ≡ false) }
         ensures stays { IfOk result (λ later. failed ≡ true → later ≡ true) }
         ensures failed { IfOk result (λ later. later ≡ true → (failed ≡ true) ⊎ Rose (O.faults term.old) (O.faults term.new)) }
         ensures never_falls { O.faults term.old ≤ O.faults term.new }

@@ -72,8 +72,11 @@ impl Scribe {
         requires scribe { IsScribe self.old }
         ensures same { IsSameScribe self.old self.new }
         ensures scribe { IsScribe self.new }
-        ensures entered { IfOk result (λ answer. IfSome answer (λ told. HasEntered (opened self.old) self.old.actor event told (history self.old) (history self.new))) }
-        ensures blocked { IfOk result (λ answer. IfNone answer (SeesMore (opened self.old) self.old.actor (history self.old) (history self.new) × (is_ready (run (opened self.new) (history self.new)) self.new.actor event ≡ false))) }
+        ensures entered { IfOk result (λ answer. IfSome answer
+            (λ told. HasEntered (opened self.old) self.old.actor event told (history self.old) (history self.new))) }
+        ensures blocked { IfOk result (λ answer. IfNone answer
+            (SeesMore (opened self.old) self.old.actor (history self.old) (history self.new)
+            × (is_ready (run (opened self.new) (history self.new)) self.new.actor event ≡ false))) }
         ensures refused { IfErr result (λ _. SeesMore (opened self.old) self.old.actor (history self.old) (history self.new)) }
     {
         book.turn_if_ready(rt, &mut self.pass, event)

@@ -66,7 +66,9 @@ fn pass_on<R: Wait>(
     ensures same { IsSameScribe scribe.old scribe.new }
     ensures scribe { IsScribe scribe.new }
     ensures sent { IfOk result (λ entered. entered ≡ true → HasSent (opened scribe.old) event (history scribe.old) (history scribe.new)) }
-    ensures blocked { IfOk result (λ entered. entered ≡ false → SeesMore (opened scribe.old) actors.Terminal (history scribe.old) (history scribe.new) × (is_ready (run (opened scribe.new) (history scribe.new)) actors.Terminal event ≡ false)) }
+    ensures blocked { IfOk result (λ entered. entered ≡ false
+        → SeesMore (opened scribe.old) actors.Terminal (history scribe.old) (history scribe.new)
+        × (is_ready (run (opened scribe.new) (history scribe.new)) actors.Terminal event ≡ false)) }
     ensures refused { IfErr result (λ _. SeesMore (opened scribe.old) actors.Terminal (history scribe.old) (history scribe.new)) }
 {
     let answer = scribe.enter_if_ready(rt, book, event)?;

@@ -29,7 +29,9 @@ impl WriterThread {
     /// of memory halts all.
     pub fn write<O: Sink>(&mut self, term: &mut O, piece: &Bytes, signals: &Signals)
         ensures take { self.new.take ≡ self.old.take }
-        ensures wrote { (before : Option (List ℕ)) (ps : List (List ℕ)) → Writes before (O.written term.old) ps self.old.failed self.old.broken → Writes before (O.written term.new) (ps ++ piece.now ∷ []) self.new.failed self.new.broken }
+        ensures wrote { (before : Option (List ℕ)) (ps : List (List ℕ))
+            → Writes before (O.written term.old) ps self.old.failed self.old.broken
+            → Writes before (O.written term.new) (ps ++ piece.now ∷ []) self.new.failed self.new.broken }
         ensures failed { self.new.failed ≡ true → (self.old.failed ≡ true) ⊎ Rose (O.faults term.old) (O.faults term.new) }
         ensures never_falls { O.faults term.old ≤ O.faults term.new }
     {
