@@ -1,5 +1,5 @@
 -- Rows of cells that are the same.
-use Rattle.std.proofs.Common.{◌≡◌, ℕ, ◌+◌, ◌<◌, ◌≤◌, Bool, true, false, ◌==◌, ◌&&◌, List, [], ◌∷◌, ◌++◌, length, take, get_or, refl, sym, ap, ◌∙◌, arith, zero, suc}
+use Rattle.std.proofs.Common.{◌≡◌, ◌↔◌, ℕ, ◌+◌, ◌<◌, ◌≤◌, Bool, true, false, ◌==◌, ◌&&◌, List, [], ◌∷◌, ◌++◌, length, take, get_or, refl, sym, ap, ◌∙◌, arith, zero, suc}
 use Rattle.std.proofs.lemmas.List.{length-take-le, take_all, take_more}
 use Rattle.std.proofs.lemmas.Bool.Decides.{nat_tests}
 use Rattle.con_units.specs.Attr.{Attribute}
@@ -59,6 +59,14 @@ self_same (x ∷ xs) = rw (same_number x.unit, attr_itself x.attr) (self_same xs
 
 self_one : (x : Glyph) → same_cell x x ≡ true
 self_one x = rw (same_number x.unit, attr_itself x.attr) refl
+
+pub same_as : (x y : Glyph) (t : Bool) → (t ≡ true) ↔ (x ≡ y) → t ≡ same_cell x y
+same_as x y t e = by_test t (same_cell x y) (λ h. ap (same_cell x) (sym (e.0 h)) ∙ self_one x) (λ h. e.1 (one_same x y h))
+  where
+    by_test : (p q : Bool) → (p ≡ true → q ≡ true) → (q ≡ true → p ≡ true) → p ≡ q
+    by_test true q f g = sym (f refl)
+    by_test false true f g = g refl
+    by_test false false f g = refl
 
 pub same_by : (xs ys : List Glyph) → xs ≡ ys → same_cells xs ys ≡ true
 same_by xs ys e = rw e (self_same ys)

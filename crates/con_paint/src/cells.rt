@@ -1,5 +1,5 @@
 //! Cells, one after another in a row.
-ghost use Rattle.std.specs.Prelude.{◌≡◌, ◌+◌, ◌<◌, ◌≤◌, length};
+ghost use Rattle.std.specs.Prelude.{◌≡◌, ◌↔◌, ◌+◌, ◌<◌, ◌≤◌, true, length};
 ghost use Rattle.std.specs.Vec.{vec_len, vec_capacity};
 ghost use Rattle.con_units.specs.Attr.{IsAttribute};
 ghost use Rattle.con_units.specs.Stored.{stored_unit};
@@ -39,11 +39,18 @@ pub(crate) fn is_same_attr(a: Attr, b: Attr) -> bool
     a.bits() == b.bits() && is_same_shade(a.fore(), b.fore()) && is_same_shade(a.back(), b.back())
 }
 
-/// Whether two cells are the same.
-pub(crate) fn is_same(a: Cell, b: Cell) -> bool
-    ensures { result ≡ same_cell a b }
+// Whether two cells are equal.
+fn is_equal(a: &Cell, b: &Cell) -> bool
+    ensures { (result ≡ true) ↔ (a.now ≡ b.now) }
 {
-    a.unit() == b.unit() && is_same_attr(a.attr(), b.attr())
+    *a == *b
+}
+
+/// Whether two cells are the same.
+pub(crate) fn is_same(a: &Cell, b: &Cell) -> bool
+    ensures { result ≡ same_cell a.now b.now }
+{
+    is_equal(a, b)
 }
 
 /// Whether two rows have the same cells.
@@ -52,7 +59,7 @@ pub(crate) fn same(a: &[Cell], b: &[Cell]) -> bool
     ensures { result ≡ same_cells a.now b.now }
 {
     for (i, one) in a.iter().enumerate() {
-        if !is_same(*one, b[i]) {
+        if !is_same(one, &b[i]) {
             return false;
         }
     }

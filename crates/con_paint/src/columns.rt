@@ -49,8 +49,8 @@ fn is_kept(
     if !known {
         return false;
     }
-    let now = row[x];
-    let old = was[x];
+    let now = &row[x];
+    let old = &was[x];
     is_same(now, old) && is_far(row, was, x, upto, spot, y)
 }
 

@@ -95,7 +95,7 @@ fn is_blank(row: &[Cell]) -> bool
 {
     let blank = blank();
     for i in 0..row.len() {
-        if !is_same(row[i], blank) {
+        if !is_same(&row[i], &blank) {
             return false;
         }
     }

@@ -47,7 +47,7 @@ fn first_difference(row: &[Cell], was: &[Cell]) -> usize
 {
     let last = row.len() - 1;
     for i in 0..last {
-        if !is_same(row[i], was[i]) {
+        if !is_same(&row[i], &was[i]) {
             return i;
         }
     }
@@ -64,7 +64,7 @@ fn end_of_differences(row: &[Cell], was: &[Cell], from: usize) -> usize
     let count = row.len() - from;
     for k in 0..count {
         let i = row.len() - 1 - k;
-        if !is_same(row[i], was[i]) {
+        if !is_same(&row[i], &was[i]) {
             return i + 1;
         }
     }
@@ -81,7 +81,7 @@ fn end_of_text(row: &[Cell], from: usize) -> usize
     let count = row.len() - from;
     for k in 0..count {
         let i = row.len() - 1 - k;
-        if !is_same(row[i], blank) {
+        if !is_same(&row[i], &blank) {
             return i + 1;
         }
     }
