@@ -119,6 +119,15 @@ goes_to_next_row old new s e h =
     let below : nat_lt (s.y + 1) s.h ≡ true = grind (arith, nat_tests) in
     record { bytes = _; items = Control 13 ∷ Control 10 ∷ []; appended = e; spelled = next_row_spells; page = rw below refl; count = refl }
 
+-- the same in the last row
+pub makes_new_row : (old new : List ℕ) (s : Page) → new ≡ old ++ (0x0D ∷ 0x0A ∷ []) → s.y + 1 ≡ s.h → s.pending ≡ false → Leads old new s (record (lifted s 1) { x = 0 }) 0
+unfolding effect cost lowered
+makes_new_row old new s e last clear =
+    let none : nat_lt (s.y + 1) s.h ≡ false = grind (arith, nat_tests) in
+    let one : min 1 s.h ≡ 1 = omega (arith, last) in
+    let width : 1 * s.w ≡ s.w = omega arith in
+    record { bytes = _; items = Control 13 ∷ Control 10 ∷ []; appended = e; spelled = next_row_spells; page = rw (none, one, width, clear) refl; count = refl }
+
 pub goes_back : (old new : List ℕ) (s : Page) → new ≡ old ++ (0x08 ∷ []) → Leads old new s (record s { x = s.x - 1; pending = false }) 0
 unfolding effect cost
 goes_back old new s e = leads_one old new _ (Control 8) s _ 0 e backspace_spells refl refl

@@ -14,7 +14,9 @@ use Rattle.con_term.specs.Effect.{lifted}
 use Rattle.con_paint.specs.Leads.{Leads}
 use Rattle.con_paint.specs.Ink.{pen_for}
 use Rattle.con_paint.specs.Compared.{same_cells, differing, IsLifted}
-use Rattle.con_paint.specs.Lift.{IsLeastBelow, Lifts, lifted_cells}
+use Rattle.con_paint.specs.Lift.{IsLeastBelow, Lifted, Lifts, Rises, lifted_cells}
+use Rattle.con_paint.specs.Spot.{IsAt}
+use Rattle.con_paint.specs.declared.spot.Spot.{Spot}
 use Rattle.con_paint.proofs.LeadLemmas.{leads_then, leads-none}
 use Rattle.con_paint.proofs.SameLemmas.{are_same, same_by}
 use Rattle.con_paint.specs.Frame.{rows_to_paint}
@@ -76,19 +78,31 @@ differing_lifted w h k v was is most long =
 
 -- ---- the bytes
 
-pub scrolls : (a b c : List ℕ) (s : Page) (by w h : ℕ) → s.w ≡ w → s.h ≡ h → by ≤ h → Leads a b s (record s { pen = pen_for (plain 7) }) 0 → Leads b c (record s { pen = pen_for (plain 7) }) (lifted (record s { pen = pen_for (plain 7) }) by) 0
-    → Leads a c s (record s { cells = lifted_cells s.cells (by * w); pen = pen_for (plain 7) }) 0
-scrolls a b c s by w h ew eh most first second =
+-- a new row behind the last one
+pub adds_row : (a b : List ℕ) (s : Page) (at : Spot) (by h : ℕ) → s.h ≡ h → IsAt at s → at.known ≡ true → at.y ≡ h - 1 → by ≡ 1 → by ≤ h → (s.y + 1 ≡ s.h → s.pending ≡ false → Leads a b s (record (lifted s 1) { x = 0 }) 0) → Rises by (record { known = true; x = 0; y = at.y }) a b s
+adds_row a b s at by h eh is known ey one most feed =
+    let k = is.at known in
+    let last : s.y + 1 ≡ s.h = omega (arith, k.1, ey, eh, one, most) in
+    record { x = 0; leads = rw one (feed last k.2); inside = λ lt. omega (arith, lt); place = record { at = λ _. (refl, k.1, k.2) } }
+
+pub scrolls : (a b c : List ℕ) (s : Page) (by w h : ℕ) (after : Spot) → s.w ≡ w → s.h ≡ h → s.x < s.w → by ≤ h → Leads a b s (record s { pen = pen_for (plain 7) }) 0 → Rises by after b c (record s { pen = pen_for (plain 7) })
+    → Lifted w (lifted_cells s.cells (by * w)) after (plain 7) a c s
+scrolls a b c s by w h after ew eh less most first r =
     let e : min by s.h * s.w ≡ by * w = rw (ew, eh) (let m : min by h ≡ by = omega arith in rw m refl) in
-    leads_then a b c s (record s { pen = pen_for (plain 7) }) (record s { cells = lifted_cells s.cells (by * w); pen = pen_for (plain 7) }) 0 0 0 first (rw e at second) (omega arith)
+    record {
+      x = r.x;
+      leads = leads_then a b c s (record s { pen = pen_for (plain 7) }) (record s { cells = lifted_cells s.cells (by * w); x = r.x; pen = pen_for (plain 7) }) 0 0 0 first (rw e at r.leads) (omega arith);
+      inside = omega (arith, r.inside less, ew);
+      place = record { at = r.place.at };
+    }
 
 length-lifted : (was : List Glyph) (count n : ℕ) → length was ≡ n → count ≤ n → length (lifted_cells was count) ≡ n
 length-lifted was count n e h = omega (arith, length-append (drop count was) (replicate count blank_cell), length-drop count was, length-replicate count blank_cell)
 
-pub stays : (w h rows : ℕ) (v was : List Glyph) (before : Attribute) (old : List ℕ) → length was ≡ h * w → rows ≤ h → (v ≡ was → rows ≡ 0) → ((k : ℕ) → 0 < k → k ≤ h → IsLifted w h k v was → differing w h v was ≤ k)
-    → Lifts w h true v was was before before false rows old old
-stays w h rows v was before old long most none few = record {
-  leads = λ s st p e. (s.cells, rw (← p refl) (leads-none old s), st.page.cells ∙ rw (st.wide, st.high) refl, e);
+pub stays : (w h rows : ℕ) (v was : List Glyph) (at : Spot) (before : Attribute) (old : List ℕ) → length was ≡ h * w → rows ≤ h → (v ≡ was → rows ≡ 0) → ((k : ℕ) → 0 < k → k ≤ h → IsLifted w h k v was → differing w h v was ≤ k)
+    → Lifts w h true v was was at at before before false rows old old
+stays w h rows v was at before old long most none few = record {
+  leads = λ s st is p e. (s.cells, record { x = s.x; leads = rw (← p refl) (leads-none old s); inside = omega (arith, st.page.column, st.wide); place = record { at = is.at } }, st.page.cells ∙ rw (st.wide, st.high) refl, e);
   pen = λ p. p refl;
   same = λ f. refl;
   size = long;
@@ -96,13 +110,13 @@ stays w h rows v was before old long most none few = record {
   front = λ k f. absurd (cc);
   few = λ k. omega arith;
   lifted = λ k. few;
-  quiet = λ k e. (refl, refl, refl, none e);
+  quiet = λ k e. (refl, refl, refl, none e, refl);
 }
 
 -- known ground, where nothing was known
-pub begun : (w h : ℕ) (v was : List Glyph) (before : Attribute) (old new : List ℕ) → length was ≡ h * w → ((s : Page) → Leads old new s (record s { pen = starting_pen }) 0) → Lifts w h false v was was before (plain 7) false h old new
-begun w h v was before old new long go = record {
-  leads = λ s st p e. (s.cells, go s, st.page.cells ∙ rw (st.wide, st.high) refl, e);
+pub begun : (w h : ℕ) (v was : List Glyph) (at : Spot) (before : Attribute) (old new : List ℕ) → length was ≡ h * w → ((s : Page) → Leads old new s (record s { pen = starting_pen }) 0) → Lifts w h false v was was at at before (plain 7) false h old new
+begun w h v was at before old new long go = record {
+  leads = λ s st is p e. (s.cells, record { x = s.x; leads = go s; inside = omega (arith, st.page.column, st.wide); place = record { at = is.at } }, st.page.cells ∙ rw (st.wide, st.high) refl, e);
   pen = λ p. small_pen;
   same = λ f. refl;
   size = long;
@@ -123,15 +137,15 @@ few_by w h least rows v was is e le k some most lift = by_order (nat_lt k least)
     by_order true t = absurd (is.least k some (grind (arith, nat_tests)) lift)
     by_order false t = let ge : least ≤ k = grind (arith, nat_tests) in omega (arith, e, le, ge)
 
-pub moves : (w h least rows : ℕ) (v was now : List Glyph) (before : Attribute) (old new : List ℕ) → length was ≡ h * w → rows ≤ h → IsLeastBelow w h rows v was least → rows ≡ differing w h v was → least < rows → now ≡ lifted_cells was (least * w)
-    → ((s : Page) → s.w ≡ w → s.h ≡ h → s.pen ≡ pen_for before → Leads old new s (record s { cells = lifted_cells s.cells (least * w); pen = pen_for (plain 7) }) 0)
-    → Lifts w h true v was now before (plain 7) true least old new
-moves w h least rows v was now before old new long most is e lt now_is go =
+pub moves : (w h least rows : ℕ) (v was now : List Glyph) (at after : Spot) (before : Attribute) (old new : List ℕ) → length was ≡ h * w → rows ≤ h → IsLeastBelow w h rows v was least → rows ≡ differing w h v was → least < rows → now ≡ lifted_cells was (least * w)
+    → ((s : Page) → s.w ≡ w → s.h ≡ h → s.x < s.w → s.pen ≡ pen_for before → IsAt at s → Lifted w (lifted_cells s.cells (least * w)) after (plain 7) old new s)
+    → Lifts w h true v was now at after before (plain 7) true least old new
+moves w h least rows v was now at after before old new long most is e lt now_is go =
     let within : least ≤ h = omega arith in
     let below : least * w ≤ h * w = mul-le least w h w within (omega arith) in
     let few : differing w h v now ≤ least = rw now_is (differing_lifted w h least v was (is.is lt) within long) in
     record {
-      leads = λ s st p k. (lifted_cells s.cells (least * w), go s st.wide st.high (p refl), length-lifted s.cells (least * w) (h * w) (st.page.cells ∙ rw (st.wide, st.high) refl) below, λ t. rw (k t) (sym now_is));
+      leads = λ s st cursor p k. (lifted_cells s.cells (least * w), go s st.wide st.high st.page.column (p refl) cursor, length-lifted s.cells (least * w) (h * w) (st.page.cells ∙ rw (st.wide, st.high) refl) below, λ t. rw (k t) (sym now_is));
       pen = λ p. small_pen;
       same = λ f. cc;
       size = ap length now_is ∙ length-lifted was (least * w) (h * w) long below;

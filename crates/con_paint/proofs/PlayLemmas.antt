@@ -55,27 +55,28 @@ pub caret_inside : (w h : ℕ) (view : View) (caret : Caret) → view.size.w ≡
 caret_inside w h view caret ew eh is_caret e = let i = is_caret.inside (sym is_caret.visible ∙ e) in rw (← ew, ← eh) i
 
 -- a frame's begin, and then the rest of it, from a terminal that the painter allows
-pub framed : (w h : ℕ) (ink ink2 : Attribute) (v shadow shadow' : List Glyph) (known every was : Bool) (left : ℕ) (a b d : List ℕ) (spot at : Spot) (after : State) (caret : Caret) → (caret.visible ≡ true → (caret.x < w) × (caret.y < h))
+pub framed : (w h : ℕ) (ink ink2 : Attribute) (v shadow shadow' : List Glyph) (known every was : Bool) (left : ℕ) (a b d : List ℕ) (spot at mid : Spot) (after : State) (caret : Caret) → (caret.visible ≡ true → (caret.x < w) × (caret.y < h))
     → (at.known ≡ true → (known ≡ true) × (spot.known ≡ true) × (at.x ≡ spot.x) × (at.y ≡ spot.y))
-    → Lifts w h known v shadow shadow' ink ink2 every left a b
-    → ((s : Page) → Stands w h ink2 s → IsAt at s → (known ≡ true → (s.cells ≡ shadow') × (s.visible ≡ was)) → (caret.visible ≡ true → (caret.x < w) × (caret.y < h)) → Drawn w h v (w * rows_to_paint known w h v shadow') caret after b d s)
+    → Lifts w h known v shadow shadow' at mid ink ink2 every left a b
+    → ((s : Page) → Stands w h ink2 s → IsAt mid s → (known ≡ true → (s.cells ≡ shadow') × (s.visible ≡ was)) → (caret.visible ≡ true → (caret.x < w) × (caret.y < h)) → Drawn w h v (w * rows_to_paint known w h v shadow') caret after b d s)
     → (t : Terminal) → Allows (kept w h known shadow ink spot was) t → Drawn w h v (w * rows_to_paint known w h v shadow') caret after a d t.page
-framed w h ink ink2 v shadow shadow' known every was left a b d spot at after caret inside spot_is lift draw t ok =
+framed w h ink ink2 v shadow shadow' known every was left a b d spot at mid after caret inside spot_is lift draw t ok =
     let s = t.page in let is = ok.terminal in
-    let lf = lift.leads s (record { page = is.page; wide = is.wide; high = is.high }) (λ k. (ok.agrees k).pen) (λ k. (ok.agrees k).cells) in
-    let s2 : Page = record s { cells = lf.0; pen = pen_for ink2 } in
-    let stands : Stands w h ink2 s2 = record { page = record { width = is.page.width; height = is.page.height; cells = lf.2 ∙ rw (is.wide, is.high) refl; column = is.page.column; row = is.page.row; pen = lift.pen (λ k. rw (ok.agrees k).pen at is.page.pen) }; wide = is.wide; high = is.high; pen = refl } in
-    let at2 : IsAt at s2 = record { at = λ k. let j = spot_is k in let q = (ok.agrees j.0).place j.1 in (q.0 ∙ sym j.2, q.1 ∙ sym j.3, q.2) } in
+    let here : IsAt at s = record { at = λ k. let j = spot_is k in let q = (ok.agrees j.0).place j.1 in (q.0 ∙ sym j.2, q.1 ∙ sym j.3, q.2) } in
+    let lf = lift.leads s (record { page = is.page; wide = is.wide; high = is.high }) here (λ k. (ok.agrees k).pen) (λ k. (ok.agrees k).cells) in
+    let s2 : Page = record s { cells = lf.0; x = lf.1.x; pen = pen_for ink2 } in
+    let stands : Stands w h ink2 s2 = record { page = record { width = is.page.width; height = is.page.height; cells = lf.2 ∙ rw (is.wide, is.high) refl; column = omega (arith, lf.1.inside, is.wide); row = is.page.row; pen = lift.pen (λ k. rw (ok.agrees k).pen at is.page.pen) }; wide = is.wide; high = is.high; pen = refl } in
+    let at2 : IsAt mid s2 = record { at = lf.1.place.at } in
     let r : Drawn w h v (w * rows_to_paint known w h v shadow') caret after b d s2 = draw s2 stands at2 (λ k. (lf.3 k, (ok.agrees k).visible)) inside in
-    record { to = r.to; count = r.count; leads = leads_then a b d s s2 r.to 0 r.count r.count lf.1 r.leads (omega arith); few = r.few; stands = r.stands; cells = r.cells; place = r.place; visible = r.visible }
+    record { to = r.to; count = r.count; leads = leads_then a b d s s2 r.to 0 r.count r.count lf.1.leads r.leads (omega arith); few = r.few; stands = r.stands; cells = r.cells; place = r.place; visible = r.visible }
 
 -- what is drawn on a terminal that the painter allows is painted
-pub painted : (w h : ℕ) (ink ink2 : Attribute) (view : View) (shadow shadow' now : List Glyph) (known every was : Bool) (left : ℕ) (a b d : List ℕ) (spot : Spot) (after : State) (caret : Caret) → view.size.w ≡ w → view.size.h ≡ h → now ≡ view.rows → IsCaret view caret
+pub painted : (w h : ℕ) (ink ink2 : Attribute) (view : View) (shadow shadow' now : List Glyph) (known every was : Bool) (left : ℕ) (a b d : List ℕ) (spot at mid : Spot) (after : State) (caret : Caret) → view.size.w ≡ w → view.size.h ≡ h → now ≡ view.rows → IsCaret view caret
     → (caret.visible ≡ true → after.spot ≡ record { known = true; x = caret.x; y = caret.y })
-    → Lifts w h known view.rows shadow shadow' ink ink2 every left a b
+    → Lifts w h known view.rows shadow shadow' at mid ink ink2 every left a b
     → (t : Terminal) → Allows (kept w h known shadow ink spot was) t → Drawn w h view.rows (w * rows_to_paint known w h view.rows shadow') caret after a d t.page
     → Paints (kept w h known shadow ink spot was) (kept w h true now after.attr after.spot caret.visible) view (drop (length a) d) t
-painted w h ink ink2 view shadow shadow' now known every was left a b d spot after caret ew eh en is_caret end lift t ok r =
+painted w h ink ink2 view shadow shadow' now known every was left a b d spot at mid after caret ew eh en is_caret end lift t ok r =
     let is = ok.terminal in
     let e = played t r.to r.count a d is.no_bytes is.no_units r.leads in
     let n : ℕ = r.count in
@@ -140,14 +141,14 @@ is_allowed p h = record {
 }
 
 -- so a frame is drawn on some terminal
-pub some_frame : (w h : ℕ) (ink ink2 : Attribute) (v shadow shadow' : List Glyph) (known every was : Bool) (left : ℕ) (a b d : List ℕ) (spot at : Spot) (after : State) (caret : Caret) → IsKept (kept w h known shadow ink spot was) → (caret.visible ≡ true → (caret.x < w) × (caret.y < h))
+pub some_frame : (w h : ℕ) (ink ink2 : Attribute) (v shadow shadow' : List Glyph) (known every was : Bool) (left : ℕ) (a b d : List ℕ) (spot at mid : Spot) (after : State) (caret : Caret) → IsKept (kept w h known shadow ink spot was) → (caret.visible ≡ true → (caret.x < w) × (caret.y < h))
     → (at.known ≡ true → (known ≡ true) × (spot.known ≡ true) × (at.x ≡ spot.x) × (at.y ≡ spot.y))
-    → Lifts w h known v shadow shadow' ink ink2 every left a b
-    → ((s : Page) → Stands w h ink2 s → IsAt at s → (known ≡ true → (s.cells ≡ shadow') × (s.visible ≡ was)) → (caret.visible ≡ true → (caret.x < w) × (caret.y < h)) → Drawn w h v (w * rows_to_paint known w h v shadow') caret after b d s)
+    → Lifts w h known v shadow shadow' at mid ink ink2 every left a b
+    → ((s : Page) → Stands w h ink2 s → IsAt mid s → (known ≡ true → (s.cells ≡ shadow') × (s.visible ≡ was)) → (caret.visible ≡ true → (caret.x < w) × (caret.y < h)) → Drawn w h v (w * rows_to_paint known w h v shadow') caret after b d s)
     → Drawn w h v (w * rows_to_paint known w h v shadow') caret after a d (allowed (kept w h known shadow ink spot was)).page
-some_frame w h ink ink2 v shadow shadow' known every was left a b d spot at after caret is inside spot_is lift draw =
+some_frame w h ink ink2 v shadow shadow' known every was left a b d spot at mid after caret is inside spot_is lift draw =
     let p = kept w h known shadow ink spot was in
-    framed w h ink ink2 v shadow shadow' known every was left a b d spot at after caret inside spot_is lift draw (allowed p) (is_allowed p is)
+    framed w h ink ink2 v shadow shadow' known every was left a b d spot at mid after caret inside spot_is lift draw (allowed p) (is_allowed p is)
 
 -- what bytes lead from any page stands behind the old ones
 pub appends : (w h most : ℕ) (v : List Glyph) (caret : Caret) (after : State) (a d : List ℕ) (s : Page) → Drawn w h v most caret after a d s → d ≡ a ++ drop (length a) d
@@ -168,15 +169,15 @@ ends_in_pen w h most v caret after a d s r = rw r.stands.pen at r.stands.page.pe
 -- ---- a view that was painted last
 
 -- nothing is written where nothing differs
-pub silent : (w h : ℕ) (ink ink2 : Attribute) (view : View) (shadow shadow' : List Glyph) (known every was : Bool) (left : ℕ) (a b d : List ℕ) (spot at : Spot) (caret : Caret) → IsCaret view caret → IsShown (kept w h known shadow ink spot was) view
-    → (known ≡ true → at ≡ spot) → Lifts w h known view.rows shadow shadow' ink ink2 every left a b
-    → (known ≡ true → view.rows ≡ shadow' → left ≡ 0 → was ≡ caret.visible → (caret.visible ≡ true → (at.known ≡ true) × (at.x ≡ caret.x) × (at.y ≡ caret.y)) → d ≡ b) → d ≡ a
-silent w h ink ink2 view shadow shadow' known every was left a b d spot at caret is_caret shown spot_is lift draw =
+pub silent : (w h : ℕ) (ink ink2 : Attribute) (view : View) (shadow shadow' : List Glyph) (known every was : Bool) (left : ℕ) (a b d : List ℕ) (spot at mid : Spot) (caret : Caret) → IsCaret view caret → IsShown (kept w h known shadow ink spot was) view
+    → (known ≡ true → at ≡ spot) → Lifts w h known view.rows shadow shadow' at mid ink ink2 every left a b
+    → (known ≡ true → view.rows ≡ shadow' → left ≡ 0 → was ≡ caret.visible → (caret.visible ≡ true → (mid.known ≡ true) × (mid.x ≡ caret.x) × (mid.y ≡ caret.y)) → d ≡ b) → d ≡ a
+silent w h ink ink2 view shadow shadow' known every was left a b d spot at mid caret is_caret shown spot_is lift draw =
     let k = shown.known in
     let lf = lift.quiet k shown.cells in
     let seen : was ≡ caret.visible = shown.visible ∙ sym is_caret.visible in
-    let same : at ≡ spot = spot_is k in
-    let place : caret.visible ≡ true → (at.known ≡ true) × (at.x ≡ caret.x) × (at.y ≡ caret.y) = λ e. let v = sym is_caret.visible ∙ e in (
+    let same : mid ≡ spot = lf.4 ∙ spot_is k in
+    let place : caret.visible ≡ true → (mid.known ≡ true) × (mid.x ≡ caret.x) × (mid.y ≡ caret.y) = λ e. let v = sym is_caret.visible ∙ e in (
       ap (λ (z : Spot). z.known) same ∙ shown.placed v,
       ap (λ (z : Spot). z.x) same ∙ same_pos spot.x caret.x (shown.column v ∙ sym (is_caret.column v)),
       ap (λ (z : Spot). z.y) same ∙ same_pos spot.y caret.y (shown.row v ∙ sym (is_caret.row v)),

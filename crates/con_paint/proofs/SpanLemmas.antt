@@ -1,6 +1,6 @@
 -- The part of a row that is written.
 use Rattle.std.proofs.Common.{◌≡◌, ℕ, ◌+◌, ◌-◌, ◌*◌, ◌<◌, ◌≤◌, Bool, true, false, List, [], ◌∷◌, ◌++◌, length, take, drop, replicate, get_or, refl, sym, ap, ◌∙◌, append_assoc, arith, length-append, length-drop, add-one}
-use Rattle.std.proofs.lemmas.List.{take_at, drop_at, drop-drop, length-take-le, take-append-drop, take-append-le, drop-append-le, drop_all, take_more, drop_more, length-replicate}
+use Rattle.std.proofs.lemmas.List.{take_at, drop_at, drop-drop, length-take-le, take-append-drop, take-append-le, drop-append-le, drop_all, take_more, drop_more, drop-replicate, length-replicate}
 use Rattle.std.proofs.lemmas.Nat.{mul-le}
 use Rattle.std.proofs.Math.Seq.{take-add}
 use Rattle.con_units.specs.Attr.{Attribute, plain}
@@ -55,6 +55,18 @@ drop_none row = let e : length row - 0 ≡ length row = omega arith in rw e (dro
 
 pub both_none : (row was : List Glyph) → length row ≡ length was → drop (length row - 0) row ≡ drop (length row - 0) was
 both_none row was e = drop_none row ∙ sym (rw e (drop_none was))
+
+-- a column behind such a one is one as well
+pub later_same : (row was : List Glyph) (a b : ℕ) → a ≤ b → drop a row ≡ drop a was → drop b row ≡ drop b was
+later_same row was a b le e =
+    let k : a + (b - a) ≡ b = omega arith in
+    ap (λ z. drop z row) (sym k) ∙ sym (drop-drop (b - a) a row) ∙ ap (drop (b - a)) e ∙ drop-drop (b - a) a was ∙ ap (λ z. drop z was) k
+
+pub later_blank : (row : List Glyph) (a b : ℕ) → a ≤ b → drop a row ≡ replicate (length row - a) blank_cell → drop b row ≡ replicate (length row - b) blank_cell
+later_blank row a b le e =
+    let k : a + (b - a) ≡ b = omega arith in
+    let n : length row - a - (b - a) ≡ length row - b = omega arith in
+    ap (λ z. drop z row) (sym k) ∙ sym (drop-drop (b - a) a row) ∙ ap (drop (b - a)) e ∙ drop-replicate (b - a) (length row - a) blank_cell ∙ ap (λ z. replicate z blank_cell) n
 
 -- ---- pasted cells
 

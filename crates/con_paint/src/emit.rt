@@ -116,6 +116,16 @@ pub(crate) fn next_row(out: &mut Vec<u8>)
     append(out, b"\r\n");
 }
 
+/// Lifts all rows by one and brings the cursor to the first column of the last one, where it stands in that row.
+pub(crate) fn new_row(out: &mut Vec<u8>)
+    requires room { vec_len out.old + 2 ≤ vec_capacity out.old }
+    ensures leads { (s : Page) → s.y + 1 ≡ s.h → s.pending ≡ false → Leads out.old.items out.new.items s (record (lifted s 1) { x = 0 }) 0 }
+    ensures capacity { vec_capacity out.new ≡ vec_capacity out.old }
+    ensures few { vec_len out.new ≤ vec_len out.old + 2 }
+{
+    append(out, b"\r\n");
+}
+
 /// Brings the cursor one column back.
 pub(crate) fn backspace(out: &mut Vec<u8>)
     requires room { vec_len out.old + 1 ≤ vec_capacity out.old }

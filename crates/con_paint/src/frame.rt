@@ -44,6 +44,15 @@ pub(crate) fn caret_of(view: &View) -> Caret
     }
 }
 
+// Where the cursor is brought at the end, if it shows.
+fn aim_of(caret: Caret) -> Spot {
+    Spot {
+        known: caret.visible,
+        x: caret.x,
+        y: caret.y,
+    }
+}
+
 // Brings the cursor to its place, where it shows, and gives its place.
 fn settle(out: &mut Vec<u8>, spot: Spot, caret: Caret) -> Spot
     requires small { (caret.x < 999) × (caret.y < 999) }
@@ -147,6 +156,7 @@ pub(crate) fn draw(
     let attr = lifting.attr;
     let before = State { attr, spot };
     let first = size.h - lifting.rows;
+    let aim = aim_of(caret);
     let after = rows(
         out,
         cells,
@@ -157,6 +167,7 @@ pub(crate) fn draw(
         known,
         size,
         tail,
+        aim,
         before,
     );
     let end = finish(out, known, hidden, was, after.spot, caret);

@@ -10,20 +10,24 @@ ghost use Rattle.con_paint.specs.Ink.{pen_for};
 ghost use Rattle.con_paint.specs.Checksum.{IsSummed, AreSummed};
 ghost use Rattle.con_paint.specs.Compared.{same_cells, differing, IsLifted};
 ghost use Rattle.con_paint.specs.Frame.{rows_to_paint};
-ghost use Rattle.con_paint.specs.Lift.{IsLeastBelow, Lifts, lifted_cells};
+ghost use Rattle.con_paint.specs.Lift.{IsLeastBelow, Lifted, Lifts, Rises, lifted_cells};
+ghost use Rattle.con_paint.specs.Spot.{IsAt};
 
 use crate::cells::same;
 use crate::checksum::{Checksums, agree, renewed};
-use crate::emit::{ground, up};
+use crate::emit::{ground, new_row, up};
 use crate::pen::choose;
 use crate::rows::differs;
 use crate::span::{blank, plain_attr};
+use crate::spot::Spot;
 use con_units::{Attr, Cell, Size};
 
-/// What a lift leaves: the attribute of the pen, whether the rows were lifted, and how many rows at most are to be painted then.
+/// What a lift leaves: the attribute of the pen, the cursor's place, whether the rows were lifted, and how many rows at most are
+/// to be painted then.
 #[derive(Clone, Copy, Debug)]
 pub(crate) struct Lifting {
     pub(crate) attr: Attr,
+    pub(crate) spot: Spot,
     pub(crate) lifted: bool,
     pub(crate) rows: u16,
 }
@@ -150,27 +154,56 @@ fn raise(cells: &mut Vec<Cell>, count: usize)
     empty_from(cells.as_mut_slice(), rest);
 }
 
-// Lifts the rows of a terminal, and the cells.
-fn scroll(out: &mut Vec<u8>, shadow: &mut Vec<Cell>, by: u16, size: Size, before: Attr)
+// Lifts all rows, in a pen that is plain, and gives the cursor's place. From the last row a new one lifts them by one.
+fn rise(out: &mut Vec<u8>, at: Spot, by: u16, size: Size) -> Spot
+    requires few { (size.h ≤ 256) × (by ≤ size.h) × (0 < by) }
+    requires room { vec_len out.old + 7 ≤ vec_capacity out.old }
+    ensures rises { (s : Page) → s.h ≡ size.h → IsAt at s → Rises by result out.old.items out.new.items s }
+    ensures capacity { vec_capacity out.new ≡ vec_capacity out.old }
+    ensures few { vec_len out.new ≤ vec_len out.old + 7 }
+{
+    if by == 1 && at.known && at.y == size.h - 1 {
+        new_row(out);
+        return Spot {
+            known: true,
+            x: 0,
+            y: at.y,
+        };
+    }
+    up(out, by);
+    at
+}
+
+// Lifts the rows of a terminal, and the cells, and gives the cursor's place.
+fn scroll(
+    out: &mut Vec<u8>,
+    shadow: &mut Vec<Cell>,
+    at: Spot,
+    by: u16,
+    size: Size,
+    before: Attr,
+) -> Spot
     requires few { (size.w ≤ 512) × (size.h ≤ 256) × (by ≤ size.h) × (0 < by) }
     requires cells { length shadow.old.items ≡ size.h * size.w }
     requires room { vec_len out.old + 50 ≤ vec_capacity out.old }
-    ensures leads { (s : Page) → s.w ≡ size.w → s.h ≡ size.h → s.pen ≡ pen_for before → Leads out.old.items out.new.items s (record s { cells = lifted_cells s.cells (by * size.w); pen = pen_for (plain 7) }) 0 }
+    ensures lifted { (s : Page) → s.w ≡ size.w → s.h ≡ size.h → s.x < s.w → s.pen ≡ pen_for before → IsAt at s → Lifted size.w (lifted_cells s.cells (by * size.w)) result (plain 7) out.old.items out.new.items s }
     ensures cells { shadow.new.items ≡ lifted_cells shadow.old.items (by * size.w) }
     ensures capacity { vec_capacity out.new ≡ vec_capacity out.old }
     ensures few { vec_len out.new ≤ vec_len out.old + 50 }
 {
     choose(out, before, plain_attr());
-    up(out, by);
+    let after = rise(out, at, by, size);
     raise(shadow, by as usize * size.w as usize);
+    after
 }
 
 // Nothing is lifted.
-fn stay(attr: Attr, rows: u16) -> Lifting
-    ensures { result ≡ record { attr = attr; lifted = false; rows = rows } }
+fn stay(attr: Attr, spot: Spot, rows: u16) -> Lifting
+    ensures { result ≡ record { attr = attr; spot = spot; lifted = false; rows = rows } }
 {
     Lifting {
         attr,
+        spot,
         lifted: false,
         rows,
     }
@@ -184,6 +217,7 @@ fn lift_by_least(
     sums: &[Checksums],
     rows: u16,
     size: Size,
+    at: Spot,
     before: Attr,
 ) -> Lifting
     requires few { (size.w ≤ 512) × (size.h ≤ 256) × (0 < rows) × (rows ≤ size.h) }
@@ -191,17 +225,18 @@ fn lift_by_least(
     requires rows { rows ≡ differing size.w size.h cells.now shadow.old.items }
     requires summed { AreSummed true size.w size.h cells.now shadow.old.items sums.now }
     requires room { vec_len out.old + 50 ≤ vec_capacity out.old }
-    ensures lifts { Lifts size.w size.h true cells.now shadow.old.items shadow.new.items before result.attr result.lifted result.rows out.old.items out.new.items }
+    ensures lifts { Lifts size.w size.h true cells.now shadow.old.items shadow.new.items at result.spot before result.attr result.lifted result.rows out.old.items out.new.items }
     ensures capacity { vec_capacity out.new ≡ vec_capacity out.old }
     ensures few { vec_len out.new ≤ vec_len out.old + 50 }
 {
     let least = least_lift(cells, shadow.as_slice(), sums, rows, size);
     if rows <= least {
-        return stay(before, rows);
+        return stay(before, at, rows);
     }
-    scroll(out, shadow, least, size, before);
+    let spot = scroll(out, shadow, at, least, size, before);
     Lifting {
         attr: plain_attr(),
+        spot,
         lifted: true,
         rows: least,
     }
@@ -215,6 +250,7 @@ fn lift_if(
     sums: &[Checksums],
     rows: u16,
     size: Size,
+    at: Spot,
     before: Attr,
 ) -> Lifting
     requires few { (size.w ≤ 512) × (size.h ≤ 256) × (rows ≤ size.h) }
@@ -222,19 +258,19 @@ fn lift_if(
     requires rows { rows ≡ differing size.w size.h cells.now shadow.old.items }
     requires summed { AreSummed true size.w size.h cells.now shadow.old.items sums.now }
     requires room { vec_len out.old + 50 ≤ vec_capacity out.old }
-    ensures lifts { Lifts size.w size.h true cells.now shadow.old.items shadow.new.items before result.attr result.lifted result.rows out.old.items out.new.items }
+    ensures lifts { Lifts size.w size.h true cells.now shadow.old.items shadow.new.items at result.spot before result.attr result.lifted result.rows out.old.items out.new.items }
     ensures capacity { vec_capacity out.new ≡ vec_capacity out.old }
     ensures few { vec_len out.new ≤ vec_len out.old + 50 }
 {
     if rows < 2 {
-        stay(before, rows)
+        stay(before, at, rows)
     } else {
-        lift_by_least(out, shadow, cells, sums, rows, size, before)
+        lift_by_least(out, shadow, cells, sums, rows, size, at, before)
     }
 }
 
 /// Begins a frame of which so many rows are to be painted: a terminal that nothing is known of is brought to known ground;
-/// the rows of another are lifted, and the cells, where that saves rows.
+/// the rows of another, whose cursor stands at a spot, if that is known, are lifted, and the cells, where that saves rows.
 pub(crate) fn begin(
     out: &mut Vec<u8>,
     shadow: &mut Vec<Cell>,
@@ -243,6 +279,7 @@ pub(crate) fn begin(
     rows: u16,
     known: bool,
     size: Size,
+    at: Spot,
     before: Attr,
 ) -> Lifting
     requires few { (size.w ≤ 512) × (size.h ≤ 256) × (rows ≤ size.h) }
@@ -250,14 +287,14 @@ pub(crate) fn begin(
     requires rows { rows ≡ rows_to_paint known size.w size.h cells.now shadow.old.items }
     requires summed { AreSummed known size.w size.h cells.now shadow.old.items sums.now }
     requires room { vec_len out.old + 53 ≤ vec_capacity out.old }
-    ensures lifts { Lifts size.w size.h known cells.now shadow.old.items shadow.new.items before result.attr result.lifted result.rows out.old.items out.new.items }
+    ensures lifts { Lifts size.w size.h known cells.now shadow.old.items shadow.new.items at result.spot before result.attr result.lifted result.rows out.old.items out.new.items }
     ensures capacity { vec_capacity out.new ≡ vec_capacity out.old }
     ensures few { vec_len out.new ≤ vec_len out.old + 53 }
 {
     if known {
-        lift_if(out, shadow, cells, sums, rows, size, before)
+        lift_if(out, shadow, cells, sums, rows, size, at, before)
     } else {
         ground(out);
-        stay(plain_attr(), size.h)
+        stay(plain_attr(), at, size.h)
     }
 }

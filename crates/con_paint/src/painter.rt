@@ -209,8 +209,10 @@ impl Painter {
             rows,
             self.known,
             self.size,
+            at,
             self.attr,
         );
+        let spot = lifting.spot;
         let lifted = lifting.lifted;
         let left = lifting.rows;
         let end = draw(
@@ -221,7 +223,7 @@ impl Painter {
             self.known,
             self.size,
             lifting,
-            at,
+            spot,
             self.visible,
             caret,
         );

@@ -30,6 +30,15 @@ pub(crate) fn may_differ(lifted: bool, first: u16, y: u16, marked: bool) -> bool
     if lifted { first <= y } else { marked }
 }
 
+// The column of a row to which the cursor is brought at the frame's end, or 0.
+fn aim_in(caret: Spot, y: u16) -> usize {
+    if caret.known && caret.y == y {
+        caret.x as usize
+    } else {
+        0
+    }
+}
+
 // Paints a row, where it is to be.
 fn one_row(
     out: &mut Vec<u8>,
@@ -38,6 +47,7 @@ fn one_row(
     y: u16,
     row: &[Cell],
     was: &[Cell],
+    caret: Spot,
     before: State,
 ) -> State
     requires small { (y < 999) × (0 < length row.now) × (length row.now ≤ 512) }
@@ -50,7 +60,7 @@ fn one_row(
     if !paint {
         return before;
     }
-    let span = span_of(known, row, was);
+    let span = span_of(known, row, was, aim_in(caret, y));
     line(out, known, y, row, was, span, before)
 }
 
@@ -65,6 +75,7 @@ fn first_rows(
     known: bool,
     size: Size,
     tail: u16,
+    caret: Spot,
     before: State,
 ) -> State
     requires few { (0 < size.w) × (size.w ≤ 512) × (size.h ≤ 256) × (tail ≤ size.h) }
@@ -84,7 +95,7 @@ fn first_rows(
         let was = &shadow[from..from + width];
         let marked = may_differ(lifted, first, y, marks[y as usize]);
         let paint = differs(known, marked, row, was);
-        state = one_row(out, known, paint, y, row, was, state);
+        state = one_row(out, known, paint, y, row, was, caret, state);
     }
     state
 }
@@ -177,7 +188,8 @@ pub(crate) fn is_many(rows: u16, last: u16) -> bool
     if last == 0 { 1 < rows } else { last < rows }
 }
 
-/// Paints the rows that differ up to the tail, and erases the rest. It gives what is known then.
+/// Paints the rows that differ up to the tail, and erases the rest, where the cursor is brought to a caret at the frame's
+/// end, if that is known. It gives what is known then.
 pub(crate) fn rows(
     out: &mut Vec<u8>,
     cells: &[Cell],
@@ -188,6 +200,7 @@ pub(crate) fn rows(
     known: bool,
     size: Size,
     tail: u16,
+    caret: Spot,
     before: State,
 ) -> State
     requires few { (0 < size.w) × (size.w ≤ 512) × (size.h ≤ 256) }
@@ -203,7 +216,7 @@ pub(crate) fn rows(
     ensures few { vec_len out.new ≤ vec_len out.old + 57 + size.h * (11 + 57 * size.w) }
 {
     let above = first_rows(
-        out, cells, shadow, marks, lifted, first, known, size, tail, before,
+        out, cells, shadow, marks, lifted, first, known, size, tail, caret, before,
     );
     rest(out, tail, size, above)
 }

@@ -9,7 +9,7 @@ ghost use Rattle.con_paint.specs.Frame.{Stands, Painted};
 ghost use Rattle.con_paint.specs.Span as spans;
 ghost use Rattle.con_paint.specs.Spot.{IsAt};
 
-use crate::cells::is_same;
+use crate::cells::{is_same, is_same_attr};
 use crate::columns::columns;
 use crate::emit::erase_row;
 use crate::pen::choose;
@@ -88,6 +88,40 @@ fn end_of_text(row: &[Cell], from: usize) -> usize
     from
 }
 
+// Whether a cell is printed by one byte in the pen of an attribute.
+fn is_short(cell: Cell, attr: Attr) -> bool {
+    matches!(cell.unit(), 0x20..=0x7E) && is_same_attr(cell.attr(), attr)
+}
+
+// Whether the cells from a column up to another cost no more than a move there, behind the cell before the first of them.
+fn is_step(row: &[Cell], from: usize, upto: usize) -> bool
+    requires { (from ≤ length row.now) × (length row.now ≤ 512) }
+    ensures { result ≡ true → (from ≤ upto) × (upto ≤ length row.now) }
+{
+    if from == 0 || upto <= from || row.len() < upto || from + 3 < upto {
+        return false;
+    }
+    let attr = row[from - 1].attr();
+    for x in from..upto {
+        if !is_short(row[x], attr) {
+            return false;
+        }
+    }
+    true
+}
+
+// A column, or one behind it to which the cursor is brought at the frame's end, where the cells up to that one cost no more than a move.
+fn moved_on(row: &[Cell], column: usize, aim: usize) -> usize
+    requires { (column ≤ length row.now) × (length row.now ≤ 512) }
+    ensures inside { (column ≤ result) × (result ≤ length row.now) }
+{
+    if is_step(row, column, aim) {
+        aim
+    } else {
+        column
+    }
+}
+
 // Where the columns begin: at the row's first one, where nothing is known.
 fn begin(known: bool, row: &[Cell], was: &[Cell]) -> usize
     requires lengths { length row.now ≡ length was.now }
@@ -100,31 +134,40 @@ fn begin(known: bool, row: &[Cell], was: &[Cell]) -> usize
 }
 
 // Where the columns end: behind the row's last one, where nothing is known.
-fn end(known: bool, row: &[Cell], was: &[Cell], from: usize) -> usize
+fn end(known: bool, row: &[Cell], was: &[Cell], from: usize, aim: usize) -> usize
     requires lengths { length row.now ≡ length was.now }
-    requires inside { from ≤ length row.now }
+    requires inside { (from ≤ length row.now) × (length row.now ≤ 512) }
     ensures same { known ≡ true → drop result row.now ≡ drop result was.now }
     ensures whole { known ≡ false → result ≡ length row.now }
     ensures inside { (from ≤ result) × (result ≤ length row.now) }
 {
     if known {
-        end_of_differences(row, was, from)
+        moved_on(row, end_of_differences(row, was, from), aim)
     } else {
         row.len()
     }
 }
 
-/// The part of a row to write.
-pub(crate) fn span_of(known: bool, row: &[Cell], was: &[Cell]) -> Span
+// The column from there on behind which all is blank, or one behind it to which the cursor is brought.
+fn text_end(row: &[Cell], from: usize, aim: usize) -> usize
+    requires inside { (from ≤ length row.now) × (length row.now ≤ 512) }
+    ensures blank { drop result row.now ≡ replicate (length row.now - result) blank_cell }
+    ensures inside { (from ≤ result) × (result ≤ length row.now) }
+{
+    moved_on(row, end_of_text(row, from), aim)
+}
+
+/// The part of a row to write, where the cursor is brought to a column at the frame's end, or to none: 0.
+pub(crate) fn span_of(known: bool, row: &[Cell], was: &[Cell], aim: usize) -> Span
     requires lengths { length row.now ≡ length was.now }
-    requires some { 0 < length row.now }
+    requires some { (0 < length row.now) × (length row.now ≤ 512) }
     ensures inside { spans.IsSpan row.now result }
     ensures front { (now : List Glyph) → length now ≡ length row.now → (known ≡ true → now ≡ was.now) → take result.from row.now ≡ take result.from now }
     ensures whole { (now : List Glyph) → length now ≡ length row.now → (known ≡ true → now ≡ was.now) → spans.patched now row.now result ≡ row.now }
 {
     let from = begin(known, row, was);
-    let end = end(known, row, was, from);
-    let text = end_of_text(row, from);
+    let end = end(known, row, was, from, aim);
+    let text = text_end(row, from, aim);
     if text < end && 3 < end - text {
         Span {
             from,

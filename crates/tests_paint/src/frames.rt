@@ -129,7 +129,7 @@ fn lifted_rows_and_hidden_cursor(rt: HostRuntime) -> Result<(), Fail> {
     let text = two_frames(rt.alloc(), &first, &second)?;
     assert_eq!(rt;
         text.as_str(),
-        "^[!p^[?69l^[?6l^[4l^[20l^[?7h^[?5l^[?2026l^[r^(B\u{F}^[0m^[?25l^[Habcdef^[2Hghijkl^[3Hmnopqr^[3H^[?25h\n^[S^[?25lstuvwx\n6x3 cursor hidden\n|ghijkl|\n|mnopqr|\n|stuvwx|\n"
+        "^[!p^[?69l^[?6l^[4l^[20l^[?7h^[?5l^[?2026l^[r^(B\u{F}^[0m^[?25l^[Habcdef^[2Hghijkl^[3Hmnopqr^[3H^[?25h\n\r\n^[?25lstuvwx\n6x3 cursor hidden\n|ghijkl|\n|mnopqr|\n|stuvwx|\n"
     );
     Ok(())
 }
@@ -159,20 +159,41 @@ fn cursor_alone(rt: HostRuntime) -> Result<(), Fail> {
     Ok(())
 }
 
-// A new row behind a lift begins with CR; the cell before the cursor is emptied between two BS.
+// In the last row CR LF lifts by one and goes to the new row; the cell before the cursor is emptied between two BS.
 #[test]
 fn short_ways_to_a_place(rt: HostRuntime) -> Result<(), Fail> {
     let first = view(&rt, rt.alloc(), b"abc   def   ghi   ", 7, 3, 2)?;
     let second = view(&rt, rt.alloc(), b"def   ghi   jkl   ", 7, 3, 2)?;
     let text = two_frames(rt.alloc(), &first, &second)?;
     assert!(rt;
-        text.as_str().ends_with("\n^[S\rjkl\n6x3 cursor 3,2\n|def   |\n|ghi   |\n|jkl   |\n")
+        text.as_str().ends_with("\n\r\njkl\n6x3 cursor 3,2\n|def   |\n|ghi   |\n|jkl   |\n")
     );
     let first = view(&rt, rt.alloc(), b"abc               ", 7, 3, 0)?;
     let second = view(&rt, rt.alloc(), b"ab                ", 7, 2, 0)?;
     let text = two_frames(rt.alloc(), &first, &second)?;
     assert!(rt;
         text.as_str().ends_with("\n\u{8} \u{8}\n6x3 cursor 2,0\n|ab    |\n|      |\n|      |\n")
+    );
+    Ok(())
+}
+
+// A blank that stands there is printed up to the cursor, and gone over where it is in another attribute.
+#[test]
+fn blank_before_the_cursor(rt: HostRuntime) -> Result<(), Fail> {
+    let first = view(&rt, rt.alloc(), b"                  ", 7, 0, 0)?;
+    let second = view(&rt, rt.alloc(), b"$                 ", 7, 2, 0)?;
+    let text = two_frames(rt.alloc(), &first, &second)?;
+    assert!(rt;
+        text.as_str()
+            .ends_with("\n$ \n6x3 cursor 2,0\n|$     |\n|      |\n|      |\n")
+    );
+    let first = view(&rt, rt.alloc(), b"                  ", 4, 0, 0)?;
+    let second = view(&rt, rt.alloc(), b" b                ", 4, 3, 0)?;
+    let text = two_frames(rt.alloc(), &first, &second)?;
+    assert!(rt;
+        text.as_str().ends_with(
+            "\n^[C^[31;40mb^[C\n6x3 cursor 3,0\n| b    |\n|      |\n|      |\n@0,1+1 0004\n"
+        )
     );
     Ok(())
 }

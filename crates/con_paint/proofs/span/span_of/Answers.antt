@@ -3,8 +3,8 @@ use Rattle.con_paint.proofs.SpanLemmas.{span_kept, span_erased, front_same, back
 use Rattle.con_paint.proofs.span.span_of.Goals as goal
 
 pub returns-then-end-text-gt3-clause-whole : goal.returns-then-end-text-gt3-clause-whole
-returns-then-end-text-gt3-clause-whole c = λ now n e. span_erased now c.args.row.now c.begin-from.result c.end_of_text-text.result n c.end_of_text-text.ensures.inside.0 c.end_of_text-text.ensures.inside.1
-    (front_same c.args.known c.begin-from.result c.args.row.now c.args.was.now now c.begin-from.ensures.same c.begin-from.ensures.none e) c.end_of_text-text.ensures.blank
+returns-then-end-text-gt3-clause-whole c = λ now n e. span_erased now c.args.row.now c.begin-from.result c.text_end-text.result n c.text_end-text.ensures.inside.0 c.text_end-text.ensures.inside.1
+    (front_same c.args.known c.begin-from.result c.args.row.now c.args.was.now now c.begin-from.ensures.same c.begin-from.ensures.none e) c.text_end-text.ensures.blank
 
 pub returns-else-text-end-clause-whole : goal.returns-else-text-end-clause-whole
 returns-else-text-end-clause-whole c = λ now n e. span_kept now c.args.row.now c.begin-from.result c.end-end.result n c.end-end.ensures.inside.0 c.end-end.ensures.inside.1

@@ -8,17 +8,17 @@ pub returns-clause-paints : goal.returns-clause-paints
 returns-clause-paints c =
     let p = c.self.inside in
     rw (← c.self.view_is) (λ t ok. painted p.size.w p.size.h p.attr c.begin-lifting.result.attr c.args.view.now p.shadow.items c.begin-lifting.new.shadow.items c.keep.new.shadow.items p.known c.begin-lifting.result.lifted p.visible c.begin-lifting.result.rows
-    c.args.out.now.items c.begin-lifting.new.out.items c.draw-end.new.out.items p.spot c.draw-end.result c.caret_of-caret.result (c.requires.size.0 ∙ ap (λ (k : Kept). k.w) (sym c.self.view_is)) (c.requires.size.1 ∙ ap (λ (k : Kept). k.h) (sym c.self.view_is)) (c.keep.ensures ∙ c.as_slice-cells.ensures)
+    c.args.out.now.items c.begin-lifting.new.out.items c.draw-end.new.out.items p.spot c.spot_if-at.result c.begin-lifting.result.spot c.draw-end.result c.caret_of-caret.result (c.requires.size.0 ∙ ap (λ (k : Kept). k.w) (sym c.self.view_is)) (c.requires.size.1 ∙ ap (λ (k : Kept). k.h) (sym c.self.view_is)) (c.keep.ensures ∙ c.as_slice-cells.ensures)
     c.caret_of-caret.ensures c.draw-end.ensures.spot (rw c.as_slice-cells.ensures at c.begin-lifting.ensures.lifts) t ok
     (framed p.size.w p.size.h p.attr c.begin-lifting.result.attr c.args.view.now.rows p.shadow.items c.begin-lifting.new.shadow.items p.known c.begin-lifting.result.lifted p.visible c.begin-lifting.result.rows
-    c.args.out.now.items c.begin-lifting.new.out.items c.draw-end.new.out.items p.spot c.spot_if-at.result c.draw-end.result c.caret_of-caret.result (caret_inside p.size.w p.size.h c.args.view.now c.caret_of-caret.result (c.requires.size.0 ∙ ap (λ (k : Kept). k.w) (sym c.self.view_is)) (c.requires.size.1 ∙ ap (λ (k : Kept). k.h) (sym c.self.view_is)) c.caret_of-caret.ensures) c.spot_if-at.ensures.there
+    c.args.out.now.items c.begin-lifting.new.out.items c.draw-end.new.out.items p.spot c.spot_if-at.result c.begin-lifting.result.spot c.draw-end.result c.caret_of-caret.result (caret_inside p.size.w p.size.h c.args.view.now c.caret_of-caret.result (c.requires.size.0 ∙ ap (λ (k : Kept). k.w) (sym c.self.view_is)) (c.requires.size.1 ∙ ap (λ (k : Kept). k.h) (sym c.self.view_is)) c.caret_of-caret.ensures) c.spot_if-at.ensures.there
     (rw c.as_slice-cells.ensures at c.begin-lifting.ensures.lifts) (rw (c.as_slice-cells.ensures, c.as_slice-4.ensures.value) at c.draw-end.ensures.drawn) t ok))
 
 pub returns-clause-quiet : goal.returns-clause-quiet
 returns-clause-quiet c =
     let p = c.self.inside in
     rw (← c.self.view_is) (λ shown. silent p.size.w p.size.h p.attr c.begin-lifting.result.attr c.args.view.now p.shadow.items c.begin-lifting.new.shadow.items p.known c.begin-lifting.result.lifted p.visible c.begin-lifting.result.rows
-    c.args.out.now.items c.begin-lifting.new.out.items c.draw-end.new.out.items p.spot c.spot_if-at.result c.caret_of-caret.result c.caret_of-caret.ensures shown c.spot_if-at.ensures.same (rw c.as_slice-cells.ensures at c.begin-lifting.ensures.lifts)
+    c.args.out.now.items c.begin-lifting.new.out.items c.draw-end.new.out.items p.spot c.spot_if-at.result c.begin-lifting.result.spot c.caret_of-caret.result c.caret_of-caret.ensures shown c.spot_if-at.ensures.same (rw c.as_slice-cells.ensures at c.begin-lifting.ensures.lifts)
     (rw (c.as_slice-cells.ensures, c.as_slice-4.ensures.value) at c.draw-end.ensures.quiet))
 
 pub returns-clause-shown : goal.returns-clause-shown
@@ -31,7 +31,7 @@ returns-clause-appends c =
     let eh = c.requires.size.1 ∙ ap (λ (k : Kept). k.h) (sym c.self.view_is) in
     appends p.size.w p.size.h _ c.args.view.now.rows c.caret_of-caret.result c.draw-end.result c.args.out.now.items c.draw-end.new.out.items _
     (some_frame p.size.w p.size.h p.attr c.begin-lifting.result.attr c.args.view.now.rows p.shadow.items c.begin-lifting.new.shadow.items p.known c.begin-lifting.result.lifted p.visible c.begin-lifting.result.rows
-    c.args.out.now.items c.begin-lifting.new.out.items c.draw-end.new.out.items p.spot c.spot_if-at.result c.draw-end.result c.caret_of-caret.result c.self.invariant.kept (caret_inside p.size.w p.size.h c.args.view.now c.caret_of-caret.result ew eh c.caret_of-caret.ensures) c.spot_if-at.ensures.there
+    c.args.out.now.items c.begin-lifting.new.out.items c.draw-end.new.out.items p.spot c.spot_if-at.result c.begin-lifting.result.spot c.draw-end.result c.caret_of-caret.result c.self.invariant.kept (caret_inside p.size.w p.size.h c.args.view.now c.caret_of-caret.result ew eh c.caret_of-caret.ensures) c.spot_if-at.ensures.there
     (rw c.as_slice-cells.ensures at c.begin-lifting.ensures.lifts) (rw (c.as_slice-cells.ensures, c.as_slice-4.ensures.value) at c.draw-end.ensures.drawn))
 
 pub invariant_of-self : goal.invariant_of-self
@@ -40,7 +40,7 @@ invariant_of-self c =
     let ew = c.requires.size.0 ∙ ap (λ (k : Kept). k.w) (sym c.self.view_is) in
     let eh = c.requires.size.1 ∙ ap (λ (k : Kept). k.h) (sym c.self.view_is) in
     let r = (some_frame p.size.w p.size.h p.attr c.begin-lifting.result.attr c.args.view.now.rows p.shadow.items c.begin-lifting.new.shadow.items p.known c.begin-lifting.result.lifted p.visible c.begin-lifting.result.rows
-    c.args.out.now.items c.begin-lifting.new.out.items c.draw-end.new.out.items p.spot c.spot_if-at.result c.draw-end.result c.caret_of-caret.result c.self.invariant.kept (caret_inside p.size.w p.size.h c.args.view.now c.caret_of-caret.result ew eh c.caret_of-caret.ensures) c.spot_if-at.ensures.there
+    c.args.out.now.items c.begin-lifting.new.out.items c.draw-end.new.out.items p.spot c.spot_if-at.result c.begin-lifting.result.spot c.draw-end.result c.caret_of-caret.result c.self.invariant.kept (caret_inside p.size.w p.size.h c.args.view.now c.caret_of-caret.result ew eh c.caret_of-caret.ensures) c.spot_if-at.ensures.there
     (rw c.as_slice-cells.ensures at c.begin-lifting.ensures.lifts) (rw (c.as_slice-cells.ensures, c.as_slice-4.ensures.value) at c.draw-end.ensures.drawn)) in
     record {
       kept = record {
