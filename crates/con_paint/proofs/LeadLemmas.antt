@@ -14,16 +14,16 @@ use Rattle.con_vtgram.specs.declared.item.Item.TheVariants.{Print, Control, Csi}
 use Rattle.con_term.specs.Page.{Page, erased, lowered, place, printed}
 use Rattle.con_term.specs.Pen.{starting_pen, pen_after}
 use Rattle.con_term.specs.Sgr.{pen_by}
-use Rattle.con_term.specs.Effect.{effect, plain_effect, private_effect, line_erased, display_erased, row_end, unpended, gone_to, lifted, moved_right, moved_to}
+use Rattle.con_term.specs.Effect.{effect, plain_effect, private_effect, line_erased, display_erased, row_end, unpended, gone_to, lifted, moved_down, moved_left, moved_right, moved_to, moved_up}
 use Rattle.con_term.specs.Cost.{cost, costs, plain_cost}
 use Rattle.con_paint.specs.Bytes.{part, parts, separated, csi_bytes, utf8_of, ground_bytes, more_numbers}
 use Rattle.con_paint.specs.Spells.{AllSmall, Spells, csi, question, ground_items}
 use Rattle.con_paint.specs.Leads.{Leads}
 use Rattle.con_paint.specs.Ink.{pen_for}
 use Rattle.con_paint.specs.Pens.{colour_numbers, numbers_of, IsEnough}
-use Rattle.con_paint.specs.Places.{place_numbers, lift_numbers}
+use Rattle.con_paint.specs.Places.{place_numbers, count_numbers}
 use Rattle.con_paint.specs.declared.pen.Changes.{Changes}
-use Rattle.con_paint.proofs.SpellLemmas.{spells-append, spells-none, csi_spells, unit_spells, plain_spells, return_spells, next_row_spells, backspace_spells, erase_row_spells, erase_rest_spells, hide_spells, show_spells, ground_spells}
+use Rattle.con_paint.proofs.SpellLemmas.{spells-append, spells-none, csi_spells, unit_spells, plain_spells, return_spells, next_row_spells, second_row_spells, backspace_spells, erase_row_spells, erase_rest_spells, hide_spells, show_spells, ground_spells}
 use Rattle.con_paint.proofs.PenLemmas.{pen_chosen, small_numbers, all_small-append, one_small}
 
 pub append_none : {A : Type 0} (xs : List A) → xs ++ [] ≡ xs
@@ -77,18 +77,33 @@ unfolding sixteen
 count_is true n h some = let e : max n 1 ≡ n = omega arith in e
 count_is false n h some = sym (h refl)
 
-pub goes_up : (old new : List ℕ) (n : ℕ) (s : Page) → n < 1000 → 0 < n → new ≡ old ++ csi_bytes (lift_numbers n) 0x53 → Leads old new s (lifted s n) 0
+pub goes_up : (old new : List ℕ) (n : ℕ) (s : Page) → n < 1000 → 0 < n → new ≡ old ++ csi_bytes (count_numbers n) 0x53 → Leads old new s (lifted s n) 0
 unfolding effect plain_effect cost plain_cost
-goes_up old new n s small some e = leads_one old new (csi_bytes (lift_numbers n) 0x53) (Csi (csi (lift_numbers n) 0x53)) s (lifted s n) 0 e (csi_spells (lift_numbers n) 0x53 (one_small (not (n == 1)) n small) (omega arith, omega arith))
+goes_up old new n s small some e = leads_one old new (csi_bytes (count_numbers n) 0x53) (Csi (csi (count_numbers n) 0x53)) s (lifted s n) 0 e (csi_spells (count_numbers n) 0x53 (one_small (not (n == 1)) n small) (omega arith, omega arith))
     (ap (lifted s) (count_is (not (n == 1)) n (not_false n 1) some)) refl
 
-pub goes_right : (old new : List ℕ) (n : ℕ) (s : Page) → n < 1000 → 0 < n → new ≡ old ++ csi_bytes (lift_numbers n) 0x43 → Leads old new s (moved_right s n) 0
+counts : (n : ℕ) → 0 < n → max (get_or (sixteen (count_numbers n)) 0 0) 1 ≡ max n 1
+counts n some = let e : n ≡ max n 1 = omega arith in count_is (not (n == 1)) n (not_false n 1) some ∙ e
+
+pub goes_right : (old new : List ℕ) (n : ℕ) (s : Page) → n < 1000 → 0 < n → new ≡ old ++ csi_bytes (count_numbers n) 0x43 → Leads old new s (moved_right s n) 0
 unfolding effect plain_effect cost plain_cost
-goes_right old new n s small some e = leads_one old new (csi_bytes (lift_numbers n) 0x43) (Csi (csi (lift_numbers n) 0x43)) s (moved_right s n) 0 e (csi_spells (lift_numbers n) 0x43 (one_small (not (n == 1)) n small) (omega arith, omega arith))
-    (ap (λ z. moved_to s (min (s.x + z) (s.w - 1)) s.y) (count_is (not (n == 1)) n (not_false n 1) some) ∙ ap (λ z. moved_to s (min (s.x + z) (s.w - 1)) s.y) (at_least n some)) refl
-  where
-    at_least : (n : ℕ) → 0 < n → n ≡ max n 1
-    at_least n h = omega arith
+goes_right old new n s small some e = leads_one old new (csi_bytes (count_numbers n) 0x43) (Csi (csi (count_numbers n) 0x43)) s (moved_right s n) 0 e (csi_spells (count_numbers n) 0x43 (one_small (not (n == 1)) n small) (omega arith, omega arith))
+    (ap (λ z. moved_to s (min (s.x + z) (s.w - 1)) s.y) (counts n some)) refl
+
+pub goes_left : (old new : List ℕ) (n : ℕ) (s : Page) → n < 1000 → 0 < n → new ≡ old ++ csi_bytes (count_numbers n) 0x44 → Leads old new s (moved_left s n) 0
+unfolding effect plain_effect cost plain_cost
+goes_left old new n s small some e = leads_one old new (csi_bytes (count_numbers n) 0x44) (Csi (csi (count_numbers n) 0x44)) s (moved_left s n) 0 e (csi_spells (count_numbers n) 0x44 (one_small (not (n == 1)) n small) (omega arith, omega arith))
+    (ap (λ z. moved_to s (s.x - z) s.y) (counts n some)) refl
+
+pub goes_down : (old new : List ℕ) (n : ℕ) (s : Page) → n < 1000 → 0 < n → new ≡ old ++ csi_bytes (count_numbers n) 0x42 → Leads old new s (moved_down s n) 0
+unfolding effect plain_effect cost plain_cost
+goes_down old new n s small some e = leads_one old new (csi_bytes (count_numbers n) 0x42) (Csi (csi (count_numbers n) 0x42)) s (moved_down s n) 0 e (csi_spells (count_numbers n) 0x42 (one_small (not (n == 1)) n small) (omega arith, omega arith))
+    (ap (λ z. moved_to s s.x (min (s.y + z) (s.h - 1))) (counts n some)) refl
+
+pub goes_above : (old new : List ℕ) (n : ℕ) (s : Page) → n < 1000 → 0 < n → new ≡ old ++ csi_bytes (count_numbers n) 0x41 → Leads old new s (moved_up s n) 0
+unfolding effect plain_effect cost plain_cost
+goes_above old new n s small some e = leads_one old new (csi_bytes (count_numbers n) 0x41) (Csi (csi (count_numbers n) 0x41)) s (moved_up s n) 0 e (csi_spells (count_numbers n) 0x41 (one_small (not (n == 1)) n small) (omega arith, omega arith))
+    (ap (λ z. moved_to s s.x (s.y - z)) (counts n some)) refl
 
 pub chooses : (old new : List ℕ) (c : Changes) (before a : Attribute) (s : Page) → s.pen ≡ pen_for before → IsAttribute a → IsEnough c before a → new ≡ old ++ csi_bytes (numbers_of c a) 0x6D → Leads old new s (record s { pen = pen_for a }) 0
 unfolding cost plain_cost
@@ -119,7 +134,16 @@ goes_to_next_row old new s e h =
     let below : nat_lt (s.y + 1) s.h ≡ true = grind (arith, nat_tests) in
     record { bytes = _; items = Control 13 ∷ Control 10 ∷ []; appended = e; spelled = next_row_spells; page = rw below refl; count = refl }
 
--- the same in the last row
+-- the row behind that
+pub goes_to_second_row : (old new : List ℕ) (s : Page) → new ≡ old ++ (0x0D ∷ 0x0A ∷ 0x0A ∷ []) → s.y + 2 < s.h → Leads old new s (record s { x = 0; y = s.y + 2; pending = false }) 0
+unfolding effect cost lowered
+goes_to_second_row old new s e h =
+    let first : nat_lt (s.y + 1) s.h ≡ true = grind (arith, nat_tests) in
+    let second : nat_lt (s.y + 1 + 1) s.h ≡ true = grind (arith, nat_tests) in
+    let two : s.y + 1 + 1 ≡ s.y + 2 = omega arith in
+    record { bytes = _; items = Control 13 ∷ Control 10 ∷ Control 10 ∷ []; appended = e; spelled = second_row_spells; page = rw (first, second, two) (refl {a = record s { x = 0; y = s.y + 2; pending = false }}); count = refl }
+
+-- the next row behind the last one
 pub makes_new_row : (old new : List ℕ) (s : Page) → new ≡ old ++ (0x0D ∷ 0x0A ∷ []) → s.y + 1 ≡ s.h → s.pending ≡ false → Leads old new s (record (lifted s 1) { x = 0 }) 0
 unfolding effect cost lowered
 makes_new_row old new s e last clear =

@@ -306,6 +306,10 @@ pub next_row_spells : Spells (0x0D ∷ 0x0A ∷ []) (Control 13 ∷ Control 10 �
 unfolding split_after next is_front whole kept
 next_row_spells = ascii_spells _ _ refl refl
 
+pub second_row_spells : Spells (0x0D ∷ 0x0A ∷ 0x0A ∷ []) (Control 13 ∷ Control 10 ∷ Control 10 ∷ [])
+unfolding split_after next is_front whole kept
+second_row_spells = ascii_spells _ _ refl refl
+
 pub backspace_spells : Spells (0x08 ∷ []) (Control 8 ∷ [])
 unfolding split_after next is_front whole kept
 backspace_spells = ascii_spells _ _ refl refl

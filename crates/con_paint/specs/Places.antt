@@ -6,6 +6,6 @@ use Rattle.con_paint.specs.Bytes.{part}
 abbrev pub place_numbers : ℕ → ℕ → List ℕ
 place_numbers row column = part (not (column == 1) || not (row == 1)) row ++ part (not (column == 1)) column
 
--- a count of rows; a 1 is left out
-abbrev pub lift_numbers : ℕ → List ℕ
-lift_numbers n = part (not (n == 1)) n
+-- a count; a 1 is left out
+abbrev pub count_numbers : ℕ → List ℕ
+count_numbers n = part (not (n == 1)) n

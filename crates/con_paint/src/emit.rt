@@ -5,10 +5,10 @@ ghost use Rattle.con_units.specs.Stored.{stored_unit};
 ghost use Rattle.con_units.specs.Decimal.{decimal};
 ghost use Rattle.con_term.specs.Pen.{starting_pen};
 ghost use Rattle.con_term.specs.Page.{Page, erased, place, printed};
-ghost use Rattle.con_term.specs.Effect.{gone_to, lifted, moved_right, row_end, unpended};
+ghost use Rattle.con_term.specs.Effect.{gone_to, lifted, moved_down, moved_left, moved_right, moved_up, row_end, unpended};
 ghost use Rattle.con_paint.specs.Bytes.{csi_bytes, part, separated, utf8_of};
 ghost use Rattle.con_paint.specs.Leads.{Leads};
-ghost use Rattle.con_paint.specs.Places.{lift_numbers, place_numbers};
+ghost use Rattle.con_paint.specs.Places.{count_numbers, place_numbers};
 
 /// Appends bytes.
 pub(crate) fn append(out: &mut Vec<u8>, bytes: &[u8])
@@ -30,6 +30,7 @@ fn number(out: &mut Vec<u8>, n: u16)
     ensures bytes { out.new.items ≡ out.old.items ++ decimal n }
     ensures capacity { vec_capacity out.new ≡ vec_capacity out.old }
     ensures few { vec_len out.new ≤ vec_len out.old + 3 }
+    ensures short { n < 10 → vec_len out.new ≤ vec_len out.old + 1 }
 {
     if 100 <= n {
         out.push_reserved((0x30 + n / 100) as u8);
@@ -49,6 +50,7 @@ pub(crate) fn number_if(out: &mut Vec<u8>, some: bool, wanted: bool, n: u16) -> 
     ensures some { result ≡ (some || wanted) }
     ensures capacity { vec_capacity out.new ≡ vec_capacity out.old }
     ensures few { vec_len out.new ≤ vec_len out.old + 4 }
+    ensures short { some ≡ false → n < 10 → vec_len out.new ≤ vec_len out.old + 1 }
 {
     if !wanted {
         return some;
@@ -114,6 +116,16 @@ pub(crate) fn next_row(out: &mut Vec<u8>)
     ensures few { vec_len out.new ≤ vec_len out.old + 2 }
 {
     append(out, b"\r\n");
+}
+
+/// Brings the cursor to the first column of the row behind the next one, where there is one.
+pub(crate) fn second_row(out: &mut Vec<u8>)
+    requires room { vec_len out.old + 3 ≤ vec_capacity out.old }
+    ensures leads { (s : Page) → s.y + 2 < s.h → Leads out.old.items out.new.items s (record s { x = 0; y = s.y + 2; pending = false }) 0 }
+    ensures capacity { vec_capacity out.new ≡ vec_capacity out.old }
+    ensures few { vec_len out.new ≤ vec_len out.old + 3 }
+{
+    append(out, b"\r\n\n");
 }
 
 /// Lifts all rows by one and brings the cursor to the first column of the last one, where it stands in that row.
@@ -213,18 +225,20 @@ pub(crate) fn erase_rest(out: &mut Vec<u8>)
     append(out, b"\x1B[J");
 }
 
+// The control sequence of a count.
 #[tactic(auto, unfolding(crate::specs::Bytes::csi_bytes))]
-fn lift_bytes(out: &mut Vec<u8>, n: u16)
+fn count_bytes(out: &mut Vec<u8>, n: u16, last: u8)
     requires few { n < 1000 }
     requires room { vec_len out.old + 7 ≤ vec_capacity out.old }
-    ensures bytes { out.new.items ≡ out.old.items ++ csi_bytes (lift_numbers n) 0x53 }
+    ensures bytes { out.new.items ≡ out.old.items ++ csi_bytes (count_numbers n) last }
     ensures capacity { vec_capacity out.new ≡ vec_capacity out.old }
     ensures few { vec_len out.new ≤ vec_len out.old + 7 }
+    ensures short { n < 10 → vec_len out.new ≤ vec_len out.old + 4 }
 {
     out.push_reserved(0x1B);
     out.push_reserved(0x5B);
     let _ = number_if(out, false, n != 1, n);
-    out.push_reserved(0x53);
+    out.push_reserved(last);
 }
 
 /// Lifts all rows by n.
@@ -235,21 +249,7 @@ pub(crate) fn up(out: &mut Vec<u8>, n: u16)
     ensures capacity { vec_capacity out.new ≡ vec_capacity out.old }
     ensures few { vec_len out.new ≤ vec_len out.old + 7 }
 {
-    lift_bytes(out, n);
-}
-
-#[tactic(auto, unfolding(crate::specs::Bytes::csi_bytes))]
-fn right_bytes(out: &mut Vec<u8>, n: u16)
-    requires few { n < 1000 }
-    requires room { vec_len out.old + 7 ≤ vec_capacity out.old }
-    ensures bytes { out.new.items ≡ out.old.items ++ csi_bytes (lift_numbers n) 0x43 }
-    ensures capacity { vec_capacity out.new ≡ vec_capacity out.old }
-    ensures few { vec_len out.new ≤ vec_len out.old + 7 }
-{
-    out.push_reserved(0x1B);
-    out.push_reserved(0x5B);
-    let _ = number_if(out, false, n != 1, n);
-    out.push_reserved(0x43);
+    count_bytes(out, n, 0x53);
 }
 
 /// Brings the cursor n columns on in its row.
@@ -260,5 +260,38 @@ pub(crate) fn right(out: &mut Vec<u8>, n: u16)
     ensures capacity { vec_capacity out.new ≡ vec_capacity out.old }
     ensures few { vec_len out.new ≤ vec_len out.old + 7 }
 {
-    right_bytes(out, n);
+    count_bytes(out, n, 0x43);
+}
+
+/// Brings the cursor n columns back in its row.
+pub(crate) fn left(out: &mut Vec<u8>, n: u16)
+    requires few { (n < 1000) × (0 < n) }
+    requires room { vec_len out.old + 7 ≤ vec_capacity out.old }
+    ensures leads { (s : Page) → Leads out.old.items out.new.items s (moved_left s n) 0 }
+    ensures capacity { vec_capacity out.new ≡ vec_capacity out.old }
+    ensures few { vec_len out.new ≤ vec_len out.old + 7 }
+{
+    count_bytes(out, n, 0x44);
+}
+
+/// Brings the cursor n rows down in its column.
+pub(crate) fn down(out: &mut Vec<u8>, n: u16)
+    requires few { (n < 10) × (0 < n) }
+    requires room { vec_len out.old + 7 ≤ vec_capacity out.old }
+    ensures leads { (s : Page) → Leads out.old.items out.new.items s (moved_down s n) 0 }
+    ensures capacity { vec_capacity out.new ≡ vec_capacity out.old }
+    ensures few { vec_len out.new ≤ vec_len out.old + 4 }
+{
+    count_bytes(out, n, 0x42);
+}
+
+/// Brings the cursor n rows up in its column.
+pub(crate) fn above(out: &mut Vec<u8>, n: u16)
+    requires few { (n < 10) × (0 < n) }
+    requires room { vec_len out.old + 7 ≤ vec_capacity out.old }
+    ensures leads { (s : Page) → Leads out.old.items out.new.items s (moved_up s n) 0 }
+    ensures capacity { vec_capacity out.new ≡ vec_capacity out.old }
+    ensures few { vec_len out.new ≤ vec_len out.old + 4 }
+{
+    count_bytes(out, n, 0x41);
 }

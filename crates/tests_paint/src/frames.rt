@@ -116,7 +116,7 @@ fn whole_frame_and_one_changed_cell(rt: HostRuntime) -> Result<(), Fail> {
     let text = two_frames(rt.alloc(), &first, &second)?;
     assert_eq!(rt;
         text.as_str(),
-        "^[!p^[?69l^[?6l^[4l^[20l^[?7h^[?5l^[?2026l^[r^(B\u{F}^[0m^[?25l^[Ha^[31;40mb^[m^[K\r\ncdefgh^[3H^[K^[2;2H^[?25h\n^[CX^[2;2H\n6x3 cursor 1,1\n|ab    |\n|cdXfgh|\n|      |\n@0,1+1 0004\n"
+        "^[!p^[?69l^[?6l^[4l^[20l^[?7h^[?5l^[?2026l^[r^(B\u{F}^[0m^[?25l^[Ha^[31;40mb^[m^[K\r\ncdefgh^[3H^[K^[2;2H^[?25h\n^[CX\u{8}\u{8}\n6x3 cursor 1,1\n|ab    |\n|cdXfgh|\n|      |\n@0,1+1 0004\n"
     );
     Ok(())
 }
@@ -153,7 +153,7 @@ fn cursor_alone(rt: HostRuntime) -> Result<(), Fail> {
     let text = two_frames(rt.alloc(), &first, &second)?;
     assert!(rt;
         text.as_str().ends_with(
-            "\n^[3H\n6x3 cursor 0,2\n|      |\n|      |\n|      |\n@0,1+1 4007\n"
+            "\n\r\n\n\n6x3 cursor 0,2\n|      |\n|      |\n|      |\n@0,1+1 4007\n"
         )
     );
     Ok(())
@@ -174,6 +174,29 @@ fn short_ways_to_a_place(rt: HostRuntime) -> Result<(), Fail> {
     assert!(rt;
         text.as_str().ends_with("\n\u{8} \u{8}\n6x3 cursor 2,0\n|ab    |\n|      |\n|      |\n")
     );
+    Ok(())
+}
+
+// Up or down in a column, back or on in a row, by the first column of a row, and by its number where that is no longer.
+#[test]
+fn moves_of_the_cursor(rt: HostRuntime) -> Result<(), Fail> {
+    let ways = [
+        (3, 0, 3, 2, "\n^[2B\n6x3"),
+        (3, 2, 3, 1, "\n^[A\n6x3"),
+        (3, 1, 2, 2, "\n^[B\u{8}\n6x3"),
+        (5, 1, 1, 1, "\n^[4D\n6x3"),
+        (5, 1, 3, 1, "\n\u{8}\u{8}\n6x3"),
+        (1, 1, 5, 1, "\n^[4C\n6x3"),
+        (5, 0, 1, 1, "\n\r\n^[C\n6x3"),
+        (5, 2, 3, 0, "\n^[1;4H\n6x3"),
+        (5, 2, 0, 0, "\n^[H\n6x3"),
+    ];
+    for (from, row, to, other, bytes) in ways {
+        let first = view(&rt, rt.alloc(), b"                  ", 7, from, row)?;
+        let second = view(&rt, rt.alloc(), b"                  ", 7, to, other)?;
+        let text = two_frames(rt.alloc(), &first, &second)?;
+        assert!(rt; text.as_str().contains(bytes));
+    }
     Ok(())
 }
 
