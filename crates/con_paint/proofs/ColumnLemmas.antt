@@ -1,17 +1,21 @@
 -- Columns of a row, one after another.
-use Rattle.std.proofs.Common.{◌≡◌, ℕ, ◌+◌, ◌*◌, ◌<◌, ◌≤◌, Bool, true, false, List, [], ◌==◌, ◌∷◌, ◌++◌, length, take, drop, get_or, refl, sym, ap, ◌∙◌, append_assoc, arith, length-append, length-drop}
+use Rattle.std.proofs.Common.{◌≡◌, ℕ, ◌+◌, ◌*◌, ◌<◌, ◌≤◌, Bool, true, false, List, [], ◌==◌, ◌∷◌, ◌++◌, ◌-◌, length, take, drop, replicate, get_or, refl, sym, ap, ◌∙◌, append_assoc, arith, length-append, length-drop}
 use Rattle.std.proofs.lemmas.List.{take_at, drop_at, drop-drop, drop-append-le, length-take-le, take-append-drop, take_more, drop_more, get_or-drop, get_or-take}
+use Rattle.std.proofs.lemmas.Grind.{replicate_next}
+use Rattle.std.proofs.lemmas.List.{length-replicate}
 use Rattle.std.proofs.lemmas.Nat.{mul-le}
+use Rattle.std.proofs.Math.Seq.{take-add}
 use Rattle.std.proofs.lemmas.Bool.Decides.{nat_tests}
-use Rattle.con_units.specs.Attr.{Attribute}
-use Rattle.con_units.specs.Glyph.{Glyph}
+use Rattle.con_units.specs.Attr.{Attribute, plain}
+use Rattle.con_units.specs.Glyph.{Glyph, blank_cell}
 use Rattle.con_units.specs.View.{row_of}
-use Rattle.con_term.specs.Page.{Page, place}
+use Rattle.con_term.specs.Effect.{unpended}
+use Rattle.con_term.specs.Page.{Page, erased, filled, place}
 use Rattle.con_paint.specs.Leads.{Leads}
 use Rattle.con_paint.specs.Ink.{pen_for}
 use Rattle.con_paint.specs.Paint.{IsCell, cell_printed, cells_printed, pasted}
 use Rattle.con_paint.specs.Compared.{same_cell}
-use Rattle.con_paint.specs.Columns.{ColumnStep, FirstColumns, IsSameAt}
+use Rattle.con_paint.specs.Columns.{ColumnStep, FirstColumns, IsSameAt, MoreColumns, RunStep}
 use Rattle.con_paint.specs.Spot.{IsAt, IsBehind}
 use Rattle.con_paint.specs.declared.spot.Spot.{Spot}
 use Rattle.con_paint.specs.declared.spot.State.{State}
@@ -19,7 +23,7 @@ use Rattle.con_paint.proofs.PenLemmas.{pen_is}
 use Rattle.con_paint.proofs.LeadLemmas.{leads_then, leads-none}
 use Rattle.con_paint.proofs.RunLemmas.{run, ran}
 use Rattle.con_paint.proofs.SameLemmas.{one_same, any_default}
-use Rattle.con_paint.proofs.SpanLemmas.{length-pasted}
+use Rattle.con_paint.proofs.SpanLemmas.{filled_is, length-pasted, small_pen}
 
 -- ---- one column
 
@@ -167,6 +171,71 @@ columns_turn false known row was y from x one before state after old mid new lt 
       place = p.place;
       visible = p.visible ∙ r.visible;
     }
+
+-- ---- some more columns
+
+pub run_erased : (w y x n : ℕ) (before : State) (ink : Attribute) (a b c d : List ℕ) → ink ≡ plain 7 → 0 < n → x + n ≤ w
+    → ((s : Page) → (x < s.w) × (y < s.h) → IsAt before.spot s → Leads a b s (record s { x = x; y = y; pending = false }) 0)
+    → ((s : Page) → s.pen ≡ pen_for before.attr → Leads b c s (record s { pen = pen_for (plain 7) }) 0)
+    → ((s : Page) → s.x + n ≤ s.w → Leads c d s (unpended (erased s (place s) (place s + n))) n)
+    → RunStep w y x n before a d (record { attr = ink; spot = record { known = true; x = x; y = y } })
+run_erased w y x n before ink a b c d seven some fits go pen erase = λ h s st at yh.
+    let g : Page = record s { x = x; y = y; pending = false } in
+    let g2 : Page = record g { pen = pen_for (plain 7) } in
+    let xs : x < s.w = omega (arith, fits, some, st.wide) in
+    let ys : y < s.h = omega (arith, yh, st.high) in
+    let wide : x + n ≤ s.w = omega (arith, fits, st.wide) in
+    let below : y * w + w ≤ h * w = omega (arith, mul-le (y + 1) w h w (omega arith) (omega arith)) in
+    let long : length s.cells ≡ h * w = st.page.cells ∙ rw (st.wide, st.high) refl in
+    let size : y * w + x + n - (y * w + x) ≡ n = omega arith in
+    let same : filled s.cells (y * s.w + x) (y * s.w + x + n) blank_cell ≡ pasted s.cells (y * w + x) (replicate n blank_cell) =
+    rw st.wide (filled_is s.cells (y * w + x) (y * w + x + n) blank_cell (omega arith) ∙ ap (λ z. pasted s.cells (y * w + x) (replicate z blank_cell)) size) in
+    let room : y * w + x + length (replicate n blank_cell) ≤ length s.cells = omega (arith, length-replicate n blank_cell, long, below, fits) in
+    let kept : length (filled s.cells (y * s.w + x) (y * s.w + x + n) blank_cell) ≡ length s.cells = ap length same ∙ length-pasted s.cells (y * w + x) (replicate n blank_cell) room in
+    record {
+      to = unpended (erased g2 (place g2) (place g2 + n));
+      count = n;
+      leads = leads_then a c d s g2 _ 0 n n (leads_then a b c s g g2 0 0 0 (go s (xs, ys) at) (pen g st.pen) (omega arith)) (erase g2 wide) (omega arith);
+      few = omega arith;
+      cells = same;
+      stands = record {
+        page = record { width = st.page.width; height = st.page.height; cells = kept ∙ st.page.cells; column = xs; row = ys; pen = small_pen };
+        wide = st.wide;
+        high = st.high;
+        pen = rw seven refl;
+      };
+      place = record { at = λ _. (refl, refl, refl) };
+      visible = refl;
+    }
+
+pub columns_run : (known : Bool) (row was : List Glyph) (y x n : ℕ) (state after : State) (mid new : List ℕ) → x + n ≤ length row → take n (drop x row) ≡ replicate n blank_cell → RunStep (length row) y x n state mid new after → MoreColumns known row was y x (x + n) state mid new after
+columns_run known row was y x n state after mid new le blank step = λ from start first done h s st at yh seen front.
+    let w : ℕ = length row in
+    let r = done h s st at yh seen front in
+    let p = step h r.to r.stands r.place yh in
+    let below : y * w + w ≤ h * w = omega (arith, mul-le (y + 1) w h w (omega arith) (omega arith)) in
+    let long : length s.cells ≡ h * w = st.page.cells ∙ rw (st.wide, st.high) refl in
+    let m : length (take x row) ≡ x = length-take-le x row (omega arith) in
+    let more : take (x + n) row ≡ take x row ++ replicate n blank_cell = take-add x n row ∙ ap (λ z. take x row ++ z) blank in
+    let joined : pasted (pasted s.cells (y * w) (take x row)) (y * w + length (take x row)) (replicate n blank_cell) ≡ pasted s.cells (y * w) (take x row ++ replicate n blank_cell) = pasted_then s.cells (y * w) (take x row) (replicate n blank_cell) (omega (arith, m, length-replicate n blank_cell, long, below, le)) in
+    record {
+      to = p.to;
+      count = r.count + p.count;
+      leads = leads_then first mid new s r.to p.to r.count p.count (r.count + p.count) r.leads p.leads refl;
+      few = omega (arith, r.few, p.few);
+      cells = p.cells ∙ ap (λ z. pasted z (y * w + x) (replicate n blank_cell)) r.cells ∙ rw m at joined ∙ ap (pasted s.cells (y * w)) (sym more);
+      stands = p.stands;
+      place = p.place;
+      visible = p.visible ∙ r.visible;
+    }
+
+-- ---- blanks
+
+pub blank_run_more : (row : List Glyph) (x n : ℕ) (a : Glyph) (t : Bool) → x + n < length row → a ≡ get_or row (x + n) a → take n (drop x row) ≡ replicate n blank_cell → t ≡ same_cell a blank_cell → t ≡ true → take (n + 1) (drop x row) ≡ replicate (n + 1) blank_cell
+blank_run_more row x n a t lt is before same one =
+    let inside : n < length (drop x row) = omega (arith, length-drop x row) in
+    let there : get_or (drop x row) n a ≡ a = get_or-drop x row n a ∙ sym is in
+    take_more (drop x row) n a inside ∙ ap (λ z. take n (drop x row) ++ z ∷ []) (there ∙ one_same a blank_cell (sym same ∙ one)) ∙ ap (λ z. z ++ blank_cell ∷ []) before ∙ sym (replicate_next n blank_cell)
 
 pub kept_same : (row was : List Glyph) (x : ℕ) (a b : Glyph) → x < length row → length row ≡ length was → a ≡ get_or row x a → b ≡ get_or was x b → same_cell a b ≡ true → IsSameAt row was x
 kept_same row was x a b lt e ea eb t = λ c. any_default row x c a lt ∙ sym ea ∙ one_same a b t ∙ eb ∙ any_default was x b c (omega (arith, lt, e))

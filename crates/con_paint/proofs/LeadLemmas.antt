@@ -1,5 +1,5 @@
 -- What appended bytes lead to.
-use Rattle.std.proofs.Common.{◌≡◌, ℕ, ◌+◌, ◌-◌, ◌*◌, ◌<◌, Bool, true, false, not, ◌==◌, ◌||◌, List, [], ◌∷◌, ◌++◌, fold, max, min, get_or, refl, sym, ap, ◌∙◌, append_assoc, arith}
+use Rattle.std.proofs.Common.{◌≡◌, ℕ, ◌+◌, ◌-◌, ◌*◌, ◌<◌, ◌≤◌, Bool, true, false, not, ◌==◌, ◌||◌, List, [], ◌∷◌, ◌++◌, fold, max, min, get_or, refl, sym, ap, ◌∙◌, append_assoc, arith}
 use Rattle.std.specs.Prelude.{nat_lt}
 use Rattle.std.proofs.lemmas.List.Sums.{fold-append}
 use Rattle.std.proofs.lemmas.Bool.Decides.{nat_tests}
@@ -119,6 +119,16 @@ chooses_none old before a s p e = let same : s.pen ≡ pen_for a = p ∙ ap pen_
 pub erases_row : (old new : List ℕ) (s : Page) → new ≡ old ++ (0x1B ∷ 0x5B ∷ 0x4B ∷ []) → Leads old new s (unpended (erased s (place s) (row_end s))) (s.w - s.x)
 unfolding effect plain_effect line_erased cost plain_cost sixteen
 erases_row old new s e = leads_one old new _ (Csi (csi [] 0x4B)) s _ (s.w - s.x) e erase_row_spells refl refl
+
+pub erases_some : (old new : List ℕ) (n : ℕ) (s : Page) → n < 1000 → 0 < n → s.x + n ≤ s.w → new ≡ old ++ csi_bytes (count_numbers n) 0x58 → Leads old new s (unpended (erased s (place s) (place s + n))) n
+unfolding effect plain_effect cost plain_cost
+erases_some old new n s small some fits e =
+    let one : max n 1 ≡ n = omega arith in
+    let m : max (get_or (sixteen (count_numbers n)) 0 0) 1 ≡ n = counts n some ∙ one in
+    let upto : min (s.y * s.w + s.x + n) (s.y * s.w + s.w) ≡ s.y * s.w + s.x + n = omega (arith, fits) in
+    let few : min n (s.w - s.x) ≡ n = omega (arith, fits) in
+    leads_one old new (csi_bytes (count_numbers n) 0x58) (Csi (csi (count_numbers n) 0x58)) s _ n e (csi_spells (count_numbers n) 0x58 (one_small (not (n == 1)) n small) (omega arith, omega arith))
+    (ap (λ z. unpended (erased s (place s) (min (place s + z) (row_end s)))) m ∙ ap (λ z. unpended (erased s (place s) z)) upto) (ap (λ z. min z (s.w - s.x)) m ∙ few)
 
 pub erases_rest : (old new : List ℕ) (s : Page) → new ≡ old ++ (0x1B ∷ 0x5B ∷ 0x4A ∷ []) → Leads old new s (unpended (erased s (place s) (s.h * s.w))) (s.h * s.w - place s)
 unfolding effect plain_effect display_erased cost plain_cost sixteen

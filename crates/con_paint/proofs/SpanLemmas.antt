@@ -141,7 +141,7 @@ span_erased now row from upto e order ends front back =
 
 -- ---- the bytes of a row
 
-small_pen : IsPen (pen_for (plain 7))
+pub small_pen : IsPen (pen_for (plain 7))
 small_pen = record { foreground = omega arith; background = omega arith; fore = tt; back = tt }
 
 -- the page behind the end of a row

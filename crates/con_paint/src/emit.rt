@@ -215,6 +215,17 @@ pub(crate) fn erase_row(out: &mut Vec<u8>)
     append(out, b"\x1B[K");
 }
 
+/// Erases n cells from the cursor on, in its row.
+pub(crate) fn erase_some(out: &mut Vec<u8>, n: u16)
+    requires few { (n < 1000) × (0 < n) }
+    requires room { vec_len out.old + 7 ≤ vec_capacity out.old }
+    ensures leads { (s : Page) → s.x + n ≤ s.w → Leads out.old.items out.new.items s (unpended (erased s (place s) (place s + n))) n }
+    ensures capacity { vec_capacity out.new ≡ vec_capacity out.old }
+    ensures few { vec_len out.new ≤ vec_len out.old + 7 }
+{
+    count_bytes(out, n, 0x58);
+}
+
 /// Erases from the cursor to the end of the page.
 pub(crate) fn erase_rest(out: &mut Vec<u8>)
     requires room { vec_len out.old + 3 ≤ vec_capacity out.old }

@@ -243,6 +243,58 @@ fn place_behind_a_doubted_width(rt: HostRuntime) -> Result<(), Fail> {
     Ok(())
 }
 
+const WIDE: Size = Size { w: 20, h: 1 };
+
+// A view of a row of 20 cells, with the cursor in its first column.
+fn wide_view(rt: &impl Abort, alloc: Global, text: &[u8]) -> Result<View, OutOfMemory>
+    ensures { IfOk result (λ v. IsWhole v × (v.size.w ≡ 20) × (v.size.h ≡ 1)) }
+{
+    let mut rows = Vec::new(alloc);
+    for byte in text {
+        let Ok(()) = rows.push(Cell::new(*byte as u16, Attr::of(7))) else {
+            return Err(OutOfMemory);
+        };
+    }
+    assert!(rt; rows.len() == 20);
+    Ok(View {
+        size: WIDE,
+        rows: Rows(rows),
+        cursor: Coord { x: 0, y: 0 },
+        visible: true,
+    })
+}
+
+// The bytes of the second of two frames of one row, ESC as ^.
+fn second_frame(alloc: Global, first: &View, second: &View) -> Result<String, Fail>
+    requires first { IsWhole first.now × (first.now.size.w ≡ 20) × (first.now.size.h ≡ 1) }
+    requires second { IsWhole second.now × (second.now.size.w ≡ 20) × (second.now.size.h ≡ 1) }
+{
+    let mut painter = Painter::new(alloc, WIDE)?;
+    let marks = Marks(Vec::from_elem(alloc, true, 1)?);
+    let mut out = Vec::with_capacity(alloc, room_for(WIDE))?;
+    painter.paint(first, &marks, &mut out);
+    let mut out = Vec::with_capacity(alloc, room_for(WIDE))?;
+    painter.paint(second, &marks, &mut out);
+    let mut text = String::new(alloc);
+    for byte in &out {
+        text.push(if *byte == 0x1B { '^' } else { *byte as char })?;
+    }
+    Ok(text)
+}
+
+// Twelve blanks are erased by one sequence, at the end of what differs and before a cell that does.
+#[test]
+fn blanks_within_a_row(rt: HostRuntime) -> Result<(), Fail> {
+    let first = wide_view(&rt, rt.alloc(), b"abcdefghijklmnopqrst")?;
+    let second = wide_view(&rt, rt.alloc(), b"ab            opqrst")?;
+    let text = second_frame(rt.alloc(), &first, &second)?;
+    assert_eq!(rt; text.as_str(), "^[2C^[12X\r");
+    let second = wide_view(&rt, rt.alloc(), b"ab            opqrsX")?;
+    let text = second_frame(rt.alloc(), &first, &second)?;
+    assert_eq!(rt; text.as_str(), "^[2C^[12X^[17CX^[H");
+    Ok(())
+}
+
 // Index 196 on black, the same on index 21, and index 124 with its intensity set on black.
 #[tactic(auto, unfolding(con_units::specs::Shade::near))]
 fn red() -> Attr {
