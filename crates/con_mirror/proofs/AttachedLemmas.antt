@@ -1,5 +1,6 @@
 -- A terminal that is attached, behind a frame of it.
-use Rattle.std.proofs.Common.{◌≡◌, ℕ, ◌*◌, ◌<◌, Bool, true, false, List, length, get_or, sym, ap, ◌∙◌, subst, arith}
+use Rattle.std.proofs.Common.{◌≡◌, ℕ, ◌+◌, ◌*◌, ◌<◌, Bool, true, false, List, length, drop, get_or, Option, None, Some, refl, sym, ap, ◌∙◌, subst, arith}
+use Rattle.std.specs.Prelude.{IfSome}
 use Rattle.con_units.specs.Glyph.{Glyph}
 use Rattle.con_units.specs.Limits.{IsWindow}
 use Rattle.con_units.specs.View.{IsWhole, row_of}
@@ -8,11 +9,13 @@ use Rattle.con_units.specs.declared.place.Size.{Size}
 use Rattle.con_units.specs.declared.view.View.{View}
 use Rattle.con_term.specs.Terminal.{Terminal}
 use Rattle.con_paint.specs.Painter.{Kept, Allows, IsShown, Paints, unpainted}
-use Rattle.con_mirror.specs.Part.{part}
+use Rattle.con_mirror.specs.Part.{left_of, padded, part, part_row, part_rows, top_of}
 use Rattle.con_mirror.specs.PartLaws.{part_is_whole}
-use Rattle.con_mirror.specs.Inside.{IsAttached}
-use Rattle.con_mirror.specs.Mirror.{Mirrored, size_in}
+use Rattle.con_mirror.specs.Inside.{IsAttached, IsGiven, IsSince, given_in}
+use Rattle.con_mirror.specs.Mirror.{AreSince, Mirrored, size_in}
 use Rattle.con_mirror.specs.declared.attached.Attached.{Attached}
+use Rattle.con_mirror.specs.declared.attached.Given.{Given}
+use Rattle.con_mirror.proofs.RowLemmas.{part_row_of}
 
 size_is : (a : Attached) → IsAttached a → a.shown.size ≡ size_in a.painter
 size_is a k = λ i. record { w = k.wide i; h = k.high i }
@@ -24,9 +27,11 @@ pub whole_part : (a : Attached) (v shown : View) → IsAttached a → shown ≡ 
 whole_part a v shown k e = let P : View → Type 0 = λ z. IsWhole z in
     subst P (sym (part_is a v shown k e)) (part_is_whole v (size_in a.painter) k.window.some_columns k.window.some_rows)
 
-pub attached_on : (a : Attached) (v shown : View) (after : Kept) (marks : List Bool) → IsAttached a → shown ≡ part v a.shown.size → after.w ≡ a.painter.w → after.h ≡ a.painter.h
-    → length marks ≡ a.shown.size.h → IsShown after shown → IsAttached (record { painter = after; shown = shown; marks = marks })
-attached_on a v shown after marks k e w t count is_shown =
+pub attached_on : (a : Attached) (v shown : View) (after : Kept) (marks : List Bool) (g : Given) → IsAttached a → shown ≡ part v a.shown.size → after.w ≡ a.painter.w → after.h ≡ a.painter.h
+    → length marks ≡ a.shown.size.h → IsShown after shown → g.view.value ≡ v → g.corner.left ≡ left_of v a.shown.size.w → g.corner.top ≡ top_of v a.shown.size.h
+    → IsAttached (record { painter = after; shown = shown; marks = marks; given = Some g })
+attached_on a v shown after marks g k e w t count is_shown value left top =
+    let size : shown.size ≡ a.shown.size = ap (λ (z : View). z.size) e in
     let is = part_is a v shown k e in
     let wide : shown.size.w ≡ after.w = ap (λ (z : View). z.size.w) is ∙ sym w in
     let high : shown.size.h ≡ after.h = ap (λ (z : View). z.size.h) is ∙ sym t in
@@ -39,7 +44,33 @@ attached_on a v shown after marks k e w t count is_shown =
       cells = whole.cells ∙ (ap (λ (x : ℕ). x * shown.size.w) high ∙ ap (λ (x : ℕ). after.h * x) wide);
       marks = count ∙ k.high ∙ sym t;
       same = λ known. is_shown.cells;
+      given' = record {
+        shown = e ∙ ap (λ (z : Size). part v z) (sym size) ∙ ap (λ (z : View). part z shown.size) (sym value);
+        left = left ∙ ap (λ (z : Size). left_of v z.w) (sym size) ∙ ap (λ (z : View). left_of z shown.size.w) (sym value);
+        top = top ∙ ap (λ (z : Size). top_of v z.h) (sym size) ∙ ap (λ (z : View). top_of z shown.size.h) (sym value);
+      };
     }
+
+-- a row without a mark, where the part begins where the one before did
+since_given : (a : Attached) (g : Given) (v : View) (marks : List Bool) (left top : ℕ) → IsGiven a g → AreSince (Some g.view.value) v marks → g.corner.left ≡ left → g.corner.top ≡ top
+    → (k : ℕ) → k < a.shown.size.h → top + k < length marks → get_or marks (top + k) false ≡ false → part_row v left a.shown.size.w (top + k) ≡ row_of a.shown.size.w a.shown.rows k
+since_given a g v marks left top is since l t k low inside unmarked =
+    let last = g.view.value in
+    let w = a.shown.size.w in
+    let h = a.shown.size.h in
+    let y : ℕ = top + k in
+    let P : ℕ → Type 0 = λ n. y < n in
+    let same = since.same last refl y (subst P since.count inside) unmarked in
+    let row : row_of v.size.w v.rows y ≡ row_of last.size.w last.rows y = same.1 ∙ ap (λ (n : ℕ). row_of n last.rows y) (sym same.0) in
+    let rows : a.shown.rows ≡ part_rows last left top w h =
+    ap (λ (z : View). z.rows) is.shown ∙ ap (λ (n : ℕ). part_rows last n (top_of last h) w h) (sym is.left ∙ l) ∙ ap (λ (n : ℕ). part_rows last left n w h) (sym is.top ∙ t) in
+    ap (λ (xs : List Glyph). padded w (drop left xs)) row ∙ sym (part_row_of last left top w h k low) ∙ ap (λ (xs : List Glyph). row_of w xs k) (sym rows)
+
+pub since_by : (a : Attached) (given : Option Given) (v : View) (marks : List Bool) (left top : ℕ) (stays : Bool) → IfSome given (λ g. IsGiven a g) → AreSince (given_in given) v marks
+    → (stays ≡ true → ¬ (given ≡ None)) → IfSome given (λ g. stays ≡ true → (g.corner.left ≡ left) × (g.corner.top ≡ top))
+    → IsSince v marks left top a.shown.size.w a.shown.size.h stays a.shown.rows
+since_by a None v marks left top stays is since some at = λ on. absurd (some on refl)
+since_by a (Some g) v marks left top stays is since some at = λ on k low inside unmarked. let c = at on in since_given a g v marks left top is since c.0 c.1 k low inside unmarked
 
 pub mirrors : (a : Attached) (v shown : View) (after : Kept) (bytes : List ℕ) → IsAttached a → shown ≡ part v a.shown.size
     → after.w ≡ a.painter.w → after.h ≡ a.painter.h
@@ -77,7 +108,7 @@ marks_count a marks k count = count ∙ k.high
 
 -- a terminal of which nothing is known
 pub attached_anew : (p : Kept) (size : Size) (rows : List Glyph) (marks : List Bool) (c : Coord) → IsWindow size.w size.h → p ≡ unpainted size.w size.h → length rows ≡ size.h * size.w → length marks ≡ size.h
-    → IsAttached (record { painter = p; shown = record { size = size; rows = rows; cursor = c; visible = false }; marks = marks })
+    → IsAttached (record { painter = p; shown = record { size = size; rows = rows; cursor = c; visible = false }; marks = marks; given = None })
 attached_anew p size rows marks c window is long count =
     let wide : size.w ≡ p.w = ap (λ (q : Kept). q.w) (sym is) in
     let high : size.h ≡ p.h = ap (λ (q : Kept). q.h) (sym is) in
@@ -90,4 +121,5 @@ attached_anew p size rows marks c window is long count =
       cells = long ∙ (ap (λ (x : ℕ). x * size.w) high ∙ ap (λ (x : ℕ). p.h * x) wide);
       marks = count ∙ high;
       same = λ known. absurd (let no : false ≡ true = sym unknown ∙ known in cc);
+      given' = tt;
     }

@@ -1,5 +1,5 @@
 -- Rows of a part, cell by cell and row by row.
-use Rattle.std.proofs.Common.{◌≡◌, ℕ, zero, suc, ◌+◌, ◌-◌, ◌*◌, ◌<◌, ◌≤◌, Bool, false, List, [], ◌∷◌, ◌++◌, length, take, drop, get_or, replicate, inl, inr, refl, sym, ap, subst, ◌∙◌, append_assoc, arith, length-append, length-drop}
+use Rattle.std.proofs.Common.{◌≡◌, ℕ, zero, suc, ◌+◌, ◌-◌, ◌*◌, ◌<◌, ◌≤◌, Bool, true, false, List, [], ◌∷◌, ◌++◌, length, take, drop, get_or, replicate, inl, inr, refl, sym, ap, subst, ◌∙◌, append_assoc, arith, length-append, length-drop}
 use Rattle.std.proofs.lemmas.List.{drop-take, drop-drop, take_at, drop_at, take_more, take_all, take_rest, length-set, get_or-set_same, get_or-set_other, take-append-drop, take-append-le, drop-append-le, length-take-le}
 use Rattle.std.proofs.Math.Seq.{take-append-add, drop-append_seam}
 use Rattle.std.proofs.lemmas.Grind.{replicate_next}
@@ -11,6 +11,7 @@ use Rattle.std.proofs.lemmas.List.Edits.{paste_more}
 use Rattle.con_units.specs.Glyph.{Glyph, blank_cell}
 use Rattle.con_units.specs.View.{row_of}
 use Rattle.con_units.specs.declared.view.View.{View}
+use Rattle.con_mirror.specs.Inside.{IsSince}
 use Rattle.con_mirror.specs.Part.{padded, part_row, part_rows}
 use Rattle.con_mirror.specs.PartLaws.{length-part_rows, length-padded, padded_at}
 
@@ -158,6 +159,13 @@ pub record Renewed (v : View) (left top w y : ℕ) (now old : List Glyph) (marks
 -- behind them nothing changed
 rest_same : (v : View) (left top w y : ℕ) (cells old : List Glyph) → cells ≡ part_rows v left top w y ++ drop (y * w) old → drop (y * w) cells ≡ drop (y * w) old
 rest_same v left top w y cells old e = ap (λ (xs : List Glyph). drop (y * w) xs) e ∙ drop_at (part_rows v left top w y) (drop (y * w) old) (y * w) (length-part_rows v left top w y)
+
+-- a row that is not looked at stands there
+pub renewed_stands : (v : View) (since : List Bool) (left top w h y : ℕ) (stays wanted : Bool) (cells old : List Glyph) (marks : List Bool) → y < h → IsSince v since left top w h stays old
+    → (wanted ≡ false → (stays ≡ true) × (top + y < length since) × (get_or since (top + y) false ≡ false)) → Renewed v left top w y cells old marks h → wanted ≡ false
+    → part_row v left w (top + y) ≡ take w (drop (y * w) cells)
+renewed_stands v since left top w h y stays wanted cells old marks below is tells k off =
+    let t = tells off in is t.0 y below t.1 t.2 ∙ ap (λ (xs : List Glyph). take w xs) (sym (rest_same v left top w y cells old k.cells))
 
 pub renewed_room : (v : View) (left top w h y : ℕ) (cells old : List Glyph) (marks : List Bool) → y < h → length old ≡ h * w → Renewed v left top w y cells old marks h → y * w + w ≤ length cells
 renewed_room v left top w h y cells old marks below long k =

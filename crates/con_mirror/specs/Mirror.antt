@@ -1,10 +1,21 @@
--- A mirror as contracts see it: what its painter keeps, where a terminal is attached.
-use Rattle.std.specs.Prelude.{◌≡◌, ℕ, ◌+◌, ◌≤◌, List, Option, Some, None}
+-- A mirror as contracts see it: what its painter keeps, where a terminal is attached, and the view that was given last.
+use Rattle.std.specs.Prelude.{◌≡◌, ℕ, ◌+◌, ◌<◌, ◌≤◌, Bool, false, List, length, slice_index_or, Option, Some, None}
+use Rattle.con_units.specs.View.{row_of}
 use Rattle.con_units.specs.declared.place.Size.{Size}
 use Rattle.con_units.specs.declared.view.View.{View}
 use Rattle.con_term.specs.Terminal.{Terminal}
 use Rattle.con_paint.specs.Painter.{Kept, Allows, IsShown, Paints, frame_room}
 use Rattle.con_mirror.specs.Part.{part}
+
+-- what the painter keeps, where a terminal is attached, and the view that was given last since it was
+pub record Following : Type 0 where
+  pub kept : Option Kept
+  pub given : Option View
+
+-- A mark for each row of a view. One without is as it was in the view that was given last.
+pub record AreSince (given : Option View) (v : View) (marks : List Bool) : Type 0 where
+  pub count : length marks ≡ v.size.h
+  pub same : (last : View) → given ≡ Some last → (y : ℕ) → y < v.size.h → slice_index_or marks y false ≡ false → (last.size.w ≡ v.size.w) × (row_of v.size.w v.rows y ≡ row_of v.size.w last.rows y)
 
 -- the size of a painter's terminal
 abbrev pub size_in : Kept → Size

@@ -4,9 +4,17 @@ ghost use Rattle.con_units.specs.Glyph.{blank_cell};
 ghost use Rattle.con_units.specs.Limits.{IsWindow};
 ghost use Rattle.con_units.specs.Natural.{natural};
 ghost use Rattle.con_units.specs.View.{row_of, IsWhole};
-ghost use Rattle.con_mirror.specs.Part.{corner, cursor_from, padded, part, part_rows};
+ghost use Rattle.con_mirror.specs.Part.{corner, cursor_from, left_of, padded, part, part_rows, top_of};
+ghost use Rattle.con_mirror.specs.Inside.{IsSince};
 
 use con_units::{Attr, Cell, Coord, Marks, Size, View, index_of};
+
+/// Where the part of a view begins.
+#[derive(Clone, Copy)]
+pub struct Corner {
+    pub left: usize,
+    pub top: usize,
+}
 
 /// A space in white on black.
 pub(crate) fn blank() -> Cell
@@ -25,6 +33,20 @@ fn corner_of(visible: bool, at: i16, n: u16) -> usize
         index_of(at).saturating_sub(n as usize - 1)
     } else {
         0
+    }
+}
+
+/// Where the part of a view at this size begins.
+pub(crate) fn corner_in(view: &View, size: Size) -> Corner
+    requires whole { IsWhole view.now }
+    requires size { (0 < size.w) × (0 < size.h) }
+    ensures left { result.left ≡ left_of view.now size.w }
+    ensures top { result.top ≡ top_of view.now size.h }
+    ensures few { result.top ≤ 65535 }
+{
+    Corner {
+        left: corner_of(view.visible, view.cursor.x, size.w),
+        top: corner_of(view.visible, view.cursor.y, size.h),
     }
 }
 
@@ -121,26 +143,54 @@ fn renew_row(cells: &mut [Cell], at: usize, n: usize, row: &[Cell]) -> bool
     true
 }
 
-// Writes the rows of a part, where others stand there, and marks these.
+// The same of a row that may have become another one. Else it stands there.
+fn renew_if(cells: &mut [Cell], wanted: bool, at: usize, n: usize, row: &[Cell]) -> bool
+    requires room { at + n ≤ length cells.old }
+    requires stands { wanted ≡ false → padded n row.now ≡ take n (drop at cells.old) }
+    ensures cells { cells.new ≡ take at cells.old ++ (padded n row.now ++ drop (at + n) cells.old) }
+    ensures same { result ≡ false → padded n row.now ≡ take n (drop at cells.old) }
+{
+    if !wanted {
+        return false;
+    }
+    renew_row(cells, at, n, row)
+}
+
+// Whether a row of a view has to be looked at: each where the part began elsewhere, and else one with a mark, or past the view.
+fn may_differ(since: &[bool], stays: bool, y: usize) -> bool
+    ensures { result ≡ false → (stays ≡ true) × (y < length since.now) × (slice_index_or since.now y false ≡ false) }
+{
+    if !stays || y >= since.len() {
+        return true;
+    }
+    since[y]
+}
+
+// Writes the rows of a part, where others stand there, and marks these. Where the part begins where the one before did, a row of
+// the view without a mark is not looked at.
 fn renew_rows(
     cells: &mut [Cell],
     marks: &mut [bool],
     view: &View,
-    left: usize,
-    top: usize,
+    since: &[bool],
+    corner: Corner,
+    stays: bool,
     size: Size,
 )
     requires whole { IsWhole view.now }
-    requires few { top ≤ 65535 }
+    requires few { corner.top ≤ 65535 }
     requires room { length cells.old ≡ size.h * size.w }
     requires marks { length marks.old ≡ size.h }
-    ensures cells { cells.new ≡ part_rows view.now left top size.w size.h }
+    requires since { IsSince view.now since.now corner.left corner.top size.w size.h stays cells.old }
+    ensures cells { cells.new ≡ part_rows view.now corner.left corner.top size.w size.h }
     ensures count { length marks.new ≡ size.h }
     ensures same { (y : ℕ) → y < size.h → slice_index_or marks.new y false ≡ false → row_of size.w cells.new y ≡ row_of size.w cells.old y }
 {
     let w = size.w as usize;
     for y in 0..size.h as usize {
-        marks[y] = renew_row(cells, y * w, w, row_from(view, left, top + y));
+        let wanted = may_differ(since, stays, corner.top + y);
+        let row = row_from(view, corner.left, corner.top + y);
+        marks[y] = renew_if(cells, wanted, y * w, w, row);
     }
 }
 
@@ -149,15 +199,17 @@ fn renew(
     cells: &mut Vec<Cell>,
     marks: &mut Vec<bool>,
     view: &View,
-    left: usize,
-    top: usize,
+    since: &[bool],
+    corner: Corner,
+    stays: bool,
     size: Size,
 )
     requires whole { IsWhole view.now }
-    requires few { top ≤ 65535 }
+    requires few { corner.top ≤ 65535 }
     requires room { length cells.old.items ≡ size.h * size.w }
     requires marks { length marks.old.items ≡ size.h }
-    ensures cells { cells.new.items ≡ part_rows view.now left top size.w size.h }
+    requires since { IsSince view.now since.now corner.left corner.top size.w size.h stays cells.old.items }
+    ensures cells { cells.new.items ≡ part_rows view.now corner.left corner.top size.w size.h }
     ensures count { length marks.new.items ≡ size.h }
     ensures same { (y : ℕ) → y < size.h → slice_index_or marks.new.items y false ≡ false → row_of size.w cells.new.items y ≡ row_of size.w cells.old.items y }
 {
@@ -165,8 +217,9 @@ fn renew(
         cells.as_mut_slice(),
         marks.as_mut_slice(),
         view,
-        left,
-        top,
+        since,
+        corner,
+        stays,
         size,
     );
 }
@@ -186,20 +239,37 @@ fn cursor_of(view: &View, left: usize, top: usize) -> Coord
     }
 }
 
-/// Makes a view of this size, with all its cells, the part of another view, and marks its rows. One without a mark is as it was.
-pub fn put_part(shown: &mut View, marks: &mut Marks, view: &View)
+/// Makes a view of this size, with all its cells, the part of another view that begins there, and marks its rows. One without a
+/// mark is as it was. Where the part begins where the one before did, a row of that view without a mark is not looked at.
+pub(crate) fn put_part(
+    shown: &mut View,
+    marks: &mut Marks,
+    view: &View,
+    since: &Marks,
+    corner: Corner,
+    stays: bool,
+)
     requires whole { IsWhole view.now }
-    requires size { (0 < shown.old.size.w) × (0 < shown.old.size.h) }
     requires room { length shown.old.rows ≡ shown.old.size.h * shown.old.size.w }
     requires marks { length marks.old ≡ shown.old.size.h }
+    requires left { corner.left ≡ left_of view.now shown.old.size.w }
+    requires top { corner.top ≡ top_of view.now shown.old.size.h }
+    requires few { corner.top ≤ 65535 }
+    requires since { IsSince view.now since.now corner.left corner.top shown.old.size.w shown.old.size.h stays shown.old.rows }
     ensures part { shown.new ≡ part view.now shown.old.size }
     ensures count { length marks.new ≡ shown.old.size.h }
     ensures same { (y : ℕ) → y < shown.old.size.h → slice_index_or marks.new y false ≡ false → row_of shown.old.size.w shown.new.rows y ≡ row_of shown.old.size.w shown.old.rows y }
 {
     let size = shown.size;
-    let left = corner_of(view.visible, view.cursor.x, size.w);
-    let top = corner_of(view.visible, view.cursor.y, size.h);
-    renew(&mut shown.rows.0, &mut marks.0, view, left, top, size);
-    shown.cursor = cursor_of(view, left, top);
+    renew(
+        &mut shown.rows.0,
+        &mut marks.0,
+        view,
+        since.as_slice(),
+        corner,
+        stays,
+        size,
+    );
+    shown.cursor = cursor_of(view, corner.left, corner.top);
     shown.visible = view.visible;
 }

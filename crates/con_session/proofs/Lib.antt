@@ -6,3 +6,4 @@ pub mod Going
 pub mod Ending
 pub mod Mirroring
 pub mod MirrorEnding
+pub mod LastGiven

@@ -1,5 +1,6 @@
 -- The second terminal behind a history.
 use Rattle.std.specs.Prelude.{◌≡◌, ◌⊎◌, ℕ, ◌+◌, Bool, true, false, List, [], ◌∷◌, ◌++◌, length, take, Option, Some, None, Result, Ok, Err}
+use Rattle.con_units.specs.Attr.{plain}
 use Rattle.con_units.specs.declared.code.OutOfMemory.{OutOfMemory}
 use Rattle.con_units.specs.declared.place.Size.{Size}
 use Rattle.con_units.specs.declared.view.View.{View}
@@ -26,7 +27,7 @@ use Rattle.con_machine.specs.Turns.{paints}
 use Rattle.con_session.specs.Seconds.{watch, watched, seconds_of, flags_of, picked, Stays}
 use Rattle.con_session.specs.Desk.{entry}
 use Rattle.con_session.specs.Outcome.{IsOutcomeBy, last_end}
-use Rattle.con_session.specs.Painting.{Written}
+use Rattle.con_session.specs.Painting.{IsTied, Written}
 use Rattle.con_session.specs.Runs.{Painted, Matched, EachPiece, EachRun, Reaches, ShowsView, PrintsFew, joined, ends_from}
 use Rattle.con_session.specs.Sender.{LinkBy}
 use Rattle.con_session.specs.declared.desk.Picture.{Picture}
@@ -112,6 +113,29 @@ abbrev pub FollowTurn : Result Bool OutOfMemory → Option Picture → State →
 FollowTurn (Ok a) (Some p) s ended kept es end before now failed frames h = Seconded s ended kept es end before now failed frames (h ++ entry actors.Painter events.Paint ∷ [])
 FollowTurn (Ok a) None s ended kept es end before now failed frames h = Seconded s ended kept es end before now failed frames h
 FollowTurn (Err e) o s ended kept es end before now failed frames h = (size : Size) → Mirrors s frames size es before now failed true (h ++ entry actors.Painter events.Paint ∷ [])
+
+-- ---- the view that was given last
+
+-- behind a frame of the link it is the same, or a terminal was attached or detached
+abbrev pub StaysGiven : Option View → Option View → Type 0
+StaysGiven old new = (new ≡ old) ⊎ (new ≡ None)
+
+-- behind a Paint it is this view, or no terminal is attached
+abbrev pub IsGiven : View → Option View → Type 0
+IsGiven v new = (new ≡ Some v) ⊎ (new ≡ None)
+
+-- the same behind a turn of the painter
+abbrev pub GivenBehind : Option Picture → Option View → Option View → Type 0
+GivenBehind (Some p) old new = IsGiven p.view new
+GivenBehind None old new = new ≡ old
+
+-- what the painter would keep of a view at its size
+abbrev pub kept_as : View → Kept
+kept_as v = record { w = v.size.w; h = v.size.h; known = true; cells = v.rows; attr = plain 7; placed = false; x = 0; y = 0; visible = v.visible }
+
+-- it is the view that was painted last, unless nothing was painted on a terminal of this size
+abbrev pub IsFollowed : State → Option View → Type 0
+IsFollowed s given = (last : View) → given ≡ Some last → IsTied s (kept_as last)
 
 -- ---- the link, and the outcome
 

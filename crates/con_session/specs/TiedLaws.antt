@@ -76,18 +76,22 @@ tied_run s (x ∷ xs) kept l o k =
 pub tied_ran : (s t : State) (h g : List Entry) (kept : Kept) → Ran s t h g → IsTied s kept → IsTied t kept
 tied_ran s t h g kept r k = let P : State → Type 0 = λ z. IsTied z kept in subst P (sym r.state) (tied_run s r.entries kept r.legal r.others k)
 
--- behind a Paint
-pub tied_paint : (s t : State) (h g : List Entry) (rs qs : List Reply) (v : View) (fresh : Bool) (kept : Kept) → Enters s t h g rs qs actors.Painter events.Paint → Pictures v fresh s → IsShown kept v → (kept.w ≡ v.size.w) × (kept.h ≡ v.size.h) → IsTied t kept
-tied_paint s t h g rs qs v fresh kept n p shown sizes =
+-- behind a Paint, of whatever keeps the view's cells
+pub tied_cells : (s t : State) (h g : List Entry) (rs qs : List Reply) (v : View) (fresh : Bool) (kept : Kept) → Enters s t h g rs qs actors.Painter events.Paint → Pictures v fresh s → kept.known ≡ true → v.rows ≡ kept.cells → (kept.w ≡ v.size.w) × (kept.h ≡ v.size.h) → IsTied t kept
+tied_cells s t h g rs qs v fresh kept n p known cells sizes =
     let u = (step s actors.Painter events.Paint).after in
     let m = step_moves s actors.Painter events.Paint in let z = step_keeps_size s actors.Painter events.Paint in
     let P : State → Type 0 = λ y. IsTied y kept in
     subst P (sym n.state) (record {
-      known = λ e. shown.known;
-      cells = λ e. ap (λ (o : Option View). option_map (λ x. x.rows) o) (m.paints ∙ ap (λ (x : View). Some x) (sym p.view)) ∙ ap (λ (c : _). Some c) shown.cells;
+      known = λ e. known;
+      cells = λ e. ap (λ (o : Option View). option_map (λ x. x.rows) o) (m.paints ∙ ap (λ (x : View). Some x) (sym p.view)) ∙ ap (λ (c : _). Some c) cells;
       wide = λ e. sizes.0 ∙ (p.wide ∙ sym z.wide);
       high = λ e. sizes.1 ∙ (p.high ∙ sym z.high);
     })
+
+-- of the painter
+pub tied_paint : (s t : State) (h g : List Entry) (rs qs : List Reply) (v : View) (fresh : Bool) (kept : Kept) → Enters s t h g rs qs actors.Painter events.Paint → Pictures v fresh s → IsShown kept v → (kept.w ≡ v.size.w) × (kept.h ≡ v.size.h) → IsTied t kept
+tied_paint s t h g rs qs v fresh kept n p shown sizes = tied_cells s t h g rs qs v fresh kept n p shown.known shown.cells sizes
 
 -- ---- no Ask is out
 

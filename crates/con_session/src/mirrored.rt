@@ -7,7 +7,7 @@ ghost use Rattle.con_machine.specs.Rounds.{Begun};
 ghost use Rattle.con_machine.specs.Turns.{paints};
 ghost use Rattle.con_session.specs.Held.{moment};
 ghost use Rattle.con_session.specs.Painting.{IsTied};
-ghost use Rattle.con_session.specs.Second.{IsMirrorOutcome, Mirrors, Seconded};
+ghost use Rattle.con_session.specs.Second.{IsFollowed, IsMirrorOutcome, Mirrors, Seconded};
 ghost use Rattle.con_session.specs.Sender.{FailsBy};
 ghost use Rattle.con_session.specs.Solo.{GoesBy, RoundTurnBy, RoundsTurnBy, fails_at};
 ghost use Rattle.con_session.specs.Worker.{told_kind};
@@ -48,18 +48,20 @@ fn mirror_round<I: Source, O: Sink, N: Sink>(
     requires taken { stage.old.side.ended ≡ false → stage.old.reader ≤ 16777216 }
     requires served { (stage.old.desk.console.state.asked ≡ false) ⊎ (stage.old.canvas.failed ≡ true) }
     requires tied { IsTied stage.old.desk.console.state stage.old.canvas.painter }
+    requires followed { IsFollowed stage.old.desk.console.state second.old.mirror.given }
     ensures taken { IfOk result (λ _. stage.new.side.ended ≡ false → stage.new.reader ≤ 16777216) }
     ensures served { IfOk result (λ _. (stage.new.desk.console.state.asked ≡ false) ⊎ (stage.new.canvas.failed ≡ true)) }
     ensures tied { IfOk result (λ _. IsTied stage.new.desk.console.state stage.new.canvas.painter) }
+    ensures followed { IfOk result (λ _. IsFollowed stage.new.desk.console.state second.new.mirror.given) }
     ensures turn { (b : Begun) (before old was : Option (List ℕ))
         → ((f : Option ℕ) → FailsBy stage.old.canvas.failed f (paints stage.old.desk.entries.items)
         → GoesBy mirrored
-        (Seconded b.state stage.old.side.ended second.old.mirror second.old.ends.items second.old.end was
+        (Seconded b.state stage.old.side.ended second.old.mirror.kept second.old.ends.items second.old.end was
         (N.written sink.old) second.old.failed)
         (fails_at b f) scripts.now before old (moment memory stage.old seats.old (I.left link.old) (O.written term.old)))
         → (f : Option ℕ) → FailsBy stage.new.canvas.failed f (paints stage.new.desk.entries.items)
         → RoundTurnBy mirrored
-        (Seconded b.state stage.new.side.ended second.new.mirror second.new.ends.items second.new.end was
+        (Seconded b.state stage.new.side.ended second.new.mirror.kept second.new.ends.items second.new.end was
         (N.written sink.new) second.new.failed)
         (λ frames h. Mirrors b.state frames b.session.size second.new.ends.items was (N.written sink.new) second.new.failed true h)
         result (fails_at b f) scripts.now before old stage.old.desk.entries.items
@@ -101,21 +103,22 @@ fn mirror_rounds<I: Source, O: Sink, N: Sink>(
     requires taken { stage.old.side.ended ≡ false → stage.old.reader ≤ 16777216 }
     requires served { (stage.old.desk.console.state.asked ≡ false) ⊎ (stage.old.canvas.failed ≡ true) }
     requires tied { IsTied stage.old.desk.console.state stage.old.canvas.painter }
+    requires followed { IsFollowed stage.old.desk.console.state second.old.mirror.given }
     requires going { (b : Begun) × (before : Option (List ℕ)) × (old : Option (List ℕ)) × (was : Option (List ℕ))
         × ((f : Option ℕ) → FailsBy stage.old.canvas.failed f (paints stage.old.desk.entries.items)
         → GoesBy mirrored
-        (Seconded b.state stage.old.side.ended second.old.mirror second.old.ends.items second.old.end was
+        (Seconded b.state stage.old.side.ended second.old.mirror.kept second.old.ends.items second.old.end was
         (N.written sink.old) second.old.failed)
         (fails_at b f) scripts.now before old (moment memory stage.old seats.old (I.left link.old) (O.written term.old))) }
     ensures turn { (b : Begun) (before old was : Option (List ℕ))
         → ((f : Option ℕ) → FailsBy stage.old.canvas.failed f (paints stage.old.desk.entries.items)
         → GoesBy mirrored
-        (Seconded b.state stage.old.side.ended second.old.mirror second.old.ends.items second.old.end was
+        (Seconded b.state stage.old.side.ended second.old.mirror.kept second.old.ends.items second.old.end was
         (N.written sink.old) second.old.failed)
         (fails_at b f) scripts.now before old (moment memory stage.old seats.old (I.left link.old) (O.written term.old)))
         → (f : Option ℕ) → FailsBy stage.new.canvas.failed f (paints stage.new.desk.entries.items)
         → RoundsTurnBy mirrored
-        (Seconded b.state stage.new.side.ended second.new.mirror second.new.ends.items second.new.end was
+        (Seconded b.state stage.new.side.ended second.new.mirror.kept second.new.ends.items second.new.end was
         (N.written sink.new) second.new.failed)
         (λ frames h. Mirrors b.state frames b.session.size second.new.ends.items was (N.written sink.new) second.new.failed true h)
         result (fails_at b f) scripts.now before old
@@ -133,7 +136,8 @@ fn mirror_rounds<I: Source, O: Sink, N: Sink>(
 
 // A second terminal at a session's beginning: none is attached.
 fn none_attached(alloc: Global) -> Second
-    ensures mirror { result.mirror ≡ None }
+    ensures mirror { result.mirror.kept ≡ None }
+    ensures given { result.mirror.given ≡ None }
     ensures ends { (result.ends.items ≡ []) × (result.end ≡ 0) }
     ensures failed { result.failed ≡ false }
 {

@@ -1,5 +1,5 @@
 //! The painter's turn: a Paint, its frame, and the frame's bytes to the terminal.
-ghost use Rattle.std.specs.Prelude.{◌≡◌, ◌⊎◌, ℕ, ◌+◌, ◌<◌, ◌≤◌, true, false, Bool, List, length, slice_index_or, IfOk, Option, if◌then◌else◌};
+ghost use Rattle.std.specs.Prelude.{◌≡◌, ◌⊎◌, ℕ, ◌+◌, ◌<◌, ◌≤◌, true, false, Bool, List, length, slice_index_or, IfOk, IfSome, Option, if◌then◌else◌};
 ghost use Rattle.con_units.specs.Limits.{IsWindow};
 ghost use Rattle.con_units.specs.View.{IsWhole, row_of};
 ghost use Rattle.con_units.specs.declared.place.Size.{Size};
@@ -7,6 +7,7 @@ ghost use Rattle.con_outside.specs.Outside.{Rose};
 ghost use Rattle.con_term.specs.Terminal.{Terminal};
 ghost use Rattle.con_paint.specs.Painter.{Allows, IsShown, Paints, unpainted};
 ghost use Rattle.con_machine.specs.History.{run};
+ghost use Rattle.con_machine.specs.Marks.{AreMarks};
 ghost use Rattle.con_machine.specs.Rounds.{Begun};
 ghost use Rattle.con_machine.specs.Turns.{paints};
 ghost use Rattle.con_session.specs.Painting.{CanvasIs, IsTied, PainterActs, PainterFails, PaintTurn, Pictured, acted};
@@ -90,6 +91,7 @@ pub fn painted<O: Sink>(
 ) -> Result<Option<Picture>, OutOfMemory>
     requires { IsTied desk.old.console.state canvas.old.painter }
     ensures pictured { Pictured result desk.old.console.state desk.new.console.state desk.old.entries.items desk.new.entries.items desk.old.replies.items desk.new.replies.items }
+    ensures marks { IfOk result (λ o. IfSome o (λ p. AreMarks desk.old.console.state p.marks)) }
     ensures acts { (b : Begun) → desk.old.console.state ≡ run b.state desk.old.entries.items → FailsBy canvas.old.failed b.failed (paints desk.old.entries.items) → PainterActs (acted result) b desk.old.entries.items }
     ensures served { IfOk result (λ _. (desk.new.console.state.asked ≡ false) ⊎ (canvas.new.failed ≡ true)) }
     ensures tied { IfOk result (λ _. IsTied desk.new.console.state canvas.new.painter) }

@@ -1,5 +1,5 @@
 //! Callers that know a mirror by its clauses alone.
-ghost use Rattle.std.specs.Prelude.{◌≡◌, false, length, drop, IfOk, None};
+ghost use Rattle.std.specs.Prelude.{◌≡◌, false, length, drop, IfOk, None, Some};
 ghost use Rattle.con_units.specs.Limits.{IsWindow};
 ghost use Rattle.con_units.specs.View.{IsWhole};
 ghost use Rattle.con_term.specs.Play.{play};
@@ -9,35 +9,46 @@ ghost use Rattle.con_mirror.specs.Part.{part};
 
 use con_mirror::Mirror;
 use con_paint::room_for;
-use con_units::{OutOfMemory, Size, View};
+use con_units::{Marks, OutOfMemory, Size, View};
 
-/// Attaches a terminal and shows it a view: whatever terminal of that size it is, it shows the part then.
+/// Attaches a terminal and shows it a view, whatever rows have marks: whatever terminal of that size it is, it shows the part then.
 pub fn attach_and_show(
     mirror: &mut Mirror,
     size: Size,
     view: &View,
+    marks: &Marks,
     out: &mut Vec<u8>,
 ) -> Result<(), OutOfMemory>
     requires window { IsWindow size.w size.h }
     requires view { IsWhole view.now }
+    requires marks { length marks.now ≡ view.now.size.h }
     ensures shows { IfOk result (λ _. (t : Terminal) → IsTerminal size.w size.h t
         → Shows (play t (drop (length out.old.items) out.new.items)) (part view.now size)) }
-    ensures shown { IfOk result (λ _. WasMirrored mirror.new view.now) }
+    ensures shown { IfOk result (λ _. WasMirrored mirror.new.kept view.now) }
+    ensures given { IfOk result (λ _. mirror.new.given ≡ Some view.now) }
 {
     if out.reserve(room_for(size)).is_err() {
         return Err(OutOfMemory);
     }
     mirror.attach(size)?;
-    mirror.paint(view, out);
+    mirror.paint(view, marks, out);
     Ok(())
 }
 
-/// Shows a view that is shown already, which takes no byte.
-pub fn show_again(mirror: &mut Mirror, view: &View, out: &mut Vec<u8>) -> Result<(), OutOfMemory>
+/// Shows a view that is shown already, which takes no byte, whatever rows have marks.
+pub fn show_again(
+    mirror: &mut Mirror,
+    view: &View,
+    marks: &Marks,
+    out: &mut Vec<u8>,
+) -> Result<(), OutOfMemory>
     requires view { IsWhole view.now }
-    requires shown { WasMirrored mirror.old view.now }
+    requires given { mirror.old.given ≡ Some view.now }
+    requires marks { length marks.now ≡ view.now.size.h }
+    requires shown { WasMirrored mirror.old.kept view.now }
     ensures quiet { out.new.items ≡ out.old.items }
-    ensures shown { WasMirrored mirror.new view.now }
+    ensures shown { WasMirrored mirror.new.kept view.now }
+    ensures given { mirror.new.given ≡ Some view.now }
 {
     let Some(size) = mirror.size() else {
         return Ok(());
@@ -45,7 +56,7 @@ pub fn show_again(mirror: &mut Mirror, view: &View, out: &mut Vec<u8>) -> Result
     if out.reserve(room_for(size)).is_err() {
         return Err(OutOfMemory);
     }
-    mirror.paint(view, out);
+    mirror.paint(view, marks, out);
     Ok(())
 }
 

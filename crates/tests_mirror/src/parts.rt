@@ -1,12 +1,12 @@
 //! Parts, and terminals that play their frames.
-ghost use Rattle.std.specs.Prelude.{◌≡◌, IfOk};
+ghost use Rattle.std.specs.Prelude.{◌≡◌, length, IfOk};
 ghost use Rattle.con_units.specs.Limits.{IsWindow};
 ghost use Rattle.con_units.specs.View.{IsWhole};
 
 use crate::callers::{attach_and_show, show_again};
 use con_mirror::Mirror;
 use con_term::Terminal;
-use con_units::{Attr, Cell, Coord, OutOfMemory, Rows, Size, View};
+use con_units::{Attr, Cell, Coord, Marks, OutOfMemory, Rows, Size, View};
 use std::alloc::Global;
 use std::process::Abort;
 use std::test::Fail;
@@ -36,8 +36,18 @@ fn view(
     })
 }
 
-// Attaches a terminal of this size, full of another text in other colours, and appends what it shows behind a frame of the view.
-// A second frame of the view has no byte.
+// Marks for the rows of a view.
+fn marks(alloc: Global, mark: bool, view: &View) -> Result<Marks, OutOfMemory>
+    ensures { IfOk result (λ marks. length marks ≡ view.now.size.h) }
+{
+    match Vec::from_elem(alloc, mark, view.size.h as usize) {
+        Ok(marks) => Ok(Marks(marks)),
+        Err(_) => Err(OutOfMemory),
+    }
+}
+
+// Attaches a terminal of this size, full of another text in other colours, and appends what it shows behind a frame of the view,
+// in which no row needs a mark. A second frame of the view has no byte, whether its rows have marks or not.
 fn show(
     alloc: Global,
     mirror: &mut Mirror,
@@ -51,9 +61,12 @@ fn show(
     let mut terminal = Terminal::new(alloc, size)?;
     terminal.play_all(b"\x1b[41;97mzzzzzzzzzzzz\x1b[?25l");
     let mut out = Vec::new(alloc);
-    attach_and_show(mirror, size, view, &mut out)?;
+    let none = marks(alloc, false, view)?;
+    let all = marks(alloc, true, view)?;
+    attach_and_show(mirror, size, view, &none, &mut out)?;
     let n = out.len();
-    show_again(mirror, view, &mut out)?;
+    show_again(mirror, view, &none, &mut out)?;
+    show_again(mirror, view, &all, &mut out)?;
     terminal.play_all(out.as_slice());
     if out.len() != n {
         text.push('+')?;

@@ -3,6 +3,7 @@ use Rattle.con_link.specs.Reading.{mirrored}
 use Rattle.con_session.specs.Second.{Seconded}
 use Rattle.con_session.specs.OpeningLaws.{all_follow}
 use Rattle.con_session.specs.TiedLaws.{tied_ran}
+use Rattle.con_session.proofs.LastGiven.{followed_paint, followed_ran, followed_still, pictured_since}
 use Rattle.con_session.proofs.Going.{followed_err, round_ok, round_err, sent_err, entered_err, painted_err}
 use Rattle.con_session.proofs.Mirroring.{Lacks, acts_some, closed_by, ends_by, fails_some, followed_by, followed_none, paint_some, past_by, pictured_whole}
 use Rattle.con_session.proofs.mirrored.mirror_round.Goals as goal
@@ -10,8 +11,16 @@ use Rattle.con_session.proofs.mirrored.mirror_round.Goals as goal
 pub painted-requires : goal.painted-requires
 painted-requires g c = tied_ran _ _ _ _ _ c.in_ok-entered.ensures.ran (tied_ran _ _ _ _ _ c.in_ok-sent.ensures.ran c.requires.tied)
 
-pub followed-requires : goal.followed-requires
-followed-requires g c = pictured_whole _ _ _ _ _ _ _ c.in_ok-shown.ensures.pictured
+pub followed-requires-clause-view : goal.followed-requires-clause-view
+followed-requires-clause-view g c = pictured_whole _ _ _ _ _ _ _ c.in_ok-shown.ensures.pictured
+
+pub followed-requires-clause-marks : goal.followed-requires-clause-marks
+followed-requires-clause-marks g c = pictured_since _ _ _ _ _ _ _ _
+    (followed_ran _ _ _ _ _ c.in_ok-entered.ensures.ran (followed_ran _ _ _ _ _ c.in_ok-sent.ensures.ran (followed_still _ _ _ c.in_ok-sent.ensures.given c.requires.followed))) c.in_ok-shown.ensures.pictured c.in_ok-shown.ensures.marks
+
+pub returns-clause-followed : goal.returns-clause-followed
+returns-clause-followed g c = followed_paint c.in_ok-shown.shown _ _ _ _ _ _ _ _
+    (followed_ran _ _ _ _ _ c.in_ok-entered.ensures.ran (followed_ran _ _ _ _ _ c.in_ok-sent.ensures.ran (followed_still _ _ _ c.in_ok-sent.ensures.given c.requires.followed))) c.in_ok-shown.ensures.pictured c.in_ok-painted.ensures.given
 
 pub returns-in_err-sent-clause-turn : goal.returns-in_err-sent-clause-turn
 returns-in_err-sent-clause-turn g c = λ b before old was all f k. round_err mirrored _ _ _ _ _ _ _ _ _ c.from_residual.ensures.0

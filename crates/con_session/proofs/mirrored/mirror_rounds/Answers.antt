@@ -16,6 +16,7 @@ loop-preserved g c = record {
   taken = c.in_ok-mirror_round.ensures.taken;
   served = c.in_ok-mirror_round.ensures.served;
   tied = c.in_ok-mirror_round.ensures.tied;
+  followed = c.in_ok-mirror_round.ensures.followed;
   going = (
     c.loop.invariant.going.0,
     c.loop.invariant.going.1,

@@ -4,6 +4,7 @@ use Rattle.con_session.specs.Solo.{begins}
 use Rattle.con_session.specs.declared.solo.Outcome.{Outcome}
 use Rattle.con_session.specs.declared.terminal.Side.{Side}
 use Rattle.con_session.proofs.Ending.{term_by}
+use Rattle.con_session.proofs.LastGiven.{followed_none}
 use Rattle.con_session.proofs.MirrorEnding.{link_cause, mirror_none, mirror_stopped, mirror_whole, no_link, no_term, none_failed, open_second}
 use Rattle.con_session.proofs.Mirroring.{cause_now}
 use Rattle.con_session.specs.OpeningLaws.{all_follow, count_of, goes_open, sizes_same}
@@ -12,6 +13,9 @@ use Rattle.con_session.proofs.mirrored.run_mirrored.Goals as goal
 pub returns-in_default-clause-outcome : goal.returns-in_default-clause-outcome
 returns-in_default-clause-outcome g c = mirror_none _ _ _ _ _ _ _ _ _ _ _ c.left_with.ensures.outcome c.nothing_left.ensures.entries c.nothing_left.ensures.replies c.nothing_left.ensures.ends c.nothing_left.ensures.end
     c.left_with.ensures.ends c.none_attached-beside.ensures.ends.0 c.left_with.ensures.failed c.none_attached-beside.ensures.failed
+
+pub mirror_rounds-requires-clause-followed : goal.mirror_rounds-requires-clause-followed
+mirror_rounds-requires-clause-followed g c = followed_none _ _ c.none_attached-beside.ensures.given
 
 pub mirror_rounds-requires-clause-going : goal.mirror_rounds-requires-clause-going
 mirror_rounds-requires-clause-going g c = (begins c.args.session.now _ None, _, _, _, λ f k. (goes_open mirrored _ _ _ _ _ c.args.session.now _ _ _ _ c.in-Ok.seats.items c.as_mut_slice.result.now _ _ _ _ _ _ _ _ _ _ c.in-Ok.ensures.state (sizes_same _ _ c.args.racks.items) c.in-Ok.ensures.entries c.in-Ok.ensures.side c.in-Ok.ensures.canvas c.in-Ok.ensures.fresh c.as_mut_slice.ensures.value c.scripts.ensures.value (open_second _ _ _ _ _ _ _ (ap (λ (z : Side). z.ended) c.in-Ok.ensures.side.0) c.none_attached-beside.ensures.mirror c.none_attached-beside.ensures.ends c.none_attached-beside.ensures.failed) f))

@@ -31,6 +31,7 @@ returns-in_err-end-clause-turn g c = λ b size before ps i k. paint_lacks b _ _ 
 pub returns-in-Ok : goal.returns-in-Ok
 returns-in-Ok g c = record {
   pictured = (c.in_ok-picture.ensures.pictures, c.in_ok-picture.ensures.whole, record { enters = c.in_ok-picture.ensures.entered; ready = sym c.if-not-ready.ensures });
+  marks = c.in_ok-picture.ensures.marks;
   served = inl (served_paint _ _ _ _ _ _ c.in_ok-picture.ensures.entered);
   tied = tied_paint _ _ _ _ _ _ c.in_ok-picture.picture.view c.in_ok-picture.picture.fresh _ c.in_ok-picture.ensures.entered c.in_ok-picture.ensures.pictures c.in_ok-draw.ensures.shown c.in_ok-draw.ensures.size;
   fails = c.if-canvas.false;
@@ -52,6 +53,7 @@ returns-in-Ok g c = record {
 pub returns-in-Err-Failed : goal.returns-in-Err-Failed
 returns-in-Err-Failed g c = record {
   pictured = (c.in_ok-picture.ensures.pictures, c.in_ok-picture.ensures.whole, record { enters = c.in_ok-picture.ensures.entered; ready = sym c.if-not-ready.ensures });
+  marks = c.in_ok-picture.ensures.marks;
   served = inl (served_paint _ _ _ _ _ _ c.in_ok-picture.ensures.entered);
   tied = tied_paint _ _ _ _ _ _ c.in_ok-picture.picture.view c.in_ok-picture.picture.fresh _ c.in_ok-picture.ensures.entered c.in_ok-picture.ensures.pictures c.in_ok-draw.ensures.shown c.in_ok-draw.ensures.size;
   fails = c.if-canvas.false;

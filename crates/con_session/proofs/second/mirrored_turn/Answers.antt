@@ -1,4 +1,4 @@
-use Rattle.std.proofs.Common.{refl}
+use Rattle.std.proofs.Common.{refl, inl}
 use Rattle.con_link.specs.Reading.{mirrored}
 use Rattle.con_events.specs.declared.event.Event.TheVariants as events
 use Rattle.con_session.specs.LinkLaws.{no_ok, sender_err}
@@ -55,10 +55,16 @@ pub returns-clause-turn : goal.returns-clause-turn
 returns-clause-turn g c = λ b f e. heard_turn _ _ _ _ b _ _ _ _ _ _ _ c.if-side.false c.if-failed.false c.requires.answered (plain_frame _ _ _ _ _ _ c.as_plain_read.ensures c.next_mirrored-read.ensures.took) c.heard.ensures.hears f e
 
 pub returns-clause-link : goal.returns-clause-link
-returns-clause-link g c = mirror_heard _ _ _ _ _ _ _ _ _ _ _ _ _ _ _ _ _ _ c.as_plain_read.ensures c.if-side.false c.heard.ensures.hears c.next_mirrored-read.ensures.took c.in_ok-attended.ensures
+returns-clause-link g c = mirror_heard _ _ _ _ _ _ _ _ _ _ _ _ _ _ _ _ _ _ c.as_plain_read.ensures c.if-side.false c.heard.ensures.hears c.next_mirrored-read.ensures.took c.in_ok-attended.ensures.kept
 
 pub returns-clause-few : goal.returns-clause-few
 returns-clause-few g c = mirror_few _ _ _ _ _ _ _ _ _ _ _ _ _ _ _ c.as_plain_read.ensures c.heard.ensures.hears c.next_mirrored-read.ensures.took
 
 pub returns-clause-failed : goal.returns-clause-failed
 returns-clause-failed g c = λ l. mirror_failed _ _ _ _ _ _ _ _ _ _ _ _ c.as_plain_read.ensures c.heard.ensures.hears c.next_mirrored-read.ensures.failed l
+
+pub returns-then-side-clause-given : goal.returns-then-side-clause-given
+returns-then-side-clause-given g c = inl refl
+
+pub returns-then-failed-clause-given : goal.returns-then-failed-clause-given
+returns-then-failed-clause-given g c = inl refl
