@@ -2,6 +2,7 @@ pub mod SeatLaws
 pub mod Hearing
 pub mod Rounding
 pub mod Turning
+pub mod Doors
 pub mod Going
 pub mod Ending
 pub mod Mirroring

@@ -11,6 +11,7 @@ use Rattle.con_handlers.specs.Memory.{Memory}
 use Rattle.con_machine.specs.Chain.{Handler}
 use Rattle.con_machine.specs.Rounds.{Begun}
 use Rattle.con_machine.specs.State.{State}
+use Rattle.con_session.specs.DoorTurns.{HasTakenBy, HasTurnedBy}
 use Rattle.con_session.specs.Opening.{AreFreshBy}
 use Rattle.con_session.specs.Seats.{AllStandBy, ClientsTurnBy}
 use Rattle.con_session.specs.Solo.{Moment}
@@ -45,6 +46,14 @@ HandsStand b p h memory hands = HandsStandBy b p h hands.places.items (in_chain 
 -- a turn of a client with its handlers
 abbrev pub HandsTurn : {X : Type 0} {V : X → Type 0} → Result Bool OutOfMemory → Begun → ℕ → State → State → List Entry → List Entry → List Reply → List Reply → List Step → Worker → Remembers X V → Hands X V → Type 0
 HandsTurn result b p s t h g rs qs steps w memory hands = HandsTurnBy result b p s t h g rs qs steps w hands.places.items (in_chain memory hands) (in_rack memory hands)
+
+-- a turn of a client at a door, with its handlers
+abbrev pub HasTurned : {X : Type 0} {V : X → Type 0} → (List Entry → Type 0) → Result Bool OutOfMemory → Begun → ℕ → List Step → List Entry → List Entry → Worker → Remembers X V → Hands X V → Type 0
+HasTurned May result b p steps h g w memory hands = HasTurnedBy May result b p steps h g w hands.places.items (in_chain memory hands) (in_rack memory hands)
+
+-- whether it took a control event, and asked its handlers
+abbrev pub HasTaken : {X : Type 0} {V : X → Type 0} → (List Entry → Type 0) → Result Bool OutOfMemory → Begun → ℕ → List Step → List Entry → List Entry → Worker → Remembers X V → Hands X V → Type 0
+HasTaken May result b p steps h g w memory hands = HasTakenBy May result b p steps h g w hands.places.items (in_chain memory hands) (in_rack memory hands)
 
 -- ---- all clients
 

@@ -4,6 +4,9 @@ pub mod Desk
 pub mod Standing
 pub mod Worker
 pub mod Seats
+-- A way to a console, and a client's turn there.
+pub mod Door
+pub mod DoorTurns
 -- The terminal's side.
 pub mod Sender
 -- The terminal: what is played on it, and what the painter claims of it.
@@ -22,6 +25,7 @@ pub mod Second
 pub mod Replying
 pub mod DeskLaws
 pub mod RanLaws
+pub mod DeskDoor
 -- a client's turns, its rack and its chain,
 pub mod RackLaws
 pub mod WorkerLaws
@@ -30,6 +34,9 @@ pub mod HandsLaws
 pub mod ChainLaws
 pub mod HandlerTurns
 pub mod StandingLaws
+pub mod DoorEntries
+pub mod DoorGoing
+pub mod DoorExact
 -- the terminal's side and its link,
 pub mod SenderLaws
 pub mod LinkedLaws

@@ -7,6 +7,7 @@ ghost use Rattle.con_machine.specs.Step.{is_ready, step};
 ghost use Rattle.con_session.specs.Desk.{brief_of, listed, is_painter, Enters, Rests, Ran};
 ghost use Rattle.con_session.specs.Painting.{Pictures};
 
+use crate::door::Door;
 use con_events::{Actor, Entry, Event, Reply};
 use con_machine::Console;
 use con_units::{Marks, OutOfMemory, View};
@@ -114,4 +115,46 @@ impl Desk {
             _ => unreachable!(),
         }
     }
+}
+
+/// Nobody enters anything in between.
+impl Door for Desk {
+    ghost use Rattle.con_machine.specs.History.{run};
+    ghost use Rattle.con_session.specs.DeskDoor.{IsNothing, Since, joins, none, others};
+
+    type Kept = Desk;
+
+    ghost history = { λ desk. desk.entries.items };
+
+    ghost stands = { λ desk kept. Since kept.console.state desk.console.state kept.entries.items desk.entries.items kept.replies.items desk.replies.items };
+
+    ghost begins = { λ kept s. kept.console.state ≡ run s kept.entries.items };
+
+    ghost serves = { λ desk actor. is_painter actor ≡ false };
+
+    ghost may_between = { λ actor xs. IsNothing xs };
+
+    fn enter(&mut self, actor: Actor, event: Event) -> Result<Brief, OutOfMemory> {
+        self.enter(actor, event)
+    }
+
+    fn enter_if_ready(&mut self, actor: Actor, event: Event) -> Result<Option<Brief>, OutOfMemory> {
+        if !self.console.ready(actor, &event) {
+            return Ok(None);
+        }
+        match self.enter(actor, event) {
+            Ok(brief) => Ok(Some(brief)),
+            Err(refused) => Err(refused),
+        }
+    }
+
+    fn check(&mut self, actor: Actor, event: &Event) -> bool {
+        self.console.ready(actor, event)
+    }
+
+    ghost none = { none };
+
+    ghost joins = { joins };
+
+    ghost others = { others };
 }

@@ -3,10 +3,12 @@
 //! A [`Desk`] is a console with the history of what was entered and how it was answered. Each actor has turns at it, and
 //! each turn one clause: it entered one event, which was ready and which is the actor's turn, or nothing.
 //!
+//! - A client has its turns at a [`Door`], a way to a console. A desk is one at which nothing is entered in between; at another one
+//!   others may enter events there, and a client's turn is the same.
 //! - A client's [`Worker`] knows how far it is in its script, and its [`Hands`] hold its chain of handlers and
-//!   what is left of its rack. [`take_ctrl`], [`collect`], [`next_step`] and [`leave`] are what it does in a turn; [`begin`],
-//!   [`call_plain`], [`call_add`] and [`call_remove`] are steps by their kinds.
-//! - A client's [`Seat`] holds both. [`client_turn`] does the first of these that there is to do, and [`clients_turn`] lets all
+//!   what is left of its rack. [`act`] is its turn at any door: the first of [`leave`], [`take_ctrl`], [`collect`] and [`next_step`] that there
+//!   is to do; [`begin`], [`call_plain`], [`call_add`] and [`call_remove`] are steps by their kinds.
+//! - A client's [`Seat`] holds both. [`client_turn`] is its turn at a desk, and [`clients_turn`] lets all
 //!   clients have their turns, in the order of their numbers.
 //! - [`terminal_turn`] enters the event of one frame of the link, or a hangup where no frame is read.
 //! - [`painter_turn`] enters a Paint and writes its frame. In every run of a terminal over these frames it shows, after each
@@ -26,6 +28,7 @@
 
 mod copying;
 mod desk;
+mod door;
 mod hands;
 mod mirrored;
 mod painting;
@@ -33,11 +36,14 @@ mod seat;
 mod second;
 mod solo;
 mod stage;
+mod step;
 mod terminal;
+mod turn;
 mod worker;
 
 pub use copying::{copied_call, copied_wanted};
 pub use desk::{Brief, Desk, Picture, as_listed, brief_for};
+pub use door::Door;
 pub use hands::Hands;
 pub use mirrored::{Mirrored, run_mirrored};
 pub use painting::{Canvas, draw, end_after, frame_length, painted, painter_turn};
@@ -45,8 +51,7 @@ pub use seat::{Seat, client_turn, clients_turn};
 pub use second::{Second, attend, follow, followed, mirrored_turn};
 pub use solo::{Outcome, nothing_left, run_solo};
 pub use stage::{Stage, begun};
+pub use step::{begin, call_add, call_plain, call_remove, next_step};
 pub use terminal::{Side, end_by_fault, ends_the_link, event_for, heard, terminal_turn};
-pub use worker::{
-    CTRL_EXIT, Worker, begin, call_add, call_plain, call_remove, collect, is_granted, leave,
-    must_leave, next_step, take_ctrl,
-};
+pub use turn::act;
+pub use worker::{CTRL_EXIT, Worker, collect, is_granted, leave, must_leave, take_ctrl};

@@ -7,8 +7,10 @@ ghost use Rattle.con_session.specs.Worker.{ClientIs};
 
 use crate::desk::Desk;
 use crate::hands::Hands;
-use crate::worker::{CTRL_EXIT, Worker, collect, leave, next_step, take_ctrl};
-use con_events::{Actor, Event, Script, Step};
+use crate::turn::act;
+use crate::worker::Worker;
+use con_events::{Script, Step};
+use con_outside::NoGate;
 use con_units::OutOfMemory;
 
 /// What a session keeps of one client.
@@ -54,16 +56,7 @@ pub fn client_turn(
     if seat.worker.gone {
         return Ok(false);
     }
-    if seat.worker.leaving {
-        return leave(desk, &mut seat.worker, steps, p, CTRL_EXIT);
-    }
-    if desk.console.ready(Actor::Client(p), &Event::TakeCtrl) {
-        return take_ctrl(desk, &mut seat.worker, &mut seat.hands, steps, p);
-    }
-    if seat.worker.reading {
-        return collect(desk, &mut seat.worker, steps, p);
-    }
-    next_step(desk, &mut seat.worker, &mut seat.hands, steps, p)
+    act(desk, &NoGate, &mut seat.worker, &mut seat.hands, steps, p)
 }
 
 /// The turns of all clients in a round, each with its script, in the order of their numbers. Whether one of them entered an event.

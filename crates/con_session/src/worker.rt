@@ -1,16 +1,16 @@
-//! A client's worker: what it enters in its turn.
-ghost use Rattle.std.specs.Prelude.{◌≡◌, ◌==◌, ◌||◌, ◌<◌, ℕ, Bool, true, false, not, List, Some, None, map, drop, length, IfOk, OnErr};
-ghost use Rattle.con_machine.specs.Client.{MayBy, next_event};
-ghost use Rattle.con_machine.specs.Rounds.{Begun, IsTurn, client_at};
-ghost use Rattle.con_machine.specs.Step.{is_ready};
-ghost use Rattle.con_session.specs.Desk.{is_refused, Ran};
-ghost use Rattle.con_session.specs.Held.{HandsStand, HandsTurn};
-ghost use Rattle.con_session.specs.Worker.{ClientIs, ClientTurn, is_handlers};
+//! A client's worker: what it enters in its turn, at any door to the console.
+ghost use Rattle.std.specs.Prelude.{◌≡◌, ◌==◌, ◌||◌, ◌<◌, ℕ, Bool, true, false, not, List, IfOk};
+ghost use Rattle.con_handlers.specs.Memory.{Memory};
+ghost use Rattle.con_machine.specs.Rounds.{Begun};
+ghost use Rattle.con_session.specs.Desk.{is_refused};
+ghost use Rattle.con_session.specs.DoorTurns.{ClientAt, HasTurnedBy, IsQuiet, MayExit};
+ghost use Rattle.con_session.specs.Held.{HandsStand, HasTaken, HasTurned};
+ghost use Rattle.con_session.specs.Worker.{HandsStandBy};
 
-use crate::copying::{copied_call, copied_wanted};
-use crate::desk::{Brief, Desk};
+use crate::desk::Brief;
+use crate::door::Door;
 use crate::hands::Hands;
-use con_events::{Actor, Call, Event, Step, Wanted};
+use con_events::{Actor, Event, Step};
 use con_units::OutOfMemory;
 
 /// The status of a process that a control event ended (`STATUS_CONTROL_C_EXIT`).
@@ -29,50 +29,54 @@ pub struct Worker {
 }
 
 /// The exit that a control event calls for, that of a step, or that behind the last one.
-pub fn leave(
-    desk: &mut Desk,
+pub fn leave<D: Door>(
+    door: &mut D,
     worker: &mut Worker,
     steps: &[Step],
     p: u8,
     status: u32,
 ) -> Result<bool, OutOfMemory>
-    ensures ran { Ran desk.old.console.state desk.new.console.state desk.old.entries.items desk.new.entries.items }
-    ensures turn { (b : Begun) → ClientIs b p desk.old.console.state desk.old.entries.items steps.now worker.old
-        → MayBy (client_at b desk.old.entries.items p).stance (client_at b desk.old.entries.items p) (Event.Exit status)
-        → IsTurn b desk.old.entries.items (Actor.Client p) (Some (Event.Exit status))
-        → ClientTurn result b p desk.old.console.state desk.new.console.state desk.old.entries.items desk.new.entries.items
-        desk.old.replies.items desk.new.replies.items steps.now worker.new }
+    requires serves { D.serves door.old (Actor.Client p) }
+    requires here { worker.old.gone ≡ false }
+    ensures serves { D.serves door.new (Actor.Client p) }
+    ensures stands { (k : D.Kept) → D.stands door.old k → D.stands door.new k }
+    ensures turned { (k : D.Kept) (b : Begun) (places : List ℕ) (ms : List Memory) (slots : List ℕ) → D.stands door.old k → D.begins k b.state
+        → ClientAt b p (D.history door.old) steps.now worker.old → HandsStandBy b p (D.history door.old) places ms slots
+        → MayExit b p (D.history door.old) status
+        → HasTurnedBy (D.may_between (Actor.Client p)) result b p steps.now (D.history door.old) (D.history door.new) worker.new places ms slots }
 {
     let _ = steps.len();
-    desk.enter(Actor::Client(p), Event::Exit(status))?;
+    door.enter(Actor::Client(p), Event::Exit(status))?;
     worker.gone = true;
     Ok(true)
 }
 
 /// The answer of its read, once that is done.
-pub fn collect(
-    desk: &mut Desk,
+pub fn collect<D: Door>(
+    door: &mut D,
     worker: &mut Worker,
     steps: &[Step],
     p: u8,
 ) -> Result<bool, OutOfMemory>
+    requires serves { D.serves door.old (Actor.Client p) }
     requires here { worker.old.gone ≡ false }
     requires stays { worker.old.leaving ≡ false }
     requires reading { worker.old.reading ≡ true }
-    requires none { is_ready desk.old.console.state (Actor.Client p) Event.TakeCtrl ≡ false }
-    ensures ran { Ran desk.old.console.state desk.new.console.state desk.old.entries.items desk.new.entries.items }
-    ensures turn { (b : Begun) → ClientIs b p desk.old.console.state desk.old.entries.items steps.now worker.old
-        → ClientTurn result b p desk.old.console.state desk.new.console.state desk.old.entries.items desk.new.entries.items
-        desk.old.replies.items desk.new.replies.items steps.now worker.new }
+    ensures serves { D.serves door.new (Actor.Client p) }
+    ensures stands { (k : D.Kept) → D.stands door.old k → D.stands door.new k }
+    ensures turned { (k : D.Kept) (b : Begun) (places : List ℕ) (ms : List Memory) (slots : List ℕ) → D.stands door.old k → D.begins k b.state
+        → ClientAt b p (D.history door.old) steps.now worker.old → HandsStandBy b p (D.history door.old) places ms slots
+        → IsQuiet b p (D.history door.old)
+        → HasTurnedBy (D.may_between (Actor.Client p)) result b p steps.now (D.history door.old) (D.history door.new) worker.new places ms slots }
 {
     let _ = steps.len();
-    let actor = Actor::Client(p);
-    if !desk.console.ready(actor, &Event::Collect) {
-        return Ok(false);
+    match door.enter_if_ready(Actor::Client(p), Event::Collect)? {
+        None => Ok(false),
+        Some(_) => {
+            worker.reading = false;
+            Ok(true)
+        }
     }
-    desk.enter(actor, Event::Collect)?;
-    worker.reading = false;
-    Ok(true)
 }
 
 /// Whether a control event calls for the exit: where no handler handled it, and where it is the close event.
@@ -83,24 +87,29 @@ pub fn must_leave(event: u32, handled: bool) -> bool
 }
 
 /// A control event that is pending. It calls for the exit where no handler handles it, and where it is the close event.
-pub fn take_ctrl(
-    desk: &mut Desk,
+/// False: none is pending.
+pub fn take_ctrl<D: Door>(
+    door: &mut D,
     worker: &mut Worker,
     hands: &mut Hands,
     steps: &[Step],
     p: u8,
 ) -> Result<bool, OutOfMemory>
+    requires serves { D.serves door.old (Actor.Client p) }
     requires here { worker.old.gone ≡ false }
     requires stays { worker.old.leaving ≡ false }
-    requires some { is_ready desk.old.console.state (Actor.Client p) Event.TakeCtrl ≡ true }
-    ensures ran { Ran desk.old.console.state desk.new.console.state desk.old.entries.items desk.new.entries.items }
-    ensures turn { (b : Begun) → ClientIs b p desk.old.console.state desk.old.entries.items steps.now worker.old
-        → HandsStand b p desk.old.entries.items memory hands.old
-        → HandsTurn result b p desk.old.console.state desk.new.console.state desk.old.entries.items desk.new.entries.items
-        desk.old.replies.items desk.new.replies.items steps.now worker.new memory hands.new }
+    ensures none { IfOk result (λ taken. taken ≡ false → worker.new ≡ worker.old) }
+    ensures serves { D.serves door.new (Actor.Client p) }
+    ensures stands { (k : D.Kept) → D.stands door.old k → D.stands door.new k }
+    ensures taken { (k : D.Kept) (b : Begun) → D.stands door.old k → D.begins k b.state
+        → ClientAt b p (D.history door.old) steps.now worker.old → HandsStand b p (D.history door.old) memory hands.old
+        → HasTaken (D.may_between (Actor.Client p)) result b p steps.now (D.history door.old) (D.history door.new) worker.new memory hands.new }
 {
     let _ = steps.len();
-    match desk.enter(Actor::Client(p), Event::TakeCtrl)? {
+    let Some(brief) = door.enter_if_ready(Actor::Client(p), Event::TakeCtrl)? else {
+        return Ok(false);
+    };
+    match brief {
         Brief::Ctrl(event) => {
             let handled = hands.deliver(event);
             worker.leaving = must_leave(event, handled);
@@ -116,180 +125,4 @@ pub fn is_granted(brief: Brief) -> bool
     ensures { result ≡ not (is_refused brief) }
 {
     !matches!(brief, Brief::Refused)
-}
-
-/// A wait that is the next step begins.
-pub fn begin(
-    desk: &mut Desk,
-    worker: &mut Worker,
-    steps: &[Step],
-    p: u8,
-    wanted: Wanted,
-) -> Result<bool, OutOfMemory>
-    requires here { worker.old.gone ≡ false }
-    requires stays { worker.old.leaving ≡ false }
-    requires some { worker.old.at < length steps.now }
-    requires reading { worker.old.reading ≡ false }
-    requires none { is_ready desk.old.console.state (Actor.Client p) Event.TakeCtrl ≡ false }
-    ensures ran { Ran desk.old.console.state desk.new.console.state desk.old.entries.items desk.new.entries.items }
-    ensures turn { (b : Begun) → ClientIs b p desk.old.console.state desk.old.entries.items steps.now worker.old
-        → Event.Begin wanted ≡ next_event (client_at b desk.old.entries.items p).left
-        → ClientTurn result b p desk.old.console.state desk.new.console.state desk.old.entries.items desk.new.entries.items
-        desk.old.replies.items desk.new.replies.items steps.now worker.new }
-{
-    let brief = desk.enter(Actor::Client(p), Event::Begin(wanted))?;
-    worker.at += 1;
-    worker.reading = is_granted(brief);
-    Ok(true)
-}
-
-/// A call that is the next step, and adds and removes no handler.
-pub fn call_plain(
-    desk: &mut Desk,
-    worker: &mut Worker,
-    steps: &[Step],
-    p: u8,
-    call: Call,
-) -> Result<bool, OutOfMemory>
-    requires here { worker.old.gone ≡ false }
-    requires stays { worker.old.leaving ≡ false }
-    requires some { worker.old.at < length steps.now }
-    requires reading { worker.old.reading ≡ false }
-    requires none { is_ready desk.old.console.state (Actor.Client p) Event.TakeCtrl ≡ false }
-    requires plain { is_handlers call ≡ false }
-    ensures ran { Ran desk.old.console.state desk.new.console.state desk.old.entries.items desk.new.entries.items }
-    ensures turn { (b : Begun) → ClientIs b p desk.old.console.state desk.old.entries.items steps.now worker.old
-        → Event.Call call ≡ next_event (client_at b desk.old.entries.items p).left
-        → ClientTurn result b p desk.old.console.state desk.new.console.state desk.old.entries.items desk.new.entries.items
-        desk.old.replies.items desk.new.replies.items steps.now worker.new }
-{
-    desk.enter(Actor::Client(p), Event::Call(call))?;
-    worker.at += 1;
-    Ok(true)
-}
-
-/// A call that is the next step, and adds a handler. The chain gets it where the call was done.
-pub fn call_add(
-    desk: &mut Desk,
-    worker: &mut Worker,
-    hands: &mut Hands,
-    steps: &[Step],
-    p: u8,
-    place: u32,
-) -> Result<bool, OutOfMemory>
-    requires here { worker.old.gone ≡ false }
-    requires stays { worker.old.leaving ≡ false }
-    requires some { worker.old.at < length steps.now }
-    requires reading { worker.old.reading ≡ false }
-    requires none { is_ready desk.old.console.state (Actor.Client p) Event.TakeCtrl ≡ false }
-    ensures ran { Ran desk.old.console.state desk.new.console.state desk.old.entries.items desk.new.entries.items }
-    ensures turn { (b : Begun) → ClientIs b p desk.old.console.state desk.old.entries.items steps.now worker.old
-        → Event.Call (Call.HandlerAdd place) ≡ next_event (client_at b desk.old.entries.items p).left
-        → HandsStand b p desk.old.entries.items memory hands.old
-        → HandsTurn result b p desk.old.console.state desk.new.console.state desk.old.entries.items desk.new.entries.items
-        desk.old.replies.items desk.new.replies.items steps.now worker.new memory hands.new }
-{
-    let _ = steps.len();
-    let call = Call::HandlerAdd(place);
-    let brief = desk.enter(Actor::Client(p), Event::Call(call))?;
-    worker.at += 1;
-    if !is_granted(brief) {
-        return Ok(true);
-    }
-    hands.add(place)?;
-    Ok(true)
-}
-
-/// A call that is the next step, and removes a handler. The chain loses it where the call was done.
-pub fn call_remove(
-    desk: &mut Desk,
-    worker: &mut Worker,
-    hands: &mut Hands,
-    steps: &[Step],
-    p: u8,
-    place: u32,
-) -> Result<bool, OutOfMemory>
-    requires here { worker.old.gone ≡ false }
-    requires stays { worker.old.leaving ≡ false }
-    requires some { worker.old.at < length steps.now }
-    requires reading { worker.old.reading ≡ false }
-    requires none { is_ready desk.old.console.state (Actor.Client p) Event.TakeCtrl ≡ false }
-    ensures ran { Ran desk.old.console.state desk.new.console.state desk.old.entries.items desk.new.entries.items }
-    ensures turn { (b : Begun) → ClientIs b p desk.old.console.state desk.old.entries.items steps.now worker.old
-        → Event.Call (Call.HandlerRemove place) ≡ next_event (client_at b desk.old.entries.items p).left
-        → HandsStand b p desk.old.entries.items memory hands.old
-        → HandsTurn result b p desk.old.console.state desk.new.console.state desk.old.entries.items desk.new.entries.items
-        desk.old.replies.items desk.new.replies.items steps.now worker.new memory hands.new }
-{
-    let _ = steps.len();
-    let call = Call::HandlerRemove(place);
-    let brief = desk.enter(Actor::Client(p), Event::Call(call))?;
-    worker.at += 1;
-    if !is_granted(brief) {
-        return Ok(true);
-    }
-    hands.remove(place);
-    Ok(true)
-}
-
-fn call_step(
-    desk: &mut Desk,
-    worker: &mut Worker,
-    hands: &mut Hands,
-    steps: &[Step],
-    p: u8,
-    call: &Call,
-) -> Result<bool, OutOfMemory>
-    requires here { worker.old.gone ≡ false }
-    requires stays { worker.old.leaving ≡ false }
-    requires some { worker.old.at < length steps.now }
-    requires reading { worker.old.reading ≡ false }
-    requires none { is_ready desk.old.console.state (Actor.Client p) Event.TakeCtrl ≡ false }
-    ensures ran { Ran desk.old.console.state desk.new.console.state desk.old.entries.items desk.new.entries.items }
-    ensures turn { (b : Begun) → ClientIs b p desk.old.console.state desk.old.entries.items steps.now worker.old
-        → Event.Call call.now ≡ next_event (client_at b desk.old.entries.items p).left
-        → HandsStand b p desk.old.entries.items memory hands.old
-        → HandsTurn result b p desk.old.console.state desk.new.console.state desk.old.entries.items desk.new.entries.items
-        desk.old.replies.items desk.new.replies.items steps.now worker.new memory hands.new }
-{
-    match call {
-        Call::HandlerAdd(place) => call_add(desk, worker, hands, steps, p, *place),
-        Call::HandlerRemove(place) => call_remove(desk, worker, hands, steps, p, *place),
-        other => {
-            let call = copied_call(other)?;
-            call_plain(desk, worker, steps, p, call)
-        }
-    }
-}
-
-/// The next step of the script, or behind the last one the exit.
-pub fn next_step(
-    desk: &mut Desk,
-    worker: &mut Worker,
-    hands: &mut Hands,
-    steps: &[Step],
-    p: u8,
-) -> Result<bool, OutOfMemory>
-    requires here { worker.old.gone ≡ false }
-    requires stays { worker.old.leaving ≡ false }
-    requires reading { worker.old.reading ≡ false }
-    requires none { is_ready desk.old.console.state (Actor.Client p) Event.TakeCtrl ≡ false }
-    ensures ran { Ran desk.old.console.state desk.new.console.state desk.old.entries.items desk.new.entries.items }
-    ensures turn { (b : Begun) → ClientIs b p desk.old.console.state desk.old.entries.items steps.now worker.old
-        → HandsStand b p desk.old.entries.items memory hands.old
-        → HandsTurn result b p desk.old.console.state desk.new.console.state desk.old.entries.items desk.new.entries.items
-        desk.old.replies.items desk.new.replies.items steps.now worker.new memory hands.new }
-{
-    let _ = hands.places.len();
-    if worker.at >= steps.len() {
-        return leave(desk, worker, steps, p, 0);
-    }
-    match &steps[worker.at] {
-        Step::Exit(status) => leave(desk, worker, steps, p, *status),
-        Step::Begin(wanted) => {
-            let wanted = copied_wanted(wanted)?;
-            begin(desk, worker, steps, p, wanted)
-        }
-        Step::Call(call) => call_step(desk, worker, hands, steps, p, call),
-    }
 }

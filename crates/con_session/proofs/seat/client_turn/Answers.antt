@@ -1,8 +1,11 @@
-use Rattle.con_session.specs.WorkerLaws.{leaving_may, leaving_turn, with_hands}
+use Rattle.std.proofs.Common.{sym}
+use Rattle.con_session.specs.DeskDoor.{since_here}
+use Rattle.con_session.specs.DoorExact.{client_of, exact}
+use Rattle.con_session.specs.WorkerLaws.{gone_idles}
 use Rattle.con_session.proofs.seat.client_turn.Goals as goal
 
-pub returns-then-seat-2-clause-turn : goal.returns-then-seat-2-clause-turn
-returns-then-seat-2-clause-turn g c = λ b k are. with_hands _ b _ _ _ _ _ _ _ _ _ _ _ _ are (c.leave.ensures.turn b k (leaving_may _ _ _ k.worker c.if-seat-2.true c.if-seat.false) (leaving_turn b _ _ _ _ _ k c.if-seat.false c.if-seat-2.true))
+pub returns-clause-ran : goal.returns-clause-ran
+returns-clause-ran g c = (c.act.ensures.stands c.args.desk.now (since_here _ _ _)).ran
 
-pub returns-then-seat-3-clause-turn : goal.returns-then-seat-3-clause-turn
-returns-then-seat-3-clause-turn g c = λ b k are. with_hands _ b _ _ _ _ _ _ _ _ _ _ _ _ are (c.collect.ensures.turn b k)
+pub returns-clause-turn : goal.returns-clause-turn
+returns-clause-turn g c = λ b k are. exact b _ _ _ _ _ _ _ k.state (c.act.ensures.stands c.args.desk.now (since_here _ _ _)) _ _ _ _ _ _ (c.act.ensures.turned c.args.desk.now b (since_here _ _ _) k.state (client_of b _ _ _ _ _ k) are)

@@ -1,13 +1,15 @@
-use Rattle.std.proofs.Common.{sym, refl}
-use Rattle.con_session.specs.RanLaws.{ran_same}
-use Rattle.con_session.specs.WorkerLaws.{collected_turn, waiting_idles}
+use Rattle.con_session.specs.DoorGoing.{collected, rested, waited}
 use Rattle.con_session.proofs.worker.collect.Goals as goal
 
-pub returns-clause-turn : goal.returns-clause-turn
-returns-clause-turn c = λ b k. collected_turn b _ _ _ _ _ _ _ _ _ k c.requires.here c.requires.stays c.requires.reading c.requires.none (sym c.if-not-ready.ensures) c.in_ok-enter.ensures.entered
+pub returns-in_err-enter_if_ready-clause-turned : goal.returns-in_err-enter_if_ready-clause-turned
+returns-in_err-enter_if_ready-clause-turned g c = λ k b places ms slots stands begins is are q. rested _ b _ (g.met.D.Door.others c.args.p) _ _ _ _ _ _ _ _ c.from_residual.ensures.0 (c.in_err-enter_if_ready.ensures.refused k stands) is c.requires.here
 
-pub returns-then-not-ready-clause-ran : goal.returns-then-not-ready-clause-ran
-returns-then-not-ready-clause-ran c = ran_same _ _ _ _ refl refl
+pub returns-in-None-clause-turned : goal.returns-in-None-clause-turned
+returns-in-None-clause-turned g c = λ k b places ms slots stands begins is are q.
+    let e = rw c.in-None.is at c.in_ok-enter_if_ready.ensures.blocked in
+    waited _ b _ (g.met.D.Door.others c.args.p) _ _ _ _ _ _ _ (e k b.state stands begins).0 (e k b.state stands begins).1 is c.requires.here c.requires.stays c.requires.reading q are
 
-pub returns-then-not-ready-clause-turn : goal.returns-then-not-ready-clause-turn
-returns-then-not-ready-clause-turn c = λ b k. (record { state = refl; entries = refl; replies = refl }, waiting_idles b _ _ _ _ _ k c.requires.here c.requires.stays c.requires.reading c.requires.none (sym c.if-not-ready.ensures), k.worker)
+pub returns-in-Some-clause-turned : goal.returns-in-Some-clause-turned
+returns-in-Some-clause-turned g c = λ k b places ms slots stands begins is are q.
+    let e = rw c.in-Some.is at c.in_ok-enter_if_ready.ensures.entered in
+    collected _ b _ (g.met.D.Door.others c.args.p) _ _ _ _ _ _ _ _ (e k b.state stands begins) is c.requires.here c.requires.stays c.requires.reading q are

@@ -1,8 +1,12 @@
-use Rattle.con_session.specs.WorkerLaws.{left_turn, exit_ready}
+use Rattle.con_session.specs.DoorGoing.{exited, rested}
+use Rattle.con_session.specs.WorkerLaws.{exit_ready}
 use Rattle.con_session.proofs.worker.leave.Goals as goal
 
 pub enter-requires-clause-ready : goal.enter-requires-clause-ready
-enter-requires-clause-ready c = exit_ready _ _ _
+enter-requires-clause-ready g c = λ s. exit_ready s _ _
 
-pub returns-clause-turn : goal.returns-clause-turn
-returns-clause-turn c = λ b k m u. left_turn b _ _ _ _ _ _ _ _ _ _ k c.in_ok-enter.ensures.entered m u
+pub returns-in_err-enter-clause-turned : goal.returns-in_err-enter-clause-turned
+returns-in_err-enter-clause-turned g c = λ k b places ms slots stands begins is are m. rested _ b _ (g.met.D.Door.others c.args.p) _ _ _ _ _ _ _ _ c.from_residual.ensures.0 (c.in_err-enter.ensures.refused k stands) is c.requires.here
+
+pub returns-clause-turned : goal.returns-clause-turned
+returns-clause-turned g c = λ k b places ms slots stands begins is are m. exited _ b _ (g.met.D.Door.others c.args.p) _ _ _ _ _ _ _ _ _ (c.in_ok-enter.ensures.entered k b.state stands begins) is m are
