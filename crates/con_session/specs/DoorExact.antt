@@ -1,5 +1,5 @@
 -- A client's turn at a desk: nothing is entered in between, so it is what any door tells, and that exactly.
-use Rattle.std.proofs.Common.{◌≡◌, ℕ, Bool, true, false, List, [], ◌++◌, Some, None, refl, sym, ap, ◌∙◌, subst, inl, inr, Result, Ok, Err, append-nil}
+use Rattle.std.proofs.Common.{◌≡◌, ℕ, Bool, true, false, List, ◌++◌, sym, ap, ◌∙◌, subst, inl, inr, Result, Ok, Err, append-nil}
 use Rattle.con_units.specs.declared.code.OutOfMemory.{OutOfMemory}
 use Rattle.con_events.specs.declared.actor.Actor.TheVariants as actors
 use Rattle.con_events.specs.declared.entry.Entry.{Entry}
@@ -10,7 +10,6 @@ use Rattle.con_machine.specs.History.{run}
 use Rattle.con_machine.specs.Rounds.{Begun, client_at}
 use Rattle.con_machine.specs.State.{State}
 use Rattle.con_machine.specs.Step.{is_ready}
-use Rattle.con_session.specs.Desk.{Rests}
 use Rattle.con_session.specs.DeskDoor.{IsNothing, Since, enters_since, rests_since}
 use Rattle.con_session.specs.DoorTurns.{ClientAt, HasActed, HasTurnedBy}
 use Rattle.con_session.specs.Worker.{Acts, ClientIs, HandsStandBy, HandsTurnBy, IsWorker}

@@ -1,5 +1,5 @@
 -- A client's turn at a door, by what the door told.
-use Rattle.std.proofs.Common.{◌≡◌, ◌≤◌, ◌<◌, ◌⊎◌, ℕ, suc, ◌+◌, Bool, true, false, List, [], ◌∷◌, ◌++◌, length, map, get_or, drop, Option, Some, None, refl, sym, ap, ◌∙◌, subst, inl, inr, Result, Ok, Err, eq-eqb, append_assoc, append-nil}
+use Rattle.std.proofs.Common.{◌≡◌, ◌≤◌, ◌<◌, ℕ, suc, ◌+◌, Bool, true, false, List, [], ◌∷◌, ◌++◌, length, get_or, drop, Option, Some, None, refl, sym, ap, ◌∙◌, subst, inl, inr, Result, Ok, Err, eq-eqb, append_assoc, append-nil}
 use Rattle.std.specs.Prelude.{◌==◌, ◌||◌, not, if◌then◌else◌}
 use Rattle.std.specs.Result.{IsErr}
 use Rattle.std.proofs.Math.Seq.{drop-cons}
@@ -14,7 +14,6 @@ use Rattle.con_events.specs.declared.event.Event.TheVariants as events
 use Rattle.con_events.specs.declared.event.Wanted.{Wanted}
 use Rattle.con_events.specs.declared.script.Step.{Step}
 use Rattle.con_handlers.specs.Memory.{Memory}
-use Rattle.con_procs.specs.Procs.{is_attached}
 use Rattle.con_readers.specs.Reads.{is_open, has_done}
 use Rattle.con_machine.specs.Added.{has_added}
 use Rattle.con_machine.specs.Chain.{Handler, with_handler, without_handler, delivered_to, is_handled}
@@ -22,18 +21,17 @@ use Rattle.con_machine.specs.Client.{Client, GoesOn, MayBy, due, next_event, eve
 use Rattle.con_machine.specs.HandlerLaws.{added_first}
 use Rattle.con_machine.specs.History.{run}
 use Rattle.con_machine.specs.Rounds.{Begun, IsTurn, client_at}
-use Rattle.con_machine.specs.State.{State}
 use Rattle.con_machine.specs.Step.{step, is_ready}
 use Rattle.con_machine.specs.Turns.{Turn, turns, turn_of, is_pending}
 use Rattle.con_session.specs.Desk.{entry, is_refused, listed}
 use Rattle.con_session.specs.Door.{Saw, Entered, are_others}
-use Rattle.con_session.specs.DoorEntries.{client_by, client_is, client_saw, hands_saw, stands_saw, turns_saw, client_own, client_before, turns_before, turns_behind, is_before, enters, hands_before, hands_behind, stands_behind, ready_here, acted}
-use Rattle.con_session.specs.DoorTurns.{ClientAt, IsQuiet, IsNext, MayExit, HasActed, HasWaited, HasTurnedBy, HasTakenBy}
+use Rattle.con_session.specs.DoorEntries.{client_by, client_is, client_saw, hands_saw, stands_saw, turns_saw, client_own, turns_before, turns_behind, is_before, enters, hands_before, hands_behind, stands_behind, ready_here, acted}
+use Rattle.con_session.specs.DoorTurns.{ClientAt, IsQuiet, IsNext, MayExit, HasActed, HasTurnedBy, HasTakenBy}
 use Rattle.con_session.specs.HandlerTurns.{stepped, refused_entry, granted_entry, fails_by, adds_here, places_without}
 use Rattle.con_session.specs.RackLaws.{rack_added, rack_removed, without}
 use Rattle.con_session.specs.Standing.{ClientStands}
 use Rattle.con_session.specs.StepLaws.{due_next, drop_end, drop_one, plain_by, refused_is}
-use Rattle.con_session.specs.Worker.{IsStance, IsWorker, HandsAreBy, HandsStandBy, HandsTurnBy, IsRack, Keeps, is_handlers, places_in, stand_once}
+use Rattle.con_session.specs.Worker.{IsStance, HandsAreBy, HandsStandBy, HandsTurnBy, IsRack, is_handlers, places_in, stand_once}
 use Rattle.con_session.specs.WorkerLaws.{IsEvent, collect_ready, collected_by, due_may, going_may, going_turn, is_there, leaving_may, leaving_turn, none_pending, open_is, step_turn, take_ready, taken_by, taking_may, took_none_turn, took_turn_is, waiting_idles}
 use Rattle.con_session.specs.declared.desk.Brief.{Brief}
 use Rattle.con_session.specs.declared.desk.Brief.TheVariants as briefs

@@ -1,5 +1,5 @@
 -- What a worker may enter, and what that makes of it.
-use Rattle.std.proofs.Common.{◌≡◌, ℕ, Bool, true, false, List, [], ◌∷◌, ◌++◌, Option, Some, None, refl, sym, ap, ◌∙◌, subst, inl, inr, eq-eqb, Result, Ok, Err}
+use Rattle.std.proofs.Common.{◌≡◌, ℕ, Bool, true, false, List, [], ◌∷◌, ◌++◌, Option, Some, None, refl, sym, ap, ◌∙◌, subst, inl, inr, eq-eqb, Ok}
 use Rattle.std.specs.Prelude.{◌==◌, if◌then◌else◌, not, ◌||◌}
 use Rattle.con_events.specs.declared.actor.Actor.TheVariants as actors
 use Rattle.con_events.specs.declared.entry.Entry.{Entry}
@@ -8,7 +8,6 @@ use Rattle.con_events.specs.declared.event.Event.TheVariants as events
 use Rattle.con_events.specs.declared.reply.Reply.{Reply}
 use Rattle.con_events.specs.declared.reply.Reply.TheVariants as replies
 use Rattle.con_events.specs.declared.script.Step.{Step}
-use Rattle.con_units.specs.declared.code.OutOfMemory.{OutOfMemory}
 use Rattle.con_handlers.specs.Memory.{Memory}
 use Rattle.con_procs.specs.Procs.{is_attached}
 use Rattle.con_readers.specs.Reads.{is_open, has_done}
@@ -21,9 +20,9 @@ use Rattle.con_machine.specs.Rounds.{Begun, IsTurn, ClientTurnBy, client_turn, c
 use Rattle.con_machine.specs.State.{State}
 use Rattle.con_machine.specs.Step.{step, is_ready, is_due}
 use Rattle.con_machine.specs.Turns.{turns, turn_of, is_client, is_pending}
-use Rattle.con_session.specs.Desk.{Enters, Rests, brief_of, entry}
+use Rattle.con_session.specs.Desk.{Enters, brief_of, entry}
 use Rattle.con_session.specs.Standing.{is_here}
-use Rattle.con_session.specs.Worker.{IsStance, HandsAreBy, IsRack, HandsStandBy, places_in, IsWorker, ClientIs, Acts, ClientTurn, HandsTurnBy}
+use Rattle.con_session.specs.Worker.{IsStance, HandsAreBy, IsRack, HandsStandBy, places_in, IsWorker, ClientIs, Acts, HandsTurnBy}
 use Rattle.con_session.specs.RackLaws.{hands_keep, rack_delivered}
 use Rattle.con_session.specs.declared.desk.Brief.{Brief}
 use Rattle.con_session.specs.declared.desk.Brief.TheVariants as briefs
@@ -210,43 +209,6 @@ step_turn b p s h steps w ev k n l r t e =
 
 pub acts : (b : Begun) (p : ℕ) (s t : State) (h g : List Entry) (rs qs : List Reply) (e : Event) → s ≡ run b.state h → Enters s t h g rs qs (actors.Client p) e → is_ready s (actors.Client p) e ≡ true → MayBy (client_at b h p).stance (client_at b h p) e → IsTurn b h (actors.Client p) (Some e) → Acts b p s t h g rs qs
 acts b p s t h g rs qs e i n r m u = record { event = e; enters = n; ready = r; may = m; turn = u }
-
--- the exit
-pub left_turn : (b : Begun) (p : ℕ) (s t : State) (h g : List Entry) (rs qs : List Reply) (steps : List Step) (w : Worker) (status : ℕ) → ClientIs b p s h steps w
-    → Enters s t h g rs qs (actors.Client p) (events.Exit status) → MayBy (client_at b h p).stance (client_at b h p) (events.Exit status) → IsTurn b h (actors.Client p) (Some (events.Exit status))
-    → ClientTurn (Ok true) b p s t h g rs qs steps (record w { gone = true })
-left_turn b p s t h g rs qs steps w status k n m u =
-    let e = own_is b p s t h g rs qs (events.Exit status) k.state n in (
-      acts b p s t h g rs qs (events.Exit status) k.state n (exit_ready s p status) m u,
-      record { left = ap (λ c. c.left) e ∙ k.worker.left; reading = ap (λ c. c.reading) e ∙ k.worker.reading; stance = let P : Client → Type 0 = λ c. IsStance c.stance w.leaving true in subst P (sym e) refl },
-      record { kinds = ap (λ c. c.kinds) e; chain = ap (λ c. c.chain) e; doubtful = ap (λ c. c.doubtful) e },
-    )
-
--- the answer of a read
-pub collected_turn : (b : Begun) (p : ℕ) (s t : State) (h g : List Entry) (rs qs : List Reply) (steps : List Step) (w : Worker) → ClientIs b p s h steps w → w.gone ≡ false → w.leaving ≡ false → w.reading ≡ true
-    → is_ready s (actors.Client p) events.TakeCtrl ≡ false → is_ready s (actors.Client p) events.Collect ≡ true
-    → Enters s t h g rs qs (actors.Client p) events.Collect
-    → ClientTurn (Ok true) b p s t h g rs qs steps (record w { reading = false })
-collected_turn b p s t h g rs qs steps w k n l r q u en =
-    let e = own_is b p s t h g rs qs events.Collect k.state en in
-    let c = client_at b h p in
-    let d : events.Collect ≡ due c = let P : Bool → Type 0 = λ x. events.Collect ≡ (if x then events.Collect else next_event c.left) in subst P (sym (k.worker.reading ∙ r)) refl in (
-      acts b p s t h g rs qs events.Collect k.state en u (going_may c steps w events.Collect k.worker l n (due_may c events.Collect (none_pending b p s h steps w k n q).1 d))
-          (going_turn b p s h steps w (Some events.Collect) k n l (collected_by c (is_pending s p) (is_open s.reads p) (has_done s.reads p) (none_pending b p s h steps w k n q).0 (open_is b p s h steps w k n ∙ r) (sym (collect_ready s p (is_there b p s h steps w k n)) ∙ u))),
-      record { left = ap (λ x. x.left) e ∙ k.worker.left; reading = ap (λ x. x.reading) e; stance = let P : Client → Type 0 = λ x. IsStance x.stance w.leaving w.gone in subst P (sym e) (l, n) },
-      record { kinds = ap (λ x. x.kinds) e; chain = ap (λ x. x.chain) e; doubtful = ap (λ x. x.doubtful) e },
-    )
-
--- refusals
-pub rests_turn : (b : Begun) (p : ℕ) (s t : State) (h g : List Entry) (rs qs : List Reply) (steps : List Step) (w : Worker) (err : OutOfMemory) → Rests s t h g rs qs → ClientTurn (Err err) b p s t h g rs qs steps w
-rests_turn b p s t h g rs qs steps w err r = inl r
-
--- a turn that leaves the handlers alone
-pub with_hands : (r : Result Bool OutOfMemory) (b : Begun) (p : ℕ) (s t : State) (h g : List Entry) (rs qs : List Reply) (steps : List Step) (w : Worker) (places : List ℕ) (ms : List Memory) (slots : List ℕ)
-    → HandsStandBy b p h places ms slots → ClientTurn r b p s t h g rs qs steps w → HandsTurnBy r b p s t h g rs qs steps w places ms slots
-with_hands (Ok true) b p s t h g rs qs steps w places ms slots a k = (k.0, k.1, hands_keep b p s t h g rs qs k.0.event places ms slots k.0.enters k.2 a)
-with_hands (Ok false) b p s t h g rs qs steps w places ms slots a k = (k.0, k.1, k.2, a)
-with_hands (Err e) b p s t h g rs qs steps w places ms slots a k = k
 
 -- an event was taken
 pub verdict_by : (two d f handled : Bool) → (d ≡ false → handled ≡ f) → IsStance (if two then MustLeave else if d then MayLeave else if f then GoesOn else MustLeave) (two || not handled) false

@@ -1,4 +1,4 @@
-use Rattle.std.proofs.Common.{refl, ap}
+use Rattle.std.proofs.Common.{ap}
 use Rattle.con_session.specs.DoorGoing.{looked, took, took_none, untaken}
 use Rattle.con_session.specs.WorkerLaws.{IsEvent}
 use Rattle.con_session.proofs.worker.take_ctrl.Goals as goal
