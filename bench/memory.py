@@ -21,10 +21,10 @@ import sys
 import tempfile
 
 import examples
+from runs import PROGRAM
 
 CRATES = os.path.join(os.path.dirname(os.path.abspath(__file__)), "..", "crates")
 CONSOLE = os.path.join(CRATES, "tests_memory", "out", "tests_memory")
-PROGRAM = os.path.join(CRATES, "conpty", "out", "conpty")
 MOST = 100_000
 SHIM = """
 #define _GNU_SOURCE

@@ -17,8 +17,8 @@ import sys
 import tempfile
 
 import examples
+from runs import PROGRAM
 
-PROGRAM = os.path.join(os.path.dirname(os.path.abspath(__file__)), "..", "crates", "conpty", "out", "conpty")
 MOST = 200
 SECONDS = 20
 NOBODY = 65534

@@ -16,8 +16,9 @@ import subprocess
 import sys
 import tempfile
 
+from runs import PROGRAM
+
 TOP = os.path.join(os.path.dirname(os.path.abspath(__file__)), "..")
-PROGRAM = os.path.join(TOP, "crates", "conpty", "out", "conpty")
 
 
 # ---- the part of JSON Schema 2020-12 that the schema uses

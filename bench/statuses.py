@@ -14,8 +14,8 @@ import tempfile
 
 import examples
 import generated
+from runs import PROGRAM
 
-PROGRAM = os.path.join(os.path.dirname(os.path.abspath(__file__)), "..", "crates", "conpty", "out", "conpty")
 SHELL = examples.path("shell", "json")
 WAYS = ("solo", "run")
 NUMBERS = (0, 1, 7, 4294967295)
