@@ -4,15 +4,18 @@
     robustness.py [--page] [GROUP..]
 
 The groups are memory, calls, links, documents, sizes, texts, files, streams and limits; without words these are tried, which takes some minutes. Two more are
-largest, whose sessions take gigabytes and up to half an hour each, and resizes, one session that may take hours. What has to come is said by the statuses of
-docs/FORMATS.md and the rules of docs/PROFILE.md; streams and reports of runs that were disturbed are a front of those of a run that was not. Prints a line for
-each case, and with `--page` writes them into docs/ROBUSTNESS.md, behind its heading "Each case". Ends with 1 where one was otherwise than it has to be. CONPTY
-may name another program than the one that is built here.
+largest, whose sessions take gigabytes and some minutes each, and longest, whose sessions take hours; each of both has a limit of memory and one of time, and is
+left out where too little memory is free, so nothing else should run then. What has to come is said by the statuses of docs/FORMATS.md and the rules of
+docs/PROFILE.md; streams and reports of runs that were disturbed are a front of those of a run that was not. Prints a line for each case, and with `--page`
+writes those of each group into docs/ROBUSTNESS.md, behind its heading "Each case", where those of other groups stay. Ends with 1 where one was otherwise than
+it has to be. CONPTY may name another program than the one that is built here.
 
 Allocations, reads and writes fail by a library that is loaded before the program, for which there must be `cc`."""
 import argparse
 import collections
+import json
 import os
+import select
 import signal
 import subprocess
 import sys
@@ -336,10 +339,22 @@ def crowds(room):
         table.expect(f"{clients} clients of {len(script)} calls", ran, "3", f'["end",3,"{path}"]')
 
 
+def longest_session(room):
+    """A document of 16,777,216 bytes, of 64 clients with as many calls as there may be; what is left over is spaces."""
+    count, left = divmod(hostile.MOST - len(json.dumps(hostile.session([["write", 2, ""]] * 256, 64))), 64 * 256)
+    one = hostile.session([["write", 2, "a" * count]] * 256)
+    front, back = json.dumps({**one, "clients": [None]}).encode().split(b"null")
+    client = json.dumps(one["clients"][0]).encode()
+    path = named(room, "large", [front, *[client + b", "] * 63, client, back, b" " * left])
+    for way in WAYS:
+        table.expect(f"16,777,216 bytes: 64 clients of 256 calls, each a `write` of {count} units, `{way}`", runs.run([way, path]), "0", DONE)
+
+
 def documents(room):
     table.group("Documents")
     spelled(room)
     crowds(room)
+    longest_session(room)
 
 
 # ---- sessions that ask for much
@@ -374,6 +389,11 @@ def frames(room, way):
         table.expect(f"{count:,} times `P` at {width} by {height}, `{way}`", ran, "0", DONE)
 
 
+# A history of 999 lines of 1,024 units, and a read behind them.
+FULL_HISTORY = hostile.session([["set-history", 999, 1, 0], *[["read", 1, 2000]] * 1000])
+KEPT = hostile.typed((b"a" * 1023 + b"b\r") * 999)
+
+
 def lines(room):
     """What a person may type into a line."""
     read = ["solo", hostile.document(room.folder, "read", hostile.session([["read", 1, 16_384]], window=(512, 256)))]
@@ -382,11 +402,9 @@ def lines(room):
     front = b"Q" + hostile.typed(b"a" * 1000 + b"\x1b[H")
     ran = runs.run(read, named(room, "link", [front, *hostile.fed(b"x\x7f", 1 << 20)]))
     table.expect("1 MiB at the front of a line of 1,000: a unit, and back", ran, "0", DONE)
-    full = hostile.session([["set-history", 999, 1, 0], *[["read", 1, 2000]] * 1000])
-    kept = hostile.typed((b"a" * 1023 + b"b\r") * 999)
     for what, line in (("all begin as the line does", b"a" * 1023), ("none does, by its last unit alone", b"a" * 1022 + b"c")):
-        link = named(room, "link", [kept, b"Q" * 4000, hostile.typed(line), *hostile.fed(b"\x1b[19~", 1 << 16)])
-        ran = runs.run(["solo", hostile.document(room.folder, "full", full)], link)
+        link = named(room, "link", [KEPT, b"Q" * 4000, hostile.typed(line), *hostile.fed(b"\x1b[19~", 1 << 16)])
+        ran = runs.run(["solo", hostile.document(room.folder, "full", FULL_HISTORY)], link)
         table.expect(f"64 KiB of F8 over 999 lines of 1,024, of which {what}", ran, "0", DONE)
 
 
@@ -396,7 +414,10 @@ def controls(room):
     ran = runs.run(["solo", many], named(room, "link", [b"QQ", hostile.typed(b"\x03" * 4096), b"Q" * 100]))
     took = [ran.err.first.count(f'["c1","take-ctrl",[],["ctrl",{event}]]'.encode()) for event in (0, 2)]
     other = "" if took == [64, 1] else f"64 events 0 and one event 2, and not {took}"
-    table.expect("4,096 ctrl+C in a frame, of which a client takes 64", ran, "0", DONE, other)
+    table.expect("4,096 ctrl+C in a frame, of which a client takes 64, `solo`", ran, "0", DONE, other)
+    # By threads they may come before the client has its handler.
+    ran = runs.run(["run", many], room.path("link"))
+    table.expect("4,096 ctrl+C in a frame, `run`", ran, "0", DONE)
     loud = hostile.document(room.folder, "loud", hostile.session([["handler-add", 0], *[["signal", 0, 0]] * 255], clients=64))
     for way in WAYS:
         table.expect(f"64 clients, each of which sends ctrl+C to all 255 times, `{way}`", runs.run([way, loud]), "0", DONE)
@@ -414,25 +435,50 @@ def lists(room):
     table.expect("16 clients with 768 such lists each, 7 GiB of units, with 1 GiB of room", ran, "9")
 
 
+# What a session that takes gigabytes may have, and has to find free: nothing else should run beside it.
+SPACE = 12 << 30
+
+
+def free():
+    """The memory that programs may still have."""
+    with open("/proc/meminfo", encoding="utf-8") as text:
+        return next(int(line.split()[1]) << 10 for line in text if line.startswith("MemAvailable"))
+
+
+def spacious(what, words, link=None, seconds=900):
+    """A session that takes gigabytes, with a limit of memory and one of time."""
+    if free() < SPACE:
+        table.tell(what, "left out", "", 0, "", f"; it has to find {SPACE >> 30} GiB of memory free")
+    else:
+        table.expect(what, runs.run(words, link, limits={"AS": SPACE}, seconds=seconds), "0", DONE)
+
+
 def largest(room):
     table.group("Sessions that take gigabytes")
     cells = hostile.session([["rect-read", 2, [0, 0, 127, 127]]] * 256, clients=64, window=(128, 128))
-    ran = runs.run(["solo", hostile.document(room.folder, "cells", cells)], seconds=600)
-    table.expect("16,384 times `rect-read` of 16,384 cells", ran, "0", DONE)
+    path = hostile.document(room.folder, "cells", cells)
     for way in WAYS:
-        ran = runs.run([way, room.idle], named(room, "link", hostile.filled(b"", b"Q")), seconds=600)
-        table.expect(f"16 MiB of `Q`, `{way}`", ran, "0", DONE)
-        for width, height in ((80, 25), (512, 256)):
-            window = hostile.document(room.folder, "window", hostile.session([], window=(width, height)))
-            ran = runs.run([way, window], named(room, "link", hostile.filled(b"", b"P")), seconds=1_800)
-            table.expect(f"16 MiB of `P` at {width} by {height}, `{way}`", ran, "0", DONE)
+        spacious(f"16,384 times `rect-read` of 16,384 cells, `{way}`", [way, path])
+    for what, unit in (("`Q`", b"Q"), ("`P` at 80 by 25", b"P")):
+        link = named(room, "link", hostile.filled(b"", unit))
+        for way in WAYS:
+            spacious(f"16 MiB of {what}, `{way}`", [way, room.idle], link)
 
 
-def resizes(room):
-    table.group("A link of resizes alone")
-    turned = hostile.size(1, 1) + hostile.size(512, 256)
-    ran = runs.run(["solo", room.idle], named(room, "link", hostile.filled(b"", turned)), seconds=10_000)
-    table.expect("16 MiB of a window of 1 by 1, and of 512 by 256, `solo`", ran, "0", DONE)
+def longest(room):
+    """What goes on for hours."""
+    table.group("Sessions that take hours")
+    wide = hostile.document(room.folder, "window", hostile.session([], window=(512, 256)))
+    link = named(room, "link", hostile.filled(b"", hostile.size(1, 1) + hostile.size(512, 256)))
+    spacious("16 MiB of a window of 1 by 1, and of 512 by 256, `solo`", ["solo", room.idle], link, 14_400)
+    link = named(room, "link", hostile.filled(b"", b"P"))
+    for way in WAYS:
+        spacious(f"16 MiB of `P` at 512 by 256, `{way}`", [way, wide], link, 14_400)
+    front = [KEPT, b"Q" * 4000, hostile.typed(b"a" * 1022 + b"c")]
+    most = hostile.MOST - sum(map(len, front))
+    link = named(room, "link", [*front, *hostile.fed(b"\x1b[19~", most)])
+    words = ["solo", hostile.document(room.folder, "full", FULL_HISTORY)]
+    spacious("16 MiB of F8 over 999 lines of 1,024, of which none begins as the line does, by its last unit alone", words, link, 14_400)
 
 
 # ---- texts that are typed and played
@@ -570,7 +616,8 @@ def closed(room):
     """Streams that are not there at all."""
     solo = ["solo", room.shell]
     for number, ended, last in ((0, "4", '["end",4,"link"]'), (1, "5", '["end",5,"term"]'), (2, "6", None)):
-        table.expect(f"stream {number} is closed, `solo`", runs.run(solo, room.shell_link, closed=[number]), ended, last)
+        for way in WAYS:
+            table.expect(f"stream {number} is closed, `{way}`", runs.run([way, room.shell], room.shell_link, closed=[number]), ended, last)
     table.expect("stream 0 is closed, `type`", runs.run(["type"], closed=[0]), "4", '["end",4,"link"]')
     table.expect("stream 1 is closed, `type`", runs.run(["type"], closed=[1]), "5", '["end",5,"term"]')
     table.expect("stream 2 is closed, `type`, which writes nothing to it", runs.run(["type"], closed=[2]), "0")
@@ -618,11 +665,12 @@ def gone(room):
     room.wide = hostile.document(room.folder, "wide", hostile.session([["fill-units", 2, 0, 0, 131_072, 65]], window=(512, 256)))
     room.wide_link = room.file("wide.link", b"Q" + (hostile.size(511, 256) + hostile.size(512, 256)) * 4)
     for number, ended, last in (("out", "5", '["end",5,"term"]'), ("err", "6", None)):
-        there, here = os.pipe()
-        os.close(there)
-        ran = runs.run(["solo", room.listing], room.listing_link, **{number: here})
-        table.expect(f"nobody reads standard {'output' if number == 'out' else 'error'}, `solo`", ran, ended, last)
-        os.close(here)
+        for way in WAYS:
+            there, here = os.pipe()
+            os.close(there)
+            ran = runs.run([way, room.listing], room.listing_link, **{number: here})
+            table.expect(f"nobody reads standard {'output' if number == 'out' else 'error'}, `{way}`", ran, ended, last)
+            os.close(here)
     there, here = os.pipe()
     os.set_blocking(there, False)
     with os.fdopen(there, "rb", 0) as given:
@@ -634,6 +682,24 @@ def gone(room):
     table.expect("standard output does not wait, and nobody takes 600 KB from it", ran, "5", '["end",5,"term"]')
     os.close(there)
     os.close(here)
+
+
+def leaving(room):
+    """Readers that take one byte and go away: the stream and the report are longer than what a pipe holds."""
+    asked = room.file("asked.link", b"P" * 10_000)
+    for way in WAYS:
+        cases = (("output", "out", room.wide, room.wide_link, "5", '["end",5,"term"]'), ("error", "err", room.idle, asked, "6", None))
+        for what, number, path, link, ended, last in cases:
+            there, here = os.pipe()
+
+            def beside(_, there=there):
+                if select.select([there], [], [], 20)[0]:
+                    os.read(there, 1)
+                os.close(there)
+
+            ran = runs.run([way, path], link, beside=beside, **{number: here})
+            table.expect(f"who reads standard {what} takes one byte and goes away, `{way}`", ran, ended, last)
+            os.close(here)
 
 
 def silent(room):
@@ -684,6 +750,7 @@ def streams(room):
     full(room)
     seconds(room)
     gone(room)
+    leaving(room)
     silent(room)
     signals(room)
 
@@ -717,16 +784,18 @@ GROUPS = {
     "streams": streams,
     "limits": limits,
 }
-DEAREST = {"largest": largest, "resizes": resizes}
+DEAREST = {"largest": largest, "longest": longest}
 PAGE = os.path.join(DOCS, "ROBUSTNESS.md")
 HEADING = "## Each case\n"
 
 
 def write_page():
+    """Writes the tables of the groups that ran in place of those that stand there; the others stay."""
     with open(PAGE, encoding="utf-8") as text:
-        front = text.read().partition(HEADING)[0]
+        front, _, older = text.read().partition(HEADING)
+    tables = {part.partition("\n")[0]: part.rstrip("\n") for part in (older + table.page()).split("\n### ")[1:]}
     with open(PAGE, "w", encoding="utf-8") as out:
-        out.write(front + HEADING + table.page())
+        out.write(front + HEADING + "".join(f"\n### {part}\n" for part in tables.values()))
 
 
 def main():
@@ -740,8 +809,8 @@ def main():
         room = Room(folder)
         for name in got.groups or GROUPS:
             (GROUPS | DEAREST)[name](room)
-    if got.page:
-        write_page()
+            if got.page:
+                write_page()
     print(f"{sum(not isinstance(row, str) for row in table.rows)} rows, {table.wrong} otherwise")
     sys.exit(table.wrong > 0)
 
