@@ -3,11 +3,11 @@
 
     terminals.py FOLDER [TERMINAL..]
 
-Pixels that differ go to FOLDER. Each frame is shown, and then the same picture cell by cell, by places and whole
-attributes, from the dump that `play` gives; both windows must have the same pixels. The frames with all indices of 16 to 255
-must have the colours of that table in them. Behind the frames of `type` come the pictures of frames.py, each by all frames up to it.
-CONPTY may name another program than the one built here. It needs an X server (DISPLAY), ImageMagick's import, and the terminals; one that
-is not installed is left out. A terminal with colours of its own is told as such."""
+Pixels that differ go to FOLDER. The picture of each frame is shown cell by cell, by places and whole attributes, from the dump that `play` gives, and then the
+frame; both windows must have the same pixels, once the terminal says that it has read all, and pictures that differ must not have the same. Where they do not,
+both are shown once more before that is told. The frames with all indices of 16 to 255 must have the colours of that table in them. Behind the frames of `type`
+come the pictures of frames.py, each by all frames up to it. CONPTY may name another program than the one built here. It needs an X server (DISPLAY),
+ImageMagick's import, and the terminals; one that is not installed is left out. Terminals in folders and on displays of their own may be tried side by side."""
 import os, random, re, shutil, subprocess, sys, tempfile, time
 
 sys.dont_write_bytecode = True
@@ -18,6 +18,8 @@ import runs
 from dumps import H, W
 
 FONT = "DejaVu Sans Mono"
+# Rows and columns, as `stty` tells them, and how often a frame is looked at before it differs.
+SIZE, TIMES = f"{H} {W}", 2
 
 
 def run(words, stdin):
@@ -126,9 +128,41 @@ def spelled(dump):
     return out.encode()
 
 
-def terminals(script):
-    sh = ["sh", script]
+# No terminal may show anything beside cells that one stream changes and another does not: scroll bars, the size while it changes, tabs that have a title.
+QTERMINAL = """[General]
+AskOnExit=false
+HideTabBarWithOneTab=true
+MenuVisible=false
+SavePosOnExit=false
+SaveSizeOnExit=false
+ScrollbarPosition=0
+ShowTerminalSizeHint=false
+TabBarless=true
+TerminalMargin=0
+fontFamily=%s
+fontSize=9
+""" % FONT
+FILES = {
+    "config/qterminal.org/qterminal.ini": QTERMINAL,
+    "tmux.conf": "set -g status off\nset -g default-terminal xterm-256color\n",
+    "screenrc": "startup_message off\nautodetach off\nhardstatus off\nterm screen-256color\n",
+}
+# Each terminal gets its size, some of them late. What it answers to `CSI 6 n` comes behind all that it has read.
+SHOW = f"""stty raw -echo min 0 time 100
+for k in $(seq 100); do [ "$(stty size)" = '{SIZE}' ] && break; sleep 0.1; done
+cd "$1"
+stty size > size.txt
+cat stream.bin
+printf '\\033[6n'
+for k in $(seq 12); do [ "$(dd bs=1 count=1 2>/dev/null)" = R ] && touch shown && break; done
+sleep 300
+"""
+
+
+def terminals(folder):
+    sh = ["sh", f"{folder}/show.sh", folder]
     xterm = ["xterm", "-geometry", "80x25+0+0", "-fa", FONT, "-fs", "9", "-bc", "-e"]
+    konsole = ("TerminalColumns=80", "TerminalRows=25", "ScrollBarPosition=2", "HistoryMode=0", "HighlightScrolledLines=false", "ShowTerminalSizeHint=false")
     return {
         "xterm": xterm + sh,
         "urxvt": ["urxvt", "-geometry", "80x25+0+0", "-fn", f"xft:{FONT}:size=9", "+sb", "-e"] + sh,
@@ -138,59 +172,65 @@ def terminals(script):
         "kitty": ["kitty", "--config", "NONE", "-o", "remember_window_size=no", "-o", "initial_window_width=80c", "-o", "initial_window_height=25c",
                   "-o", "confirm_os_window_close=0", "-o", "cursor_blink_interval=0"] + sh,
         "alacritty": ["alacritty", "-o", "window.dimensions.columns=80", "-o", "window.dimensions.lines=25", "-e"] + sh,
-        "konsole": ["konsole", "--separate", "--hide-menubar", "--hide-tabbar", "-p", "TerminalColumns=80", "-p", "TerminalRows=25",
-                    "-p", "ScrollBarPosition=2", "-p", "HighlightScrolledLines=false", "-e"] + sh,
+        "konsole": ["konsole", "--separate", "--hide-menubar", "--hide-tabbar", *(word for one in konsole for word in ("-p", one)), "-e"] + sh,
         "xfce4-terminal": ["xfce4-terminal", "--disable-server", "--geometry=80x25+0+0", "--hide-menubar", "--hide-toolbar", "--hide-scrollbar", "-x"] + sh,
-        "qterminal": ["qterminal", "--geometry", "810x590+0+0", "-e", "sh " + script],
-        "tmux in xterm": xterm + ["tmux", "-f", "/dev/null", "-L", "frames", "new", "sh", script],
-        "screen in xterm": xterm + ["screen", "-c", "/dev/null", "-T", "screen-256color"] + sh,
+        "qterminal": ["qterminal", "--geometry", "648x436+0+0", "-e", " ".join(sh)],
+        "tmux in xterm": xterm + ["tmux", "-f", f"{folder}/tmux.conf", "-S", f"{folder}/tmux", "new", *sh],
+        "screen in xterm": xterm + ["screen", "-S", "frames", "-c", f"{folder}/screenrc"] + sh,
     }
 
 
-def picture(words, folder, stream, wait):
-    """The pixels of a terminal that shows a stream, and its size in rows and columns."""
-    path = f"{folder}/stream.bin"
-    with open(path, "wb") as it:
+def image():
+    return subprocess.run(["import", "-silent", "-window", "root", "-depth", "8", "ppm:-"], capture_output=True, check=True).stdout
+
+
+def settled(wanted):
+    """The display's pixels once they are the wanted ones, or stay as they are for some looks."""
+    last, looks = None, 0
+    for _ in range(60):
+        if looks == (4 if wanted is None else 12):
+            break
+        time.sleep(0.25)
+        now = image()
+        looks = looks + 1 if now == last else 0
+        last = now
+        if now == wanted and looks:
+            break
+    return last
+
+
+def picture(words, folder, stream, wanted=None):
+    """The pixels of a terminal that shows a stream, and its size in rows and columns; or nothing, and why."""
+    with open(f"{folder}/stream.bin", "wb") as it:
         it.write(stream + b"\x1b[?25l")
-    script = f"{folder}/show.sh"
-    with open(script, "w") as it:
-        it.write("tmux -L frames set -g status off 2>/dev/null; sleep 0.6\n")
-        # Some windows get their size late.
-        it.write(f"for k in 1 2 3 4 5 6 7 8 9 10; do [ \"$(stty size)\" = '{H} {W}' ] || sleep 0.3; done\n")
-        it.write(f"stty size > {folder}/size.txt; cat {path}; touch {folder}/shown; sleep 60\n")
     for name in ("size.txt", "shown"):
         if os.path.exists(f"{folder}/{name}"):
             os.remove(f"{folder}/{name}")
-    # qterminal has no word for a scroll bar, which is no cell.
-    config = f"{folder}/config/qterminal.org"
-    os.makedirs(config, exist_ok=True)
-    with open(f"{config}/qterminal.ini", "w") as it:
-        it.write("[General]\nScrollbarPosition=0\nSavePosOnExit=false\nSaveSizeOnExit=false\n")
-    env = dict(os.environ, TERM="xterm-256color", LC_ALL="C.UTF-8", LIBGL_ALWAYS_SOFTWARE="1", TMUX="")
-    env.update(XDG_RUNTIME_DIR=folder, XDG_CONFIG_HOME=f"{folder}/config")
-    p = subprocess.Popen(words, env=env, stdout=subprocess.DEVNULL, stderr=open(f"{folder}/log", "w"), start_new_session=True)
+    env = dict(os.environ, TERM="xterm-256color", LC_ALL="C.UTF-8", LIBGL_ALWAYS_SOFTWARE="1")
+    env.update(XDG_RUNTIME_DIR=folder, XDG_CONFIG_HOME=f"{folder}/config", SCREENDIR=f"{folder}/screens")
+    env.pop("TMUX", None)
+    with open(f"{folder}/log", "w", encoding="utf-8") as log:
+        p = subprocess.Popen(words, env=env, stdout=subprocess.DEVNULL, stderr=log, start_new_session=True)
     try:
-        for _ in range(300):
+        for _ in range(600):
             if os.path.exists(f"{folder}/shown"):
                 break
+            if p.poll() is not None:
+                return None, f"it ended with {p.returncode}"
             time.sleep(0.1)
         else:
-            return None, None
-        last = None
-        for _ in range(20):
-            time.sleep(wait)
-            image = subprocess.run(["import", "-silent", "-window", "root", "-depth", "8", "ppm:-"], capture_output=True).stdout
-            if image == last:
-                break
-            last = image
-        with open(f"{folder}/size.txt") as it:
-            return image, it.read().strip()
+            return None, "it is asked for the cursor's place, and says nothing for a minute"
+        with open(f"{folder}/size.txt", encoding="utf-8") as it:
+            return settled(wanted), it.read().strip()
     finally:
+        # The server of a terminal in another one would go on without it.
+        for end in (["tmux", "-S", f"{folder}/tmux", "kill-server"], ["screen", "-S", "frames", "-X", "quit"]):
+            if end[0] in words:
+                subprocess.run(end, env=env, capture_output=True, check=False)
         try:
             os.killpg(p.pid, 9)
         except OSError:
             pass
-        subprocess.run(["tmux", "-L", "frames", "kill-server"], capture_output=True)
         p.wait()
 
 
@@ -216,35 +256,63 @@ def streams_to_show():
         yield name, (stream[:end], spelled(frames.dump(stream[:end])))
 
 
+def prepared(folder):
+    """Writes what terminals read, and what runs in them."""
+    for name, text in {**FILES, "show.sh": SHOW}.items():
+        path = os.path.join(folder, name)
+        os.makedirs(os.path.dirname(path), exist_ok=True)
+        with open(path, "w", encoding="utf-8") as out:
+            out.write(text)
+    os.makedirs(f"{folder}/screens", mode=0o700, exist_ok=True)
+    os.chmod(folder, 0o700)
+
+
+def kept(folder, name, frame, **images):
+    """Keeps pixels that differ."""
+    for label, it in images.items():
+        with open(f"{folder}/{name.replace(' ', '_')}.{frame.replace(' ', '_')}.{label}.ppm", "wb") as out:
+            out.write(it)
+
+
+def faults(name, words, folder, frame, stream, reference, seen):
+    """What is otherwise than it should be with a frame on a terminal. `seen` has what its pictures looked like."""
+    for _ in range(TIMES):
+        wanted, size = picture(words, folder, reference)
+        shown, again = picture(words, folder, stream, wanted) if wanted else (None, size)
+        if wanted and shown == wanted and size == again == SIZE:
+            break
+    if not shown:
+        return [f"{frame}: shows nothing, {again}"]
+    found = [f"{frame}: a window of {size} and one of {again} in place of {SIZE}"] * ((size, again) != (SIZE, SIZE))
+    # Cells that are filled to their edges may touch each other's edges, in another order: only their colours are looked at.
+    if shown != wanted and frame != "blocks":
+        found.append(f"{frame}: differs")
+        kept(folder, name, frame, shown=shown, wanted=wanted)
+    # Windows in which nothing is drawn yet are the same, too.
+    if seen.setdefault(wanted, reference) != reference:
+        found.append(f"{frame}: looks as another picture does")
+    if frame in ("backgrounds", "blocks"):
+        there = colours(shown)
+        missing = [n for n in range(16, 256) if there.get(bytes(rgb(n)), 0) < 100]
+        found += [f"{frame}: {len(missing)} colours of 240 are others, as {missing[0]}"] if missing else []
+    return found
+
+
 def main():
     folder, *only = sys.argv[1:]
+    folder = os.path.abspath(folder)
     runs.needs_program()
-    os.makedirs(folder, exist_ok=True)
+    prepared(folder)
     streams = dict(streams_to_show())
-    for name, words in terminals(f"{folder}/show.sh").items():
+    for name, words in terminals(folder).items():
         if shutil.which(words[0]) is None or only and name not in only:
             continue
-        told = []
+        told, seen = [], {}
         for frame, (stream, reference) in streams.items():
-            shown, size = picture(words, folder, stream, 0.4)
-            wanted, again = picture(words, folder, reference, 0.4)
-            if shown is None or wanted is None:
-                told.append(f"{frame}: shows nothing")
+            told += faults(name, words, folder, frame, stream, reference, seen)
+            if "shows nothing" in "".join(told):
                 break
-            if size != again:
-                told.append(f"{frame}: {size}, then {again}")
-            # Cells that are filled to their edges may touch each other's edges, in another order: only their colours are looked at.
-            if shown != wanted and frame != "blocks":
-                told.append(f"{frame}: differs")
-                for label, it in (("shown", shown), ("wanted", wanted)):
-                    with open(f"{folder}/{name.replace(' ', '_')}.{frame.replace(' ', '_')}.{label}.ppm", "wb") as out:
-                        out.write(it)
-            if frame in ("backgrounds", "blocks"):
-                there = colours(shown)
-                missing = [n for n in range(16, 256) if there.get(bytes(rgb(n)), 0) < 100]
-                if missing:
-                    told.append(f"{frame}: {len(missing)} colours of 240 are others, as {missing[0]}")
-        print(f"{name} ({size}): " + ("; ".join(told) or f"{len(streams)} frames the same, all 240 colours right"), flush=True)
+        print(f"{name}: " + ("; ".join(told) or f"{len(streams)} frames the same, all 240 colours right"), flush=True)
 
 
 if __name__ == "__main__":
