@@ -648,6 +648,9 @@ def seconds(room):
     """Files of a second terminal that cannot be made or written, and one that is there."""
     mirror, last = ["mirror", room.mirror], '["end",12,"mirror"]'
     for what, make in (("is a folder", os.mkdir), ("is a symlink to a full device", lambda path: os.symlink("/dev/full", path))):
+        # (an earlier group may have left one)
+        if os.path.lexists(room.path(SECOND)):
+            os.remove(room.path(SECOND))
         make(room.path(SECOND))
         table.expect(f"`{SECOND}` {what}, `mirror`", runs.run(mirror, room.mirror_link, folder=room.folder), "12", last)
         (os.rmdir if os.path.isdir(room.path(SECOND)) else os.remove)(room.path(SECOND))
