@@ -808,6 +808,8 @@ def main():
     got = parser.parse_args()
     if not os.access(runs.PROGRAM, os.X_OK):
         sys.exit("build the program first: ./conpty type </dev/null >/dev/null")
+    # (a shell ignores it for what it starts in the background)
+    signal.signal(signal.SIGINT, signal.default_int_handler)
     with tempfile.TemporaryDirectory() as folder:
         room = Room(folder)
         for name in got.groups or GROUPS:
