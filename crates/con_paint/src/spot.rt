@@ -246,12 +246,19 @@ fn go_to_row(out: &mut Vec<u8>, at: Spot, x: u16, y: u16)
     }
 }
 
-/// Brings the cursor to a place, counted from 0, where it does not stand there.
-pub(crate) fn go(out: &mut Vec<u8>, at: Spot, x: u16, y: u16)
+// Whether the cursor is known to stand at a place.
+fn is_there(at: Spot, x: u16, y: u16) -> bool
+    ensures there { result ≡ true → (at.known ≡ true) × (at.x ≡ x) × (at.y ≡ y) }
+    ensures elsewhere { result ≡ false → at.known ≡ true → at.x ≡ x → at.y ≡ y → ⊥ }
+{
+    at.known && at.x == x && at.y == y
+}
+
+// Brings the cursor to a place, counted from 0.
+fn move_to(out: &mut Vec<u8>, at: Spot, x: u16, y: u16)
     requires small { (x < 999) × (y < 999) }
     requires room { vec_len out.old + 11 ≤ vec_capacity out.old }
     ensures leads { (s : Page) → (x < s.w) × (y < s.h) → spots.IsAt at s → Leads out.old.items out.new.items s (record s { x = x; y = y; pending = false }) 0 }
-    ensures quiet { at.known ≡ true → at.x ≡ x → at.y ≡ y → out.new.items ≡ out.old.items }
     ensures capacity { vec_capacity out.new ≡ vec_capacity out.old }
     ensures few { vec_len out.new ≤ vec_len out.old + 11 }
 {
@@ -264,4 +271,19 @@ pub(crate) fn go(out: &mut Vec<u8>, at: Spot, x: u16, y: u16)
     } else {
         go_to_row(out, at, x, y);
     }
+}
+
+/// Brings the cursor to a place, counted from 0, where it does not stand there.
+pub(crate) fn go(out: &mut Vec<u8>, at: Spot, x: u16, y: u16)
+    requires small { (x < 999) × (y < 999) }
+    requires room { vec_len out.old + 11 ≤ vec_capacity out.old }
+    ensures leads { (s : Page) → (x < s.w) × (y < s.h) → spots.IsAt at s → Leads out.old.items out.new.items s (record s { x = x; y = y; pending = false }) 0 }
+    ensures quiet { at.known ≡ true → at.x ≡ x → at.y ≡ y → out.new.items ≡ out.old.items }
+    ensures capacity { vec_capacity out.new ≡ vec_capacity out.old }
+    ensures few { vec_len out.new ≤ vec_len out.old + 11 }
+{
+    if is_there(at, x, y) {
+        return;
+    }
+    move_to(out, at, x, y);
 }

@@ -1,9 +1,9 @@
--- One sequence, or what a row or another one needs.
-use Rattle.con_paint.proofs.PlaceLemmas.{gone}
+-- Nothing, or a move.
+use Rattle.con_paint.proofs.PlaceLemmas.{there}
 use Rattle.con_paint.proofs.spot.go.Goals as goal
 
-pub returns-then-not-at-clause-leads : goal.returns-then-not-at-clause-leads
-returns-then-not-at-clause-leads c = λ s inside at. gone _ _ s c.args.x c.args.y inside (c.go_to.ensures.leads s)
+pub returns-then-is_there-clause-leads : goal.returns-then-is_there-clause-leads
+returns-then-is_there-clause-leads c = λ s inside at. let k = c.is_there.ensures.there c.if-is_there.true in there _ s c.args.at c.args.x c.args.y at k.0 k.1 k.2
 
-pub returns-then-at-ge999-clause-leads : goal.returns-then-at-ge999-clause-leads
-returns-then-at-ge999-clause-leads c = λ s inside at. gone _ _ s c.args.x c.args.y inside (c.go_to-then-at-ge999.ensures.leads s)
+pub returns-clause-quiet : goal.returns-clause-quiet
+returns-clause-quiet c = λ k ex ey. absurd (c.is_there.ensures.elsewhere c.if-is_there.false k ex ey)
