@@ -27,7 +27,7 @@ import hostile
 import memory
 import runs
 
-DONE, WAYS, SECOND = '["end",0]', ("solo", "run"), "conpty.mirror"
+DONE, WANT, WAYS, SECOND = '["end",0]', '["end",9]', ("solo", "run"), "conpty.mirror"
 table = runs.Table()
 DOCS = os.path.join(os.path.dirname(os.path.abspath(__file__)), "..", "docs")
 
@@ -446,11 +446,12 @@ def free():
 
 
 def spacious(what, words, link=None, seconds=900):
-    """A session that takes gigabytes, with a limit of memory and one of time."""
+    """A session that takes gigabytes, with a limit of memory, which may not suffice, and one of time."""
     if free() < SPACE:
         table.tell(what, "left out", "", 0, "", f"; it has to find {SPACE >> 30} GiB of memory free")
     else:
-        table.expect(what, runs.run(words, link, limits={"AS": SPACE}, seconds=seconds), "0", DONE)
+        ran = runs.run(words, link, limits={"AS": SPACE}, seconds=seconds)
+        table.expect(f"{what}, in {SPACE >> 30} GiB", ran, ("0", "9"), WANT if ran.ended == "9" else DONE)
 
 
 def largest(room):
