@@ -1,7 +1,5 @@
 pub mod Beginning
 pub mod ClientEntries
-pub mod ClientGoing
-pub mod ClientServing
 pub mod Closures
 pub mod Crewing
 pub mod Crosses
@@ -10,6 +8,7 @@ pub mod InRow
 pub mod Ledgering
 pub mod Making
 pub mod Painting
+pub mod Posting
 pub mod Returning
 pub mod Rows
 pub mod Scribing

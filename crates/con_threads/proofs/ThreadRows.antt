@@ -42,8 +42,9 @@ use Rattle.con_session.specs.Sender.{LinkIs, hung}
 use Rattle.con_session.specs.Solo.{AsksStand, begins}
 use Rattle.con_session.specs.declared.terminal.Side.{Side}
 use Rattle.con_session.specs.declared.worker.Worker.{Worker}
-use Rattle.con_threads.specs.Clients.{ClientGoes, IsNext}
+use Rattle.con_threads.specs.Clients.{ClientGoes}
 use Rattle.con_threads.specs.Painters.{Draws, DrawsLess}
+use Rattle.con_threads.specs.Post.{AreOthers}
 use Rattle.con_threads.specs.Session.{clients_in}
 use Rattle.con_threads.specs.Sides.{HasSent, SideGoes}
 use Rattle.con_threads.specs.Writers.{Writes}
@@ -70,22 +71,18 @@ counting = begins session ([] ∷ []) None
 one_client : clients_in counting ≡ 1
 one_client = refl
 
+-- ---- what others enter between two events of an actor
+
+of_others : AreOthers (actors.Client 1) (side events.Quiet ∷ paints ∷ record { actor = actors.Client 2; event = count } ∷ [])
+of_others = refl
+
+one_of_its_own : AreOthers (actors.Client 1) (side events.Quiet ∷ by count ∷ paints ∷ []) → ⊥
+one_of_its_own e = absurd (let wrong : false ≡ true = e in cc)
+
 -- ---- a client
 
 abbrev worker : ℕ → Bool → Worker
 worker n gone = record { at = n; reading = false; leaving = false; gone = gone }
-
-abbrev two_steps : List Step
-two_steps = steps.Call (calls.Count 1) ∷ steps.Exit 3 ∷ []
-
-first_step : IsNext two_steps (worker 0 false) count
-first_step = refl
-
-second_step : IsNext two_steps (worker 1 false) (events.Exit 3)
-second_step = refl
-
-behind_all : IsNext two_steps (worker 2 false) (events.Exit 0)
-behind_all = refl
 
 abbrev session_steps : List Step
 session_steps = steps.Call (calls.Count 1) ∷ []

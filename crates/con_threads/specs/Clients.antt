@@ -1,16 +1,11 @@
 -- A client's thread.
-use Rattle.std.specs.Prelude.{◌≡◌, ◌⊎◌, ℕ, ◌≤◌, Bool, true, false, List, [], drop}
+use Rattle.std.specs.Prelude.{◌≡◌, ℕ, ◌≤◌, Bool, true, false, List, []}
 use Rattle.con_events.specs.declared.actor.Actor.TheVariants as actors
 use Rattle.con_events.specs.declared.entry.Entry.{Entry}
-use Rattle.con_events.specs.declared.event.Event.{Event}
-use Rattle.con_events.specs.declared.event.Event.TheVariants as events
 use Rattle.con_events.specs.declared.script.Step.{Step}
 use Rattle.con_handlers.specs.Boxes.{Recalls, boxed}
 use Rattle.con_handlers.specs.Memory.{Memory}
-use Rattle.con_machine.specs.Client.{next_event, ctrl_exit}
-use Rattle.con_machine.specs.History.{run}
 use Rattle.con_machine.specs.Rounds.{Begun, client_at}
-use Rattle.con_machine.specs.Step.{is_ready}
 use Rattle.con_session.specs.Held.{in_chain, in_rack}
 use Rattle.con_session.specs.Standing.{ClientStands}
 use Rattle.con_session.specs.Worker.{IsWorker, HandsStandBy}
@@ -74,38 +69,3 @@ IsClientThread memory c = IsClientThreadBy (seen_of memory c)
 
 abbrev pub HasServed : {X : Type 0} {V : X → Type 0} → Recalls X V → ClientThread X V → ClientThread X V → Type 0
 HasServed memory old new = HasServedBy (seen_of memory old) (seen_of memory new)
-
--- ---- between two events of a turn
-
--- no control event is pending
-abbrev pub IsQuiet : Scribe → Type 0
-IsQuiet s = is_ready (run (opened s) (history s)) s.actor events.TakeCtrl ≡ false
-
--- it goes on: no event calls for its exit, none is pending, and a read of it is open, or none is
-pub record Proceeds (s : Scribe) (w : Worker) (broken reads : Bool) : Type 0 where
-  pub whole : broken ≡ false
-  pub here : w.gone ≡ false
-  pub stays : w.leaving ≡ false
-  pub reading : w.reading ≡ reads
-  pub quiet : IsQuiet s
-
--- the event of its next step
-abbrev pub IsNext : List Step → Worker → Event → Type 0
-IsNext steps w e = e ≡ next_event (drop w.at steps)
-
--- a control event called for its exit
-pub record MustExit (w : Worker) (broken : Bool) (status : ℕ) : Type 0 where
-  pub whole : broken ≡ false
-  pub here : w.gone ≡ false
-  pub leaving : w.leaving ≡ true
-  pub status' : status ≡ ctrl_exit
-
--- it may leave, by a control event or by its script
-abbrev pub MayExit : Scribe → List Step → Worker → Bool → ℕ → Type 0
-MayExit s steps w broken status = MustExit w broken status ⊎ (Proceeds s w broken false × IsNext steps w (events.Exit status))
-
--- where nothing was taken, all is as it was, and nothing is pending
-pub record Rested (v w : Worker) (c d : Bool) (s : Scribe) : Type 0 where
-  pub worker : w ≡ v
-  pub broken : d ≡ c
-  pub quiet : IsQuiet s

@@ -1,6 +1,7 @@
 -- What a reader must believe: the console in the lock, what an actor has seen of it, and what each thread promises.
 pub mod Ledger
 pub mod Scribe
+pub mod Post
 pub mod Clients
 pub mod Sides
 pub mod Painters

@@ -1,16 +1,22 @@
 //! A client's thread.
-ghost use Rattle.std.specs.Prelude.{◌≡◌, ◌≤◌, true, false, [], length, map, IfOk};
+ghost use Rattle.std.specs.Prelude.{◌≡◌, ◌≤◌, false, [], length, map};
 ghost use Rattle.con_book.specs.Passes.{book_id, pass_id};
-ghost use Rattle.con_threads.specs.Clients.{HasServed, IsClientThread, MayExit, Proceeds, Rested};
-ghost use Rattle.con_threads.specs.Ledger.{brief_told};
+ghost use Rattle.con_handlers.specs.Boxes.{boxed};
+ghost use Rattle.con_machine.specs.Rounds.{Begun};
+ghost use Rattle.con_session.specs.DoorTurns.{ClientAt};
+ghost use Rattle.con_session.specs.Held.{HandsStand, HasTurned};
+ghost use Rattle.con_threads.specs.Clients.{HasServed, IsClientThread};
+ghost use Rattle.con_threads.specs.Post.{AreOthers};
+ghost use Rattle.con_threads.specs.Scribe.{opened, history, IsScribe, IsSameScribe};
 
-use crate::ledger::{Ledger, Told};
+use crate::ledger::Ledger;
+use crate::post::Post;
 use crate::scribe::Scribe;
 use crate::signals::Signals;
 use con_book::Book;
-use con_events::{Event, Step};
+use con_events::{Actor, Step};
 use con_outside::Gate;
-use con_session::{Brief, CTRL_EXIT, Hands, Seat, must_leave};
+use con_session::{Hands, Seat, act};
 use con_units::OutOfMemory;
 use std::sync::Wait;
 use std::sync::atomic::Ordering::SeqCst;
@@ -32,16 +38,6 @@ pub struct ClientThread<'a> {
     pub broken: bool,
 }
 
-/// What a client looks at in what it was told.
-pub(crate) fn brief_in(told: Told) -> Brief
-    ensures { result ≡ brief_told told }
-{
-    match told {
-        Told::Brief(brief) => brief,
-        Told::Picture(_) => Brief::Fine,
-    }
-}
-
 // Drops the handlers.
 fn drop_all(hands: &mut Hands)
     requires { 0 ≤ length hands.old.places.items }
@@ -54,65 +50,6 @@ fn drop_all(hands: &mut Hands)
 }
 
 impl ClientThread<'_> {
-    /// The exit that a control event calls for, that of a step, or that behind the last one. Then its handlers are dropped.
-    pub fn leave<R: Wait>(
-        &mut self,
-        rt: &R,
-        book: &Book<Ledger>,
-        status: u32,
-    ) -> Result<(), OutOfMemory>
-        requires book { pass_id self.old.scribe.pass ≡ book_id book.now }
-        requires is { IsClientThread memory self.old }
-        requires may { MayExit self.old.scribe self.old.steps.now self.old.seat.worker self.old.broken status }
-        ensures served { HasServed memory self.old self.new }
-    {
-        let told = self.scribe.enter(rt, book, Event::Exit(status))?;
-        brief_in(told);
-        self.seat.worker.gone = true;
-        drop_all(&mut self.seat.hands);
-        Ok(())
-    }
-
-    /// Takes a control event that is pending, and asks its handlers outside the lock. False: none is pending.
-    pub fn take<R: Wait>(&mut self, rt: &R, book: &Book<Ledger>) -> Result<bool, OutOfMemory>
-        requires book { pass_id self.old.scribe.pass ≡ book_id book.now }
-        requires is { IsClientThread memory self.old }
-        requires whole { self.old.broken ≡ false }
-        requires here { self.old.seat.worker.gone ≡ false }
-        requires stays { self.old.seat.worker.leaving ≡ false }
-        ensures served { HasServed memory self.old self.new }
-        ensures none { IfOk result (λ taken. taken ≡ false
-            → Rested self.old.seat.worker self.new.seat.worker self.old.broken self.new.broken self.new.scribe) }
-    {
-        let Some(told) = self.scribe.enter_if_ready(rt, book, Event::TakeCtrl)? else {
-            return Ok(false);
-        };
-        match brief_in(told) {
-            Brief::Ctrl(event) => {
-                let handled = self.seat.hands.deliver(event);
-                self.seat.worker.leaving = must_leave(event, handled);
-                Ok(true)
-            }
-            Brief::Fine => Ok(true),
-            Brief::Refused => Ok(true),
-        }
-    }
-
-    /// The answer of its read, once that is done.
-    pub fn collect<R: Wait>(&mut self, rt: &R, book: &Book<Ledger>) -> Result<Moved, OutOfMemory>
-        requires book { pass_id self.old.scribe.pass ≡ book_id book.now }
-        requires is { IsClientThread memory self.old }
-        requires goes { Proceeds self.old.scribe self.old.seat.worker self.old.broken true }
-        ensures served { HasServed memory self.old self.new }
-    {
-        let Some(told) = self.scribe.enter_if_ready(rt, book, Event::Collect)? else {
-            return Ok(Moved::Waits);
-        };
-        brief_in(told);
-        self.seat.worker.reading = false;
-        Ok(Moved::Entered)
-    }
-
     /// A turn, the first of these that there is to do: the exit that a control event calls for, a control event that is
     /// pending, the answer of a read that is open, the next step of the script, round which the gate is called.
     pub fn act<R: Wait, G: Gate>(
@@ -131,18 +68,50 @@ impl ClientThread<'_> {
         if self.seat.worker.gone {
             return Ok(Moved::Gone);
         }
-        if self.seat.worker.leaving {
-            self.leave(rt, book, CTRL_EXIT)?;
-            return Ok(Moved::Entered);
+        match self.turn(rt, book, gate) {
+            Ok(true) => {
+                if self.seat.worker.gone {
+                    drop_all(&mut self.seat.hands);
+                }
+                Ok(Moved::Entered)
+            }
+            Ok(false) => Ok(Moved::Waits),
+            Err(refused) => {
+                self.broken = true;
+                Err(refused)
+            }
         }
-        if self.take(rt, book)? {
-            return Ok(Moved::Entered);
-        }
-        if self.seat.worker.reading {
-            return self.collect(rt, book);
-        }
-        self.proceed(rt, book, gate)?;
-        Ok(Moved::Entered)
+    }
+
+    // A turn at the console in the lock.
+    fn turn<R: Wait, G: Gate>(
+        &mut self,
+        rt: &R,
+        book: &Book<Ledger>,
+        gate: &G,
+    ) -> Result<bool, OutOfMemory>
+        requires book { pass_id self.old.scribe.pass ≡ book_id book.now }
+        requires is { IsClientThread memory self.old }
+        requires here { self.old.seat.worker.gone ≡ false }
+        ensures same { IsSameScribe self.old.scribe self.new.scribe }
+        ensures scribe { IsScribe self.new.scribe }
+        ensures rest { (self.new.steps.now ≡ self.old.steps.now) × (self.new.number ≡ self.old.number) × (self.new.broken ≡ self.old.broken) }
+        ensures turned { (b : Begun) → opened self.old.scribe ≡ b.state
+            → ClientAt b self.old.number (history self.old.scribe) self.old.steps.now self.old.seat.worker
+            → HandsStand b self.old.number (history self.old.scribe) (boxed memory) self.old.seat.hands
+            → HasTurned (AreOthers (Actor.Client self.old.number)) result b self.old.number self.old.steps.now (history self.old.scribe)
+            (history self.new.scribe) self.new.seat.worker (boxed memory) self.new.seat.hands }
+    {
+        let mut post = Post::at(rt, book, &mut self.scribe);
+        let done = act(
+            &mut post,
+            gate,
+            &mut self.seat.worker,
+            &mut self.seat.hands,
+            self.steps,
+            self.number,
+        );
+        done
     }
 
     // Turns, until it is gone, or somebody halts all.

@@ -25,12 +25,12 @@ mod ledger;
 mod listing;
 mod painter;
 mod paired;
+mod post;
 mod run;
 mod scribe;
 mod session;
 mod side;
 mod signals;
-mod step;
 mod writer;
 
 pub use client::{ClientThread, Moved};
