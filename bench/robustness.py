@@ -4,7 +4,7 @@
     robustness.py [--page] [GROUP..]
 
 The groups are memory, calls, links, documents, sizes, texts, files, streams and limits; without words these are tried, which takes some minutes. Two more are
-largest, whose sessions take gigabytes and some minutes each, and longest, whose sessions take hours; each of both has a limit of memory and one of time, and is
+largest, whose sessions take gigabytes or some minutes each, and longest, whose sessions take hours; each of both has a limit of memory and one of time, and is
 left out where too little memory is free, so nothing else should run then. What has to come is said by the statuses of docs/FORMATS.md and the rules of
 docs/PROFILE.md; streams and reports of runs that were disturbed are a front of those of a run that was not. Prints a line for each case, and with `--page`
 writes those of each group into docs/ROBUSTNESS.md, behind its heading "Each case", where those of other groups stay. Ends with 1 where one was otherwise than
@@ -454,8 +454,17 @@ def spacious(what, words, link=None, seconds=900):
         table.expect(f"{what}, in {SPACE >> 30} GiB", ran, ("0", "9"), WANT if ran.ended == "9" else DONE)
 
 
+def searched(room):
+    """As many F8 as a link has room for, over a full history in which each is in vain."""
+    front = [KEPT, b"Q" * 4000, hostile.typed(b"a" * 1022 + b"c")]
+    most = hostile.MOST - sum(map(len, front))
+    link = named(room, "link", [*front, *hostile.fed(b"\x1b[19~", most)])
+    words = ["solo", hostile.document(room.folder, "full", FULL_HISTORY)]
+    spacious("16 MiB of F8 over 999 lines of 1,024, of which none begins as the line does, by its last unit alone", words, link)
+
+
 def largest(room):
-    table.group("Sessions that take gigabytes")
+    table.group("Sessions that take gigabytes, or minutes")
     cells = hostile.session([["rect-read", 2, [0, 0, 127, 127]]] * 256, clients=64, window=(128, 128))
     path = hostile.document(room.folder, "cells", cells)
     for way in WAYS:
@@ -464,6 +473,7 @@ def largest(room):
         link = named(room, "link", hostile.filled(b"", unit))
         for way in WAYS:
             spacious(f"16 MiB of {what}, `{way}`", [way, room.idle], link)
+    searched(room)
 
 
 def longest(room):
@@ -475,11 +485,6 @@ def longest(room):
     link = named(room, "link", hostile.filled(b"", b"P"))
     for way in WAYS:
         spacious(f"16 MiB of `P` at 512 by 256, `{way}`", [way, wide], link, 14_400)
-    front = [KEPT, b"Q" * 4000, hostile.typed(b"a" * 1022 + b"c")]
-    most = hostile.MOST - sum(map(len, front))
-    link = named(room, "link", [*front, *hostile.fed(b"\x1b[19~", most)])
-    words = ["solo", hostile.document(room.folder, "full", FULL_HISTORY)]
-    spacious("16 MiB of F8 over 999 lines of 1,024, of which none begins as the line does, by its last unit alone", words, link, 14_400)
 
 
 # ---- texts that are typed and played
@@ -809,8 +814,9 @@ def main():
     got = parser.parse_args()
     if not os.access(runs.PROGRAM, os.X_OK):
         sys.exit("build the program first: ./conpty type </dev/null >/dev/null")
-    # (a shell ignores it for what it starts in the background)
+    # (a shell ignores the first for what it starts in the background, and nohup the second)
     signal.signal(signal.SIGINT, signal.default_int_handler)
+    signal.signal(signal.SIGHUP, signal.SIG_DFL)
     with tempfile.TemporaryDirectory() as folder:
         room = Room(folder)
         for name in got.groups or GROUPS:
