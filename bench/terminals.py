@@ -208,6 +208,9 @@ def picture(words, folder, stream, wanted=None):
             os.remove(f"{folder}/{name}")
     env = dict(os.environ, TERM="xterm-256color", LC_ALL="C.UTF-8", LIBGL_ALWAYS_SOFTWARE="1")
     env.update(XDG_RUNTIME_DIR=folder, XDG_CONFIG_HOME=f"{folder}/config", SCREENDIR=f"{folder}/screens")
+    # Else each would start a bus that stays.
+    env["DBUS_SESSION_BUS_ADDRESS"] = f"unix:path={folder}/no-bus"
+    env["NO_AT_BRIDGE"] = "1"
     env.pop("TMUX", None)
     with open(f"{folder}/log", "w", encoding="utf-8") as log:
         p = subprocess.Popen(words, env=env, stdout=subprocess.DEVNULL, stderr=log, start_new_session=True)
