@@ -6,6 +6,7 @@
 //! - [`Units`], [`Bytes`], [`Rows`], [`Marks`]: lists; contracts see what they hold, never their room.
 //! - [`View`], [`Sight`], [`Frame`], [`FrameFault`], [`BufferId`], [`Code`], [`OutOfMemory`]: words that crates pass on.
 //! - [`Utf8`]: a decoder of UTF-8 that is fed byte by byte. Contracts see the bytes that it holds.
+//! - [`limits`]: the greatest sizes and numbers that the console takes, for the code and, in `specs/Limits`, for contracts.
 //! - [`Past`]: a list that exists in proofs alone.
 //!
 //! In `specs/`, `Split` says how any text falls into sequences, whatever the sequences are, and `SplitLaws` that this
@@ -17,6 +18,7 @@
 pub mod attr;
 pub mod cell;
 pub mod code;
+pub mod limits;
 pub mod lists;
 pub mod past;
 pub mod place;
