@@ -98,6 +98,8 @@ class Copy:
         self.top.mkdir()
         shutil.copy2(TOP / "conpty", self.top)
         shutil.copy2(TOP / "crates.txt", self.top)
+        (self.top / "tools").mkdir()
+        shutil.copy2(TOP / "tools/prove.py", self.top / "tools")
         lines = [it.partition("#")[0].partition(":") for it in (TOP / "crates.txt").read_text().splitlines()]
         self.uses = {it.split()[0]: rest.split() for it, colon, rest in lines if colon}
         for crate in self.uses:
@@ -172,7 +174,10 @@ def order(copy):
     same((proved[-1], copy.noted("late")), ("conpty", []))
     count = len(proved)
     lines = re.findall(r"(?m)^conpty: (\w+): (\d+) of (\d+) crates are done, (\d+) are left, after 0 min \d\d s$", err)
-    same(lines, [(crate, str(at), str(count), str(count - at)) for at, crate in enumerate(proved)])
+    same(sorted(crate for crate, _, _, _ in lines), sorted(proved))
+    for at, (crate, done, of, left) in enumerate(lines):
+        same((int(done) + int(left), int(of)), (count, count))
+        assert len(copy.below(crate)) - 1 <= int(done) <= at, f"{crate} begins when {done} are done"
     same(err.splitlines()[-1], "report")
 
 
@@ -182,6 +187,17 @@ def later_calls(copy):
     copy.forget()
     same(copy.call("a b", "", "*", text=b"\0\377"), (5, b"a b..*.\0\377", "report\n"))
     same(copy.notes.exists(), False)
+
+
+def side_by_side(copy):
+    """Crates that do not stand on one another are proved at the same time, where there are processors for it."""
+    copy.call("type", TAKES="0.2")
+    spans = [(what, crate) for what, crate, _, _ in map(json.loads, copy.notes.read_text().splitlines()) if what in ("begun", "proved")]
+    most = at_work = 0
+    for what, _ in spans:
+        at_work += 1 if what == "begun" else -1
+        most = max(most, at_work)
+    assert 1 < most <= len(os.sched_getaffinity(0)) or len(os.sched_getaffinity(0)) == 1, f"at most {most} at a time"
 
 
 def resumption(copy):
@@ -201,8 +217,8 @@ def failure(copy):
     same((status, out), (70, b""))
     lines = err.splitlines()
     same(lines[-21:], [f"line {number} of con_screen" for number in range(20, 40)] + ["conpty: the program could not be built"])
-    assert lines[-22].startswith("conpty: con_screen: "), lines[-22]
-    same(copy.noted("begun")[-1], "con_screen")
+    assert any(it.startswith("conpty: con_screen: ") for it in lines), lines
+    same([it for it in copy.noted("begun") if "con_screen" in copy.below(it)], ["con_screen"])
     same(os.listdir(copy.top / "out"), [])
 
 
@@ -350,7 +366,7 @@ def usage(copy):
 
 
 def main():
-    tries = [order, later_calls, resumption, failure, failure_of_the_program, no_rt, signals, two_calls, other_rt, spaces, links, edits, edit_meanwhile]
+    tries = [order, later_calls, side_by_side, resumption, failure, failure_of_the_program, no_rt, signals, two_calls, other_rt, spaces, links, edits, edit_meanwhile]
     tries += [unproved, unproved_without_end, usage]
     failed = 0
     for one in tries:
