@@ -56,7 +56,11 @@ pub record BufferStage : Type 0 where
 
 -- a screen that came of the shown one, in its place; and the other one shown, where the text switched
 abbrev pub carried : Buffer → Stage → Bool → BufferStage
-carried b st switch = record { buffer = if switch then turned (record b { shown = st.screen }) st.told.alternate else record b { shown = st.screen }; told = st.told }
+carried b st switch = record {
+  buffer = if switch then turned (record b { shown = st.screen }) st.told.alternate
+      else record b { shown = st.screen };
+  told = st.told;
+}
 
 -- A unit goes to the shown screen. Where it ends a sequence that switches, what follows goes to the other one.
 unfoldable pub unit_written : BufferStage → ℕ → BufferStage

@@ -1,5 +1,6 @@
 -- The screen buffers of a console.
-use Rattle.std.specs.Prelude.{ℕ, ◌≡◌, ◌+◌, ◌-◌, ◌<◌, ◌≤◌, ◌==◌, nat_le, Bool, false, List, ◌∷◌, replicate, ◌^◌, length, Option, None, Some, IsSome, IfSome, is_none, slice_index_or, slice_set, if◌then◌else◌}
+use Rattle.std.specs.Prelude.{ℕ, ◌≡◌, ◌+◌, ◌-◌, ◌<◌, ◌≤◌, ◌==◌, nat_le, Bool, false, List, ◌∷◌, replicate, ◌^◌, length}
+use Rattle.std.specs.Prelude.{Option, None, Some, IsSome, IfSome, is_none, slice_index_or, slice_set, if◌then◌else◌}
 use Rattle.std.specs.List.{position}
 use Rattle.std.specs.Option.{option_map, option_map_or}
 use Rattle.con_screen.specs.Screen.{Screen}

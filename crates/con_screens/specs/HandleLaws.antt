@@ -1,19 +1,24 @@
 -- How many handles a buffer counts after one was made, or one more or less was counted.
-use Rattle.std.proofs.Common.{◌≡◌, ◌≢◌, ℕ, ◌+◌, ◌-◌, ◌<◌, ◌≤◌, Bool, true, false, cond, List, length, get_or, set, Option, None, Some, refl, sym, ap, ◌∙◌, arith}
+use Rattle.std.proofs.Common.{◌≡◌, ◌≢◌, ℕ, ◌+◌, ◌-◌, ◌<◌, ◌≤◌, Bool, true, false, cond, List, length}
+use Rattle.std.proofs.Common.{get_or, set, Option, None, Some, refl, sym, ap, ◌∙◌, arith}
 use Rattle.std.specs.Prelude.{IsSome, ◌==◌, nat_le, is_none, if◌then◌else◌}
 use Rattle.std.specs.Option.{option_map, option_map_or}
 use Rattle.std.proofs.lemmas.Bool.Decides.{nat_tests}
 use Rattle.std.proofs.lemmas.List.{get_or-set_same, get_or-set_other}
 use Rattle.std.proofs.lemmas.List.Quantifiers.{position-Some}
 use Rattle.con_screens.specs.Buffer.{new_buffer}
-use Rattle.con_screens.specs.Buffers.{Buffers, IsLive, buffer_at, handles_of, with_handles, with_buffer, free_id, created, gone, handle_retained, handle_released}
+use Rattle.con_screens.specs.Buffers.{Buffers, IsLive, buffer_at, handles_of, with_handles, with_buffer}
+use Rattle.con_screens.specs.Buffers.{free_id, created, gone, handle_retained, handle_released}
 use Rattle.con_screens.specs.LentLaws.{some_not_none, live_within}
 use Rattle.con_screens.specs.declared.buffer.Buffer.{Buffer}
 
-put_here : (xs : List (Option Buffer)) (i k : ℕ) (o : Option Buffer) → i < length xs → k ≡ i → option_map_or (λ b. b.handles) (get_or (set xs i o) k None) 0 ≡ option_map_or (λ b. b.handles) o 0
-put_here xs i k o within e = ap (λ (v : Option Buffer). option_map_or (λ b. b.handles) v 0) (ap (λ j. get_or (set xs i o) j None) e ∙ get_or-set_same xs i o None within)
+put_here : (xs : List (Option Buffer)) (i k : ℕ) (o : Option Buffer) → i < length xs → k ≡ i
+    → option_map_or (λ b. b.handles) (get_or (set xs i o) k None) 0 ≡ option_map_or (λ b. b.handles) o 0
+put_here xs i k o within e = ap (λ (v : Option Buffer). option_map_or (λ b. b.handles) v 0)
+    (ap (λ j. get_or (set xs i o) j None) e ∙ get_or-set_same xs i o None within)
 
-put_there : (xs : List (Option Buffer)) (i k : ℕ) (o : Option Buffer) → k ≢ i → option_map_or (λ b. b.handles) (get_or (set xs i o) k None) 0 ≡ option_map_or (λ b. b.handles) (get_or xs k None) 0
+put_there : (xs : List (Option Buffer)) (i k : ℕ) (o : Option Buffer) → k ≢ i
+    → option_map_or (λ b. b.handles) (get_or (set xs i o) k None) 0 ≡ option_map_or (λ b. b.handles) (get_or xs k None) 0
 put_there xs i k o ne = ap (λ (v : Option Buffer). option_map_or (λ b. b.handles) v 0) (get_or-set_other xs i k o None ne)
 
 numbered : (o : Option Buffer) (n : ℕ) → IsSome o → option_map_or (λ b. b.handles) (option_map (with_handles n) o) 0 ≡ n
@@ -47,7 +52,8 @@ retained_handles s id k live other = by_main (id == 0) refl
     by_main false e = by_other (id == k) refl
 
 -- a handle less, where one was counted
-pub released_handles : (s : Buffers) (id k : ℕ) → IsLive s id → k ≢ 0 → (id ≡ k → 0 < handles_of s k) → (if id == k then 1 else 0) + handles_of (handle_released s id) k ≡ handles_of s k
+pub released_handles : (s : Buffers) (id k : ℕ) → IsLive s id → k ≢ 0 → (id ≡ k → 0 < handles_of s k)
+    → (if id == k then 1 else 0) + handles_of (handle_released s id) k ≡ handles_of s k
 released_handles s id k live other some = by_main (id == 0) refl
   where
     by_last : (last : Bool) → nat_le (handles_of s id) 1 ≡ last → (c : Bool) → (id == k) ≡ c
@@ -71,7 +77,9 @@ released_handles s id k live other some = by_main (id == 0) refl
         let ne : k ≢ id = grind (arith, nat_tests) in
         omega (arith, put_there s.slots id k (option_map (with_handles (handles_of s id - 1)) (buffer_at s id)) ne)
 
-    by_main : (c : Bool) → (id == 0) ≡ c → cond (id == k) 1 0 + handles_of (cond c s (cond (nat_le (handles_of s id) 1) (gone s id) (with_buffer s id (with_handles (handles_of s id - 1))))) k ≡ handles_of s k
+    by_main : (c : Bool) → (id == 0) ≡ c
+        → cond (id == k) 1 0 + handles_of (cond c s (cond (nat_le (handles_of s id) 1) (gone s id) (with_buffer s id (with_handles (handles_of s id - 1))))) k
+        ≡ handles_of s k
     by_main true e =
         let no_more : (id == k) ≡ false = grind (arith, nat_tests) in
         rw no_more (omega arith)

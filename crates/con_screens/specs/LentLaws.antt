@@ -1,5 +1,6 @@
 -- What stays of the buffers where a screen was lent, or another one stands in its place.
-use Rattle.std.proofs.Common.{◌≡◌, ℕ, zero, suc, ◌<◌, ◌≤◌, inl, inr, Bool, true, false, cond, List, [], ◌∷◌, length, get_or, set, Option, None, Some, refl, sym, ap, subst, ◌∙◌, arith}
+use Rattle.std.proofs.Common.{◌≡◌, ℕ, zero, suc, ◌<◌, ◌≤◌, inl, inr, Bool, true, false, cond, List, [], ◌∷◌}
+use Rattle.std.proofs.Common.{length, get_or, set, Option, None, Some, refl, sym, ap, subst, ◌∙◌, arith}
 use Rattle.std.specs.Prelude.{IsSome, IfSome}
 use Rattle.std.specs.Option.{option_map, option_map_or}
 use Rattle.std.proofs.lemmas.Bool.{cases_eq, cases_lt}
@@ -35,14 +36,16 @@ pub live_within : (s : Buffers) (id : ℕ) → IsLive s id → id < length s.slo
 live_within s id live = within_list s.slots id live
 
 -- a fact of each place, after one was written
-pub set_each : (P : Option Buffer → Type 0) (xs : List (Option Buffer)) (i j : ℕ) (o : Option Buffer) → i < length xs → P o → P (get_or xs j None) → P (get_or (set xs i o) j None)
+pub set_each : (P : Option Buffer → Type 0) (xs : List (Option Buffer)) (i j : ℕ) (o : Option Buffer) → i < length xs → P o → P (get_or xs j None)
+    → P (get_or (set xs i o) j None)
 set_each P xs i j o within new old = elim (cases_eq j i) [
   | inl e ↦ subst P (sym (ap (λ k. get_or (set xs i o) k None) e ∙ get_or-set_same xs i o None within)) new
   | inr ne ↦ subst P (sym (get_or-set_other xs i j o None ne)) old
 ]
 
 -- another buffer stands in the place of a live one
-pub keeps_slot : (s : Buffers) (id : ℕ) (o : Option Buffer) → AreBuffers s → IsLive s id → IsSome o → IfSome o (IsBuffer s.w s.h s.births) → AreBuffers (with_slot s id o)
+pub keeps_slot : (s : Buffers) (id : ℕ) (o : Option Buffer) → AreBuffers s → IsLive s id → IsSome o → IfSome o (IsBuffer s.w s.h s.births)
+    → AreBuffers (with_slot s id o)
 keeps_slot s id o are live some is =
     let within : id < length s.slots = live_within s id live in
     record {
@@ -64,7 +67,8 @@ is_mapped (Some b) f P keep h = keep b h
 
 -- ---- a screen in the place of the shown one
 
-alt_fits : (a : Bool) (old new hidden : Screen) (side : Page → ℕ) (v : ℕ) → side (cond a old hidden).page ≡ v → (a ≡ true → side new.page ≡ v) → side (cond a new hidden).page ≡ v
+alt_fits : (a : Bool) (old new hidden : Screen) (side : Page → ℕ) (v : ℕ) → side (cond a old hidden).page ≡ v → (a ≡ true → side new.page ≡ v)
+    → side (cond a new hidden).page ≡ v
 alt_fits true old new hidden side v was is = is refl
 alt_fits false old new hidden side v was is = was
 
@@ -73,7 +77,8 @@ alt_was true old hidden side v was is = was
 alt_was false old hidden side v was is = cc
 
 -- a buffer that shows another screen of the window, of that size where it is the alternate one
-pub keeps_shown : (w h n : ℕ) (b : Buffer) (s : Screen) → IsBuffer w h n b → HasWindow s w h → (b.alternate ≡ true → (s.page.grid.width ≡ w) × (s.page.grid.height ≡ h)) → IsBuffer w h n (with_shown s b)
+pub keeps_shown : (w h n : ℕ) (b : Buffer) (s : Screen) → IsBuffer w h n b → HasWindow s w h
+    → (b.alternate ≡ true → (s.page.grid.width ≡ w) × (s.page.grid.height ≡ h)) → IsBuffer w h n (with_shown s b)
 keeps_shown w h n b s is window fits = record {
   shown = window;
   hidden = is.hidden;
@@ -91,24 +96,34 @@ screen_has s id are live = by_slot (buffer_at s id) live (are.each id)
     by_slot (Some b) live is = is.shown
 
 -- as large as the window, where it is the alternate one
-pub alternate_has : (s : Buffers) (id : ℕ) → AreBuffers s → IsLive s id → is_alternate s id ≡ true → ((screen_at s id).page.grid.width ≡ s.w) × ((screen_at s id).page.grid.height ≡ s.h)
+pub alternate_has : (s : Buffers) (id : ℕ) → AreBuffers s → IsLive s id → is_alternate s id ≡ true
+    → ((screen_at s id).page.grid.width ≡ s.w) × ((screen_at s id).page.grid.height ≡ s.h)
 alternate_has s id are live shown = by_slot (buffer_at s id) live (are.each id) shown
   where
-    by_slot : (o : Option Buffer) → IsSome o → IfSome o (IsBuffer s.w s.h s.births) → option_map_or (λ b. b.alternate) o false ≡ true → ((screen_in s o).page.grid.width ≡ s.w) × ((screen_in s o).page.grid.height ≡ s.h)
+    by_slot : (o : Option Buffer) → IsSome o → IfSome o (IsBuffer s.w s.h s.births) → option_map_or (λ b. b.alternate) o false ≡ true
+        → ((screen_in s o).page.grid.width ≡ s.w) × ((screen_in s o).page.grid.height ≡ s.h)
     by_slot None live is shown = absurd (some_not_none live)
-    by_slot (Some b) live is shown = (alt_was b.alternate b.shown b.hidden (λ p. p.grid.width) s.w is.columns shown, alt_was b.alternate b.shown b.hidden (λ p. p.grid.height) s.h is.rows shown)
+    by_slot (Some b) live is shown = (
+      alt_was b.alternate b.shown b.hidden (λ p. p.grid.width) s.w is.columns shown,
+      alt_was b.alternate b.shown b.hidden (λ p. p.grid.height) s.h is.rows shown,
+    )
 
 -- Another screen of the window stands where a live buffer shows one.
-pub window_keeps : (s : Buffers) (id : ℕ) (now : Screen) → AreBuffers s → IsLive s id → HasWindow now s.w s.h → (is_alternate s id ≡ true → (now.page.grid.width ≡ s.w) × (now.page.grid.height ≡ s.h)) → AreBuffers (screen_left s id now)
+pub window_keeps : (s : Buffers) (id : ℕ) (now : Screen) → AreBuffers s → IsLive s id → HasWindow now s.w s.h
+    → (is_alternate s id ≡ true → (now.page.grid.width ≡ s.w) × (now.page.grid.height ≡ s.h)) → AreBuffers (screen_left s id now)
 window_keeps s id now are live window fits =
-    keeps_slot s id (option_map (with_shown now) (buffer_at s id)) are live (some_mapped (buffer_at s id) (with_shown now) live) (by_slot (buffer_at s id) (are.each id) fits)
+    keeps_slot s id (option_map (with_shown now) (buffer_at s id)) are live (some_mapped (buffer_at s id) (with_shown now) live)
+    (by_slot (buffer_at s id) (are.each id) fits)
   where
-    by_slot : (o : Option Buffer) → IfSome o (IsBuffer s.w s.h s.births) → (option_map_or (λ b. b.alternate) o false ≡ true → (now.page.grid.width ≡ s.w) × (now.page.grid.height ≡ s.h)) → IfSome (option_map (with_shown now) o) (IsBuffer s.w s.h s.births)
+    by_slot : (o : Option Buffer) → IfSome o (IsBuffer s.w s.h s.births)
+        → (option_map_or (λ b. b.alternate) o false ≡ true → (now.page.grid.width ≡ s.w) × (now.page.grid.height ≡ s.h))
+        → IfSome (option_map (with_shown now) o) (IsBuffer s.w s.h s.births)
     by_slot None is fits = is
     by_slot (Some b) is fits = keeps_shown s.w s.h s.births b now is window fits
 
 -- A screen that was lent and keeps its sides leaves sound buffers.
-pub lent_keeps : (s : Buffers) (id : ℕ) (lent now : Screen) → AreBuffers s → IsLive s id → lent ≡ screen_at s id → IsPage now.page → sides now.page ≡ sides lent.page → AreBuffers (screen_left s id now)
+pub lent_keeps : (s : Buffers) (id : ℕ) (lent now : Screen) → AreBuffers s → IsLive s id → lent ≡ screen_at s id → IsPage now.page
+    → sides now.page ≡ sides lent.page → AreBuffers (screen_left s id now)
 lent_keeps s id lent now are live was page same =
     let old : HasWindow (screen_at s id) s.w s.h = screen_has s id are live in
     let all : sides now.page ≡ sides (screen_at s id).page = same ∙ ap (λ (v : Screen). sides v.page) was in
@@ -116,15 +131,21 @@ lent_keeps s id lent now are live was page same =
     (λ shown. (let had = alternate_has s id are live shown in (ap (λ (v : Sides). v.width) all ∙ had.0, ap (λ (v : Sides). v.height) all ∙ had.1)))
 
 -- So does one that was lent and resized behind the window; where it is the alternate one, to the window's size.
-pub resized_keeps : (s : Buffers) (id : ℕ) (now : Screen) (buffer window : Size) (n : ℕ) (m : Option (List Glyph)) → AreBuffers s → IsLive s id → IsPage now.page → sides now.page ≡ record { width = buffer.w; height = buffer.h; w = window.w; h = window.h; now = n; moment = m }
+pub resized_keeps : (s : Buffers) (id : ℕ) (now : Screen) (buffer window : Size) (n : ℕ) (m : Option (List Glyph)) → AreBuffers s → IsLive s id
+    → IsPage now.page → sides now.page ≡ record { width = buffer.w; height = buffer.h; w = window.w; h = window.h; now = n; moment = m }
     → window.w ≡ s.w → window.h ≡ s.h → (is_alternate s id ≡ true → buffer ≡ window) → AreBuffers (screen_left s id now)
 resized_keeps s id now buffer window n m are live page same wide tall fits =
     window_keeps s id now are live (record { page = page; wide = ap (λ (v : Sides). v.w) same ∙ wide; tall = ap (λ (v : Sides). v.h) same ∙ tall })
-    (λ shown. (ap (λ (v : Sides). v.width) same ∙ ap (λ (z : Size). z.w) (fits shown) ∙ wide, ap (λ (v : Sides). v.height) same ∙ ap (λ (z : Size). z.h) (fits shown) ∙ tall))
+    (λ shown. (
+      ap (λ (v : Sides). v.width) same ∙ ap (λ (z : Size). z.w) (fits shown) ∙ wide,
+      ap (λ (v : Sides). v.height) same
+          ∙ ap (λ (z : Size). z.h) (fits shown) ∙ tall,
+    ))
 
 -- ---- what it does not touch
 
-handles_set : (xs : List (Option Buffer)) (i k : ℕ) (o : Option Buffer) → option_map_or (λ b. b.handles) o 0 ≡ option_map_or (λ b. b.handles) (get_or xs i None) 0
+handles_set : (xs : List (Option Buffer)) (i k : ℕ) (o : Option Buffer)
+    → option_map_or (λ b. b.handles) o 0 ≡ option_map_or (λ b. b.handles) (get_or xs i None) 0
     → option_map_or (λ b. b.handles) (get_or (set xs i o) k None) 0 ≡ option_map_or (λ b. b.handles) (get_or xs k None) 0
 handles_set [] i k o e = refl
 handles_set (x ∷ xs) zero zero o e = e
@@ -153,7 +174,8 @@ left_same s id = ap (λ (xs : List (Option Buffer)). record s { slots = xs }) (b
 
 -- the screen that was left is the one that shows
 pub left_shows : (s : Buffers) (id : ℕ) (now : Screen) → IsLive s id → screen_at (screen_left s id now) id ≡ now
-left_shows s id now live = ap (λ (o : Option Buffer). screen_in (screen_left s id now) o) (get_or-set_same s.slots id (option_map (with_shown now) (buffer_at s id)) None (live_within s id live)) ∙ by_slot (buffer_at s id) live
+left_shows s id now live = ap (λ (o : Option Buffer). screen_in (screen_left s id now) o)
+    (get_or-set_same s.slots id (option_map (with_shown now) (buffer_at s id)) None (live_within s id live)) ∙ by_slot (buffer_at s id) live
   where
     by_slot : (o : Option Buffer) → IsSome o → screen_in (screen_left s id now) (option_map (with_shown now) o) ≡ now
     by_slot None live = absurd (some_not_none live)

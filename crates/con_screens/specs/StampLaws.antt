@@ -1,5 +1,6 @@
 -- What stays remembered, and what a row that is not stamped shows.
-use Rattle.std.proofs.Common.{◌≡◌, ℕ, zero, suc, ◌+◌, ◌*◌, ◌<◌, ◌≤◌, Bool, true, false, cond, List, [], ◌∷◌, length, map, get_or, set, Option, None, Some, refl, sym, ap, subst, ◌∙◌, nat_lt, arith}
+use Rattle.std.proofs.Common.{◌≡◌, ℕ, zero, suc, ◌+◌, ◌*◌, ◌<◌, ◌≤◌, Bool, true, false, cond, List, [], ◌∷◌, length}
+use Rattle.std.proofs.Common.{map, get_or, set, Option, None, Some, refl, sym, ap, subst, ◌∙◌, nat_lt, arith}
 use Rattle.std.specs.Prelude.{IsSome, IfSome, if◌then◌else◌}
 use Rattle.std.specs.Option.{option_map, option_map_or}
 use Rattle.std.proofs.lemmas.Bool.{lt-ltb}
@@ -21,7 +22,8 @@ use Rattle.con_screens.specs.declared.buffer.Buffer.{Buffer}
 
 -- ---- what stays remembered
 
-pub mapped_same : (xs : List (Option Buffer)) (i : ℕ) (o : Option Buffer) → option_map remembered o ≡ option_map remembered (get_or xs i None) → map (option_map remembered) (set xs i o) ≡ map (option_map remembered) xs
+pub mapped_same : (xs : List (Option Buffer)) (i : ℕ) (o : Option Buffer) → option_map remembered o ≡ option_map remembered (get_or xs i None)
+    → map (option_map remembered) (set xs i o) ≡ map (option_map remembered) xs
 mapped_same [] i o same = refl
 mapped_same (x ∷ xs) zero o same = ap (λ (r : Option Remembered). r ∷ map (option_map remembered) xs) same
 mapped_same (x ∷ xs) (suc i) o same = ap (λ (l : List (Option Remembered)). option_map remembered x ∷ l) (mapped_same xs i o same)
@@ -30,20 +32,25 @@ mapped_same (x ∷ xs) (suc i) o same = ap (λ (l : List (Option Remembered)). o
 pub shown_remembered : (b : Buffer) (now : Screen) → sides now.page ≡ sides b.shown.page → remembered (with_shown now b) ≡ remembered b
 shown_remembered b now same = by_side b.alternate
   where
-    by_side : (a : Bool) → ◌≡◌ {A = Remembered} (record { birth = b.birth; main = sides (cond a b.hidden now).page; alternate = sides (cond a now b.hidden).page })
+    by_side : (a : Bool) → ◌≡◌ {A = Remembered}
+        (record { birth = b.birth; main = sides (cond a b.hidden now).page; alternate = sides (cond a now b.hidden).page })
         (record { birth = b.birth; main = sides (cond a b.hidden b.shown).page; alternate = sides (cond a b.shown b.hidden).page })
     by_side true = let f : Sides → Remembered = λ s. record { birth = b.birth; main = sides b.hidden.page; alternate = s } in ap f same
     by_side false = let f : Sides → Remembered = λ s. record { birth = b.birth; main = s; alternate = sides b.hidden.page } in ap f same
 
 -- A screen that was lent and keeps its sides, number and moment leaves what is remembered.
-pub remembers : (s : Buffers) (id : ℕ) (lent now : Screen) → lent ≡ screen_at s id → sides now.page ≡ sides lent.page → all_remembered (screen_left s id now) ≡ all_remembered s
-remembers s id lent now was same = mapped_same s.slots id (option_map (with_shown now) (buffer_at s id)) (by_slot (buffer_at s id) (same ∙ ap (λ (x : Screen). sides x.page) was))
+pub remembers : (s : Buffers) (id : ℕ) (lent now : Screen) → lent ≡ screen_at s id → sides now.page ≡ sides lent.page
+    → all_remembered (screen_left s id now) ≡ all_remembered s
+remembers s id lent now was same = mapped_same s.slots id (option_map (with_shown now) (buffer_at s id))
+    (by_slot (buffer_at s id) (same ∙ ap (λ (x : Screen). sides x.page) was))
   where
-    by_slot : (o : Option Buffer) → sides now.page ≡ sides (screen_in s o).page → option_map remembered (option_map (with_shown now) o) ≡ option_map remembered o
+    by_slot : (o : Option Buffer) → sides now.page ≡ sides (screen_in s o).page
+        → option_map remembered (option_map (with_shown now) o) ≡ option_map remembered o
     by_slot None same = refl
     by_slot (Some b) same = ap (λ (r : Remembered). Some r) (shown_remembered b now same)
 
-mapped_set : (xs : List (Option Buffer)) (i : ℕ) (o : Option Buffer) → map (option_map remembered) (set xs i o) ≡ set (map (option_map remembered) xs) i (option_map remembered o)
+mapped_set : (xs : List (Option Buffer)) (i : ℕ) (o : Option Buffer)
+    → map (option_map remembered) (set xs i o) ≡ set (map (option_map remembered) xs) i (option_map remembered o)
 mapped_set [] i o = refl
 mapped_set (x ∷ xs) zero o = refl
 mapped_set (x ∷ xs) (suc i) o = ap (λ (l : List (Option Remembered)). option_map remembered x ∷ l) (mapped_set xs i o)
@@ -62,11 +69,13 @@ remembers_created s id = mapped_set s.slots id (Some (new_buffer s.w s.h 1 s.bir
 pub as_shown : (p : Page) (y : ℕ) → IsPage p → y < p.h → IsUntouched p.grid (p.top + y) → IsAsShown p y
 as_shown p y ok below untouched = λ v was. by_moment v p.grid.moment untouched was.rows was.count
   where
-    by_moment : (v : View) (m : Option (List Glyph)) → IsRowOf m p.grid.width p.grid.cells (p.top + y) → WereRows m (sides p) p.left p.top v.rows → length v.rows ≡ p.h * p.w → row_of p.w (view_of p).rows y ≡ row_of p.w v.rows y
+    by_moment : (v : View) (m : Option (List Glyph)) → IsRowOf m p.grid.width p.grid.cells (p.top + y) → WereRows m (sides p) p.left p.top v.rows
+        → length v.rows ≡ p.h * p.w → row_of p.w (view_of p).rows y ≡ row_of p.w v.rows y
     by_moment v None same rows count = absurd same
     by_moment v (Some cells) same rows count =
         view_row p y ok below ∙ same_part p.grid.width p.grid.cells cells p.left p.w (p.top + y) (p.top + y) ok.right same
-        ∙ sym (row_of_rows p.grid.width cells p.left p.top p.w p.h y (ap (λ (l : List Glyph). length l) rows ∙ count) below) ∙ ap (λ (l : List Glyph). row_of p.w l y) rows
+        ∙ sym (row_of_rows p.grid.width cells p.left p.top p.w p.h y (ap (λ (l : List Glyph). length l) rows ∙ count) below)
+        ∙ ap (λ (l : List Glyph). row_of p.w l y) rows
 
 -- ---- the number is raised
 
@@ -74,7 +83,8 @@ as_shown p y ok below untouched = λ v was. by_moment v p.grid.moment untouched 
 pub raised_shown : (p : Page) (n : ℕ) → IsPage p → p.grid.now < n → WasShown (sides (record p { grid = raised p.grid n })) p.left p.top (view_of p)
 raised_shown p n ok more = by_test (nat_lt p.grid.now n) (lt-ltb p.grid.now n more)
   where
-    by_test : (b : Bool) → b ≡ true → WasShown (sides (record p { grid = cond b (record p.grid { now = n; moment = Some p.grid.cells }) p.grid })) p.left p.top (view_of p)
+    by_test : (b : Bool) → b ≡ true
+        → WasShown (sides (record p { grid = cond b (record p.grid { now = n; moment = Some p.grid.cells }) p.grid })) p.left p.top (view_of p)
     by_test true e = record { rows = refl; count = length-rows_in p.grid p.left p.top p.w p.h ok.grid ok.right ok.bottom }
     by_test false e = absurd (cc)
 
@@ -91,7 +101,13 @@ raised_page p n ok = by_test (nat_lt p.grid.now n)
   where
     by_test : (b : Bool) → IsPage (record p { grid = cond b (record p.grid { now = n; moment = Some p.grid.cells }) p.grid })
     by_test true = record {
-      grid = record { wide = ok.grid.wide; tall = ok.grid.tall; at_most_wide = ok.grid.at_most_wide; at_most_tall = ok.grid.at_most_tall; cells = ok.grid.cells };
+      grid = record {
+        wide = ok.grid.wide;
+        tall = ok.grid.tall;
+        at_most_wide = ok.grid.at_most_wide;
+        at_most_tall = ok.grid.at_most_tall;
+        cells = ok.grid.cells;
+      };
       column = ok.column;
       row = ok.row;
       cursor_size = ok.cursor_size;
@@ -111,7 +127,8 @@ raised_page p n ok = by_test (nat_lt p.grid.now n)
 raised_width : (g : Picture) (n : ℕ) → ((raised g n).width ≡ g.width) × ((raised g n).height ≡ g.height)
 raised_width g n = by_test (nat_lt g.now n)
   where
-    by_test : (b : Bool) → ((cond b (record g { now = n; moment = Some g.cells }) g).width ≡ g.width) × ((cond b (record g { now = n; moment = Some g.cells }) g).height ≡ g.height)
+    by_test : (b : Bool) → ((cond b (record g { now = n; moment = Some g.cells }) g).width ≡ g.width)
+        × ((cond b (record g { now = n; moment = Some g.cells }) g).height ≡ g.height)
     by_test true = (refl, refl)
     by_test false = (refl, refl)
 
@@ -123,20 +140,24 @@ numbered_keeps s id n are live =
     (λ shown. (let had = alternate_has s id are live shown in let same = raised_width (screen_at s id).page.grid n in (same.0 ∙ had.0, same.1 ∙ had.1)))
 
 -- the same of a screen that was lent, with its grid's number raised
-pub numbered_left : (s : Buffers) (id n : ℕ) (lent : Screen) (g : Picture) → AreBuffers s → IsLive s id → lent ≡ screen_at s id → g ≡ raised lent.page.grid n → AreBuffers (screen_left s id (record lent { page = record lent.page { grid = g } }))
+pub numbered_left : (s : Buffers) (id n : ℕ) (lent : Screen) (g : Picture) → AreBuffers s → IsLive s id → lent ≡ screen_at s id
+    → g ≡ raised lent.page.grid n → AreBuffers (screen_left s id (record lent { page = record lent.page { grid = g } }))
 numbered_left s id n lent g are live was is =
-    subst (λ (x : Picture). AreBuffers (screen_left s id (record lent { page = record lent.page { grid = x } }))) (sym is) (subst (λ (x : Screen). AreBuffers (screen_left s id (numbered x n))) (sym was) (numbered_keeps s id n are live))
+    subst (λ (x : Picture). AreBuffers (screen_left s id (record lent { page = record lent.page { grid = x } }))) (sym is)
+    (subst (λ (x : Screen). AreBuffers (screen_left s id (numbered x n))) (sym was) (numbered_keeps s id n are live))
 
 -- ---- what is looked up
 
 -- what is remembered of a live buffer's shown screen
-pub remembers_shown : (s : Buffers) (id : ℕ) → IsLive s id → IfSome (option_map remembered (buffer_at s id)) (λ r. (if is_alternate s id then r.alternate else r.main) ≡ sides (screen_at s id).page)
+pub remembers_shown : (s : Buffers) (id : ℕ) → IsLive s id
+    → IfSome (option_map remembered (buffer_at s id)) (λ r. (if is_alternate s id then r.alternate else r.main) ≡ sides (screen_at s id).page)
 remembers_shown s id live = by_slot (buffer_at s id) live
   where
     by_side : (b : Buffer) (a : Bool) → cond a (sides (cond a b.shown b.hidden).page) (sides (cond a b.hidden b.shown).page) ≡ sides b.shown.page
     by_side b true = refl
     by_side b false = refl
 
-    by_slot : (o : Option Buffer) → IsSome o → IfSome (option_map remembered o) (λ r. (if option_map_or (λ b. b.alternate) o false then r.alternate else r.main) ≡ sides (screen_in s o).page)
+    by_slot : (o : Option Buffer) → IsSome o
+        → IfSome (option_map remembered o) (λ r. (if option_map_or (λ b. b.alternate) o false then r.alternate else r.main) ≡ sides (screen_in s o).page)
     by_slot None live = absurd (some_not_none live)
     by_slot (Some b) live = by_side b b.alternate

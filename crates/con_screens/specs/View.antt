@@ -25,4 +25,9 @@ cursor_in p = if cursor_shown p then record { x = pos (p.x - p.left); y = pos (p
 
 -- the window of a screen, cell by cell
 abbrev pub view_of : Page → View
-view_of p = record { size = record { w = p.w; h = p.h }; rows = rows_in p.grid.width p.grid.cells p.left p.top p.w p.h; cursor = cursor_in p; visible = cursor_shown p }
+view_of p = record {
+  size = record { w = p.w; h = p.h };
+  rows = rows_in p.grid.width p.grid.cells p.left p.top p.w p.h;
+  cursor = cursor_in p;
+  visible = cursor_shown p;
+}

@@ -1,5 +1,6 @@
 -- What was told before does not matter to the buffer that a text makes; so units written in turn are the whole written.
-use Rattle.std.proofs.Common.{◌≡◌, ℕ, zero, suc, Bool, true, false, cond, ◌==◌, ◌&&◌, ◌||◌, List, [], ◌∷◌, ◌++◌, get_or, set, Option, None, Some, refl, sym, ap, ◌∙◌, arith}
+use Rattle.std.proofs.Common.{◌≡◌, ℕ, zero, suc, Bool, true, false, cond, ◌==◌, ◌&&◌, ◌||◌, List, []}
+use Rattle.std.proofs.Common.{◌∷◌, ◌++◌, get_or, set, Option, None, Some, refl, sym, ap, ◌∙◌, arith}
 use Rattle.std.specs.Prelude.{fold}
 use Rattle.std.specs.Option.{option_map}
 use Rattle.std.proofs.lemmas.List.{set-get_or}
@@ -19,7 +20,8 @@ use Rattle.con_screens.specs.Buffer.{BufferStage, carried, unit_written, written
 use Rattle.con_screens.specs.Buffers.{Buffers, with_buffer}
 use Rattle.con_screens.specs.declared.buffer.Buffer.{Buffer}
 
-page_alone : (p : Page) (t u : Told) (items : List Spoken) → (fold heard (record { page = p; told = t }) items).page ≡ (fold heard (record { page = p; told = u }) items).page
+page_alone : (p : Page) (t u : Told) (items : List Spoken)
+    → (fold heard (record { page = p; told = t }) items).page ≡ (fold heard (record { page = p; told = u }) items).page
 unfolding heard
 page_alone p t u [] = refl
 page_alone p t u (s ∷ items) = page_alone (effect p s.item) (told_after p t s) (told_after p u s) items
@@ -74,7 +76,8 @@ item_switches p t u title (items.Escape n) h = absurd (cc)
 item_switches p t u title (items.Charset n) h = absurd (cc)
 item_switches p t u title items.Title h = absurd (cc)
 
-all_keep : (p : Page) (t u : Told) (items : List Spoken) → t.alternate ≡ u.alternate → (fold heard (record { page = p; told = t }) items).told.alternate ≡ (fold heard (record { page = p; told = u }) items).told.alternate
+all_keep : (p : Page) (t u : Told) (items : List Spoken) → t.alternate ≡ u.alternate
+    → (fold heard (record { page = p; told = t }) items).told.alternate ≡ (fold heard (record { page = p; told = u }) items).told.alternate
 unfolding heard told_after
 all_keep p t u [] h = h
 all_keep p t u (s ∷ items) h = all_keep (effect p s.item) (told_after p t s) (told_after p u s) items (item_keeps p t u s.title s.item h)
@@ -83,23 +86,28 @@ either_way : {P : Type 0} {x : Bool} (b : Bool) → x ≡ b → (x ≡ true → 
 either_way true e on off = on e
 either_way false e on off = off e
 
-all_switch : (p : Page) (t u : Told) (items : List Spoken) → any_switch items ≡ true → (fold heard (record { page = p; told = t }) items).told.alternate ≡ (fold heard (record { page = p; told = u }) items).told.alternate
+all_switch : (p : Page) (t u : Told) (items : List Spoken) → any_switch items ≡ true
+    → (fold heard (record { page = p; told = t }) items).told.alternate ≡ (fold heard (record { page = p; told = u }) items).told.alternate
 unfolding heard told_after
 all_switch p t u [] h = absurd (cc)
-all_switch p t u (s ∷ items) h = either_way (is_switch s.item) refl (λ e. all_keep (effect p s.item) (told_after p t s) (told_after p u s) items (item_switches p t u s.title s.item e))
+all_switch p t u (s ∷ items) h = either_way (is_switch s.item) refl
+    (λ e. all_keep (effect p s.item) (told_after p t s) (told_after p u s) items (item_switches p t u s.title s.item e))
     (λ e. all_switch (effect p s.item) (told_after p t s) (told_after p u s) items (rw e at h))
 
 alternate_alone : (s : Screen) (t u : Told) (us : List ℕ) → switches s us ≡ true → (written s t us).told.alternate ≡ (written s u us).told.alternate
 unfolding written switches
 alternate_alone s t u us h = all_switch s.page t u (split_on s us).items h
 
-carried_alone : (b : Buffer) (st su : Stage) (switch : Bool) → st.screen ≡ su.screen → (switch ≡ true → st.told.alternate ≡ su.told.alternate) → (carried b st switch).buffer ≡ (carried b su switch).buffer
+carried_alone : (b : Buffer) (st su : Stage) (switch : Bool) → st.screen ≡ su.screen → (switch ≡ true → st.told.alternate ≡ su.told.alternate)
+    → (carried b st switch).buffer ≡ (carried b su switch).buffer
 carried_alone b st su true h k = rw (h, k refl) refl
 carried_alone b st su false h k = rw h refl
 
-unit_alone : (b : Buffer) (t u : Told) (n : ℕ) → (unit_written (record { buffer = b; told = t }) n).buffer ≡ (unit_written (record { buffer = b; told = u }) n).buffer
+unit_alone : (b : Buffer) (t u : Told) (n : ℕ)
+    → (unit_written (record { buffer = b; told = t }) n).buffer ≡ (unit_written (record { buffer = b; told = u }) n).buffer
 unfolding unit_written
-unit_alone b t u n = carried_alone b (written b.shown t (n ∷ [])) (written b.shown u (n ∷ [])) (switches b.shown (n ∷ [])) (screen_alone b.shown t u (n ∷ [])) (alternate_alone b.shown t u (n ∷ []))
+unit_alone b t u n = carried_alone b (written b.shown t (n ∷ [])) (written b.shown u (n ∷ [])) (switches b.shown (n ∷ []))
+    (screen_alone b.shown t u (n ∷ [])) (alternate_alone b.shown t u (n ∷ []))
 
 -- the buffer after units, whatever was told before
 from_stage : (x y : BufferStage) (us : List ℕ) → x.buffer ≡ y.buffer → (fold unit_written x us).buffer ≡ (fold unit_written y us).buffer
@@ -119,7 +127,8 @@ pub buffer_in_turn : (b : Buffer) (t u v : Told) (xs ys : List ℕ) → (written
 unfolding written_on
 buffer_in_turn b t u v xs ys =
     let first = fold unit_written (record { buffer = b; told = t }) xs in
-    buffer_alone first.buffer u first.told ys ∙ ap (λ (x : BufferStage). x.buffer) (sym (fold-append unit_written (record { buffer = b; told = t }) xs ys)) ∙ buffer_alone b t v (xs ++ ys)
+    buffer_alone first.buffer u first.told ys
+    ∙ ap (λ (x : BufferStage). x.buffer) (sym (fold-append unit_written (record { buffer = b; told = t }) xs ys)) ∙ buffer_alone b t v (xs ++ ys)
 
 -- ---- the buffers of a console
 
@@ -130,12 +139,14 @@ slots_nothing slots id t = ap (λ (o : Option Buffer). set slots id o) (by_slot 
     by_slot None = refl
     by_slot (Some b) = ap (λ (c : Buffer). Some c) (buffer_nothing b t)
 
-slot_in_turn : (o : Option Buffer) (t u v : Told) (xs ys : List ℕ) → option_map (buffer_written u ys) (option_map (buffer_written t xs) o) ≡ option_map (buffer_written v (xs ++ ys)) o
+slot_in_turn : (o : Option Buffer) (t u v : Told) (xs ys : List ℕ)
+    → option_map (buffer_written u ys) (option_map (buffer_written t xs) o) ≡ option_map (buffer_written v (xs ++ ys)) o
 slot_in_turn None t u v xs ys = refl
 slot_in_turn (Some b) t u v xs ys = ap (λ (c : Buffer). Some c) (buffer_in_turn b t u v xs ys)
 
 slots_in_turn : (slots : List (Option Buffer)) (id : ℕ) (t u v : Told) (xs ys : List ℕ)
-    → set (set slots id (option_map (buffer_written t xs) (get_or slots id None))) id (option_map (buffer_written u ys) (get_or (set slots id (option_map (buffer_written t xs) (get_or slots id None))) id None))
+    → set (set slots id (option_map (buffer_written t xs) (get_or slots id None))) id
+    (option_map (buffer_written u ys) (get_or (set slots id (option_map (buffer_written t xs) (get_or slots id None))) id None))
     ≡ set slots id (option_map (buffer_written v (xs ++ ys)) (get_or slots id None))
 slots_in_turn [] id t u v xs ys = refl
 slots_in_turn (o ∷ slots) zero t u v xs ys = ap (λ (x : Option Buffer). x ∷ slots) (slot_in_turn o t u v xs ys)
@@ -146,5 +157,6 @@ pub written_nothing : (s : Buffers) (id : ℕ) (t : Told) → with_buffer s id (
 written_nothing s id t = ap (λ (l : List (Option Buffer)). record s { slots = l }) (slots_nothing s.slots id t)
 
 -- Two texts in turn are the whole text, whatever was told before each.
-pub written_in_turn : (s : Buffers) (id : ℕ) (t u v : Told) (xs ys : List ℕ) → with_buffer (with_buffer s id (buffer_written t xs)) id (buffer_written u ys) ≡ with_buffer s id (buffer_written v (xs ++ ys))
+pub written_in_turn : (s : Buffers) (id : ℕ) (t u v : Told) (xs ys : List ℕ)
+    → with_buffer (with_buffer s id (buffer_written t xs)) id (buffer_written u ys) ≡ with_buffer s id (buffer_written v (xs ++ ys))
 written_in_turn s id t u v xs ys = ap (λ (l : List (Option Buffer)). record s { slots = l }) (slots_in_turn s.slots id t u v xs ys)

@@ -1,5 +1,6 @@
 //! All buffers of a console.
-ghost use Rattle.std.specs.Prelude.{◌≡◌, ◌≢◌, ◌↔◌, ℕ, ◌+◌, ◌-◌, ◌*◌, ◌<◌, ◌≤◌, ◌^◌, Some, None, [], true, false, length, replicate, is_none, is_some, IsSome, IfSome, IfOk, IfErr, vec_capacity};
+ghost use Rattle.std.specs.Prelude.{◌≡◌, ◌≢◌, ◌↔◌, ℕ, ◌+◌, ◌-◌, ◌*◌, ◌<◌, ◌≤◌, ◌^◌, Some, None, [], true, false};
+ghost use Rattle.std.specs.Prelude.{length, replicate, is_none, is_some, IsSome, IfSome, IfOk, IfErr, vec_capacity};
 ghost use Rattle.std.specs.List.{position};
 ghost use Rattle.std.specs.Option.{option_map_or};
 ghost use Rattle.con_units.specs.declared.code.Code.TheVariants.{Limit};
@@ -40,7 +41,8 @@ impl Model for Screens {
 
 impl Screens {
     ghost use Rattle.std.specs.Borrow.{sem};
-    ghost use Rattle.con_screens.specs.Buffers.{AreBuffers, IsLive, IsRoom, buffer_at, screen_at, is_alternate, free_id, created, handles_of, handle_retained, handle_released, with_buffer};
+    ghost use Rattle.con_screens.specs.Buffers.{AreBuffers, IsLive, IsRoom, buffer_at, screen_at, is_alternate, free_id};
+    ghost use Rattle.con_screens.specs.Buffers.{created, handles_of, handle_retained, handle_released, with_buffer};
     ghost use Rattle.con_screen.specs.Alternate.{sides};
     ghost use Rattle.con_screens.specs.Lending.{LendsScreen, screen_left};
     ghost use Rattle.con_screens.specs.Resize.{AreFits, all_resized};
@@ -236,7 +238,8 @@ impl Screens {
         requires live { IsLive self.old id.0 }
         requires room { length units.now ≤ answers.old.room }
         ensures buffers { self.new ≡ with_buffer self.old id.0 (buffer_written answers.old.told units.now) }
-        ensures answers { answers.new ≡ record { told = told_on (buffer_at self.old id.0) answers.old.told units.now; room = answers.old.room - length units.now } }
+        ensures answers { answers.new
+            ≡ record { told = told_on (buffer_at self.old id.0) answers.old.told units.now; room = answers.old.room - length units.now } }
         ensures kept { AreBuffers self.new }
         ensures remembered { all_remembered self.new ≡ all_remembered self.old }
     {
@@ -287,7 +290,8 @@ impl Screens {
     /// the window's present place. Only rows that are stamped with the number are read.
     pub fn renewed(&self, last: View) -> View
         requires buffers { AreBuffers self.now }
-        requires known { WasShown (sides (screen_at self.now self.now.active).page) (screen_at self.now self.now.active).page.left (screen_at self.now self.now.active).page.top last }
+        requires known { WasShown (sides (screen_at self.now self.now.active).page) (screen_at self.now self.now.active).page.left
+            (screen_at self.now self.now.active).page.top last }
         ensures view { result ≡ view_of (screen_at self.now self.now.active).page }
         ensures size { (result.size.w ≡ self.now.w) × (result.size.h ≡ self.now.h) }
     {
@@ -307,7 +311,9 @@ impl Screens {
         ensures buffers { self.new ≡ screen_left self.old id.0 (numbered (screen_at self.old id.0) number) }
         ensures kept { AreBuffers self.new }
         ensures view { view_of (screen_at self.new id.0).page ≡ view_of (screen_at self.old id.0).page }
-        ensures shown { (screen_at self.old id.0).page.grid.now < number → WasShown (sides (screen_at self.new id.0).page) (screen_at self.new id.0).page.left (screen_at self.new id.0).page.top (view_of (screen_at self.old id.0).page) }
+        ensures shown { (screen_at self.old id.0).page.grid.now < number
+            → WasShown (sides (screen_at self.new id.0).page) (screen_at self.new id.0).page.left (screen_at self.new id.0).page.top
+            (view_of (screen_at self.old id.0).page) }
     {
         self.raise(id, number);
     }
@@ -326,7 +332,9 @@ impl Screens {
     /// screen was last raised, at the window's present place, only rows that are stamped with the number are looked at.
     pub fn shows(&self, last: &View, known: bool) -> bool
         requires buffers { AreBuffers self.now }
-        requires known { known ≡ true → WasShown (sides (screen_at self.now self.now.active).page) (screen_at self.now self.now.active).page.left (screen_at self.now self.now.active).page.top last.now }
+        requires known { known ≡ true
+            → WasShown (sides (screen_at self.now self.now.active).page) (screen_at self.now self.now.active).page.left
+            (screen_at self.now self.now.active).page.top last.now }
         ensures exact { (result ≡ true) ↔ (view_of (screen_at self.now self.now.active).page ≡ last.now) }
     {
         let window = Size {

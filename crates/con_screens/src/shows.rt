@@ -55,7 +55,8 @@ fn has_rows(grid: &Grid, left: usize, top: usize, size: Size, rows: &[Cell], kno
     requires bottom { top + size.h ≤ grid.now.height }
     requires limits { (grid.now.width ≤ 512) × (grid.now.height ≤ 2048) }
     requires count { length rows.now ≡ size.h * size.w }
-    requires known { known ≡ true → (y : ℕ) → y < size.h → IsUntouched grid.now (top + y) → row_part grid.now.width grid.now.cells left size.w (top + y) ≡ row_of size.w rows.now y }
+    requires known { known ≡ true → (y : ℕ) → y < size.h → IsUntouched grid.now (top + y)
+        → row_part grid.now.width grid.now.cells left size.w (top + y) ≡ row_of size.w rows.now y }
     ensures { (result ≡ true) ↔ (rows_in grid.now.width grid.now.cells left top size.w size.h ≡ rows.now) }
 {
     let w = size.w as usize;
@@ -86,7 +87,8 @@ fn has_all_rows(
 ) -> bool
     requires right { left + size.w ≤ grid.now.width }
     requires bottom { top + size.h ≤ grid.now.height }
-    requires known { known ≡ true → (y : ℕ) → y < size.h → IsUntouched grid.now (top + y) → row_part grid.now.width grid.now.cells left size.w (top + y) ≡ row_of size.w rows.now y }
+    requires known { known ≡ true → (y : ℕ) → y < size.h → IsUntouched grid.now (top + y)
+        → row_part grid.now.width grid.now.cells left size.w (top + y) ≡ row_of size.w rows.now y }
     ensures { (result ≡ true) ↔ (rows_in grid.now.width grid.now.cells left top size.w size.h ≡ rows.now) }
 {
     let full = grid.size();

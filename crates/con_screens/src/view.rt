@@ -59,7 +59,8 @@ fn renew_rows(grid: &Grid, left: usize, top: usize, size: Size, cells: &mut [Cel
     requires right { left + size.w ≤ grid.now.width }
     requires bottom { top + size.h ≤ grid.now.height }
     requires count { length cells.old ≡ size.h * size.w }
-    requires known { (y : ℕ) → y < size.h → IsUntouched grid.now (top + y) → row_part grid.now.width grid.now.cells left size.w (top + y) ≡ row_of size.w cells.old y }
+    requires known { (y : ℕ) → y < size.h → IsUntouched grid.now (top + y)
+        → row_part grid.now.width grid.now.cells left size.w (top + y) ≡ row_of size.w cells.old y }
     ensures { cells.new ≡ rows_in grid.now.width grid.now.cells left top size.w size.h }
 {
     let width = grid.size().w as usize;
@@ -75,7 +76,8 @@ fn renew_cells(grid: &Grid, left: usize, top: usize, size: Size, cells: &mut Vec
     requires right { left + size.w ≤ grid.now.width }
     requires bottom { top + size.h ≤ grid.now.height }
     requires count { length cells.old.items ≡ size.h * size.w }
-    requires known { (y : ℕ) → y < size.h → IsUntouched grid.now (top + y) → row_part grid.now.width grid.now.cells left size.w (top + y) ≡ row_of size.w cells.old.items y }
+    requires known { (y : ℕ) → y < size.h → IsUntouched grid.now (top + y)
+        → row_part grid.now.width grid.now.cells left size.w (top + y) ≡ row_of size.w cells.old.items y }
     ensures { cells.new.items ≡ rows_in grid.now.width grid.now.cells left top size.w size.h }
 {
     renew_rows(grid, left, top, size, cells.as_mut_slice());
