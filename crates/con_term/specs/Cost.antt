@@ -14,8 +14,11 @@ line_cost s n = if n == 0 then s.w - s.x else if n == 1 then s.x + 1 else if n =
 
 unfoldable pub plain_cost : Page → Csi → ℕ
 plain_cost s c = let n = slice_index c.params 0 in
+    -- CSI J: ED, ECMA-48 8.3.39
     if c.last == 0x4A then display_cost s n
+    -- CSI K: EL, ECMA-48 8.3.41
     else if c.last == 0x4B then line_cost s n
+    -- CSI X: ECH, ECMA-48 8.3.38
     else if c.last == 0x58 then min (max n 1) (s.w - s.x)
     else 0
 

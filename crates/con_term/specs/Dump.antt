@@ -17,7 +17,8 @@ hex_word w = hex_digit (w / 4096) ∷ hex_digit (w / 256 % 16) ∷ hex_digit (w 
 
 -- `WxH cursor X,Y` or `WxH cursor hidden`
 unfoldable pub head_line : Page → List ℕ
-head_line s = decimal s.w ++ 0x78 ∷ [] ++ decimal s.h ++ codes " cursor " ++ (if s.visible then decimal s.x ++ 0x2C ∷ [] ++ decimal s.y else codes "hidden") ++ 0x0A ∷ []
+head_line s = decimal s.w ++ 0x78 ∷ [] ++ decimal s.h ++ codes " cursor "
+    ++ (if s.visible then decimal s.x ++ 0x2C ∷ [] ++ decimal s.y else codes "hidden") ++ 0x0A ∷ []
 
 -- a row's units between bars
 abbrev pub row_units : List Glyph → List ℕ
@@ -50,7 +51,9 @@ untold = record { word = 7; fore = Plain; back = Plain }
 
 -- `@Y,X+N WORD` with its shades for a run, and nothing for plain 0007 or no cell
 unfoldable pub run_line : ℕ → ℕ → ℕ → Attribute → List ℕ
-run_line y x n attr = if same_attr attr untold || (n == 0) then [] else 0x40 ∷ [] ++ decimal y ++ 0x2C ∷ [] ++ decimal x ++ 0x2B ∷ [] ++ decimal n ++ 0x20 ∷ [] ++ attr_text attr ++ 0x0A ∷ []
+run_line y x n attr =
+    if same_attr attr untold || (n == 0) then []
+    else 0x40 ∷ [] ++ decimal y ++ 0x2C ∷ [] ++ decimal x ++ 0x2B ∷ [] ++ decimal n ++ 0x20 ∷ [] ++ attr_text attr ++ 0x0A ∷ []
 
 -- the runs of a row's cells, where n cells before them from column x on have this attribute
 unfoldable pub run_lines : ℕ → ℕ → ℕ → Attribute → List Glyph → List ℕ

@@ -97,7 +97,10 @@ plain_effect s c = let n = slice_index c.params 0 in
 
 -- DECTCEM, CSI ? 25 h and CSI ? 25 l: API, Cursor Visibility
 unfoldable pub private_effect : Page → Csi → Page
-private_effect s c = if slice_index c.params 0 == 25 then (if c.last == 0x68 then record s { visible = true } else if c.last == 0x6C then record s { visible = false } else s) else s
+private_effect s c =
+    if slice_index c.params 0 == 25 then
+    (if c.last == 0x68 then record s { visible = true } else if c.last == 0x6C then record s { visible = false } else s)
+    else s
 
 abbrev pub control_effect : Page → ℕ → Page
 control_effect s u =

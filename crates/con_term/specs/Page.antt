@@ -61,4 +61,13 @@ printed u s = advanced (put u (wrapped s))
 
 -- a page of spaces
 abbrev pub blank_page : ℕ → ℕ → Page
-blank_page w h = record { w = w; h = h; cells = replicate (h * w) (blank_in (attr_of starting_pen)); x = 0; y = 0; pen = starting_pen; pending = false; visible = true }
+blank_page w h = record {
+  w = w;
+  h = h;
+  cells = replicate (h * w) (blank_in (attr_of starting_pen));
+  x = 0;
+  y = 0;
+  pen = starting_pen;
+  pending = false;
+  visible = true;
+}

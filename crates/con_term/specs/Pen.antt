@@ -15,7 +15,8 @@ lacking foreground = if nat_lt foreground 8 then 8 else 0
 
 -- the bits of a pen, by the table of attribute words: a bold foreground is a bright one
 abbrev pub word_of : Pen → ℕ
-word_of p = (if p.bold then lacking p.foreground else 0) + p.foreground + 16 * p.background + (if p.negative then 0x4000 else 0) + (if p.underline then 0x8000 else 0)
+word_of p = (if p.bold then lacking p.foreground else 0) + p.foreground + 16 * p.background
+    + (if p.negative then 0x4000 else 0) + (if p.underline then 0x8000 else 0)
 
 -- what cells are written in: the word with the two shades
 abbrev pub attr_of : Pen → Attribute
@@ -57,7 +58,8 @@ pen_after p n =
     else if n == 27 then record p { negative = false }
     else coloured p n
 
--- colour n of the table of 256 for a layer: the sixteen first, as 30 to 37 and 90 to 97 (40 to 47 and 100 to 107) name them; then the indices; nothing above 255.
+-- colour n of the table of 256 for a layer: the sixteen first, as 30 to 37 and 90 to 97 (40 to 47 and 100 to 107) name them;
+-- then the indices; nothing above 255.
 -- 38;5;n and 48;5;n, Console API, "Console Virtual Terminal Sequences", Extended Colors
 unfoldable pub indexed : Pen → Layer → ℕ → Pen
 indexed p layer n =

@@ -26,7 +26,8 @@ unfolding play typed
 play-append t xs ys =
     let c1 = split_after utf8 t.bytes xs in let c2 = split_after utf8 c1.tail ys in
     let s1 = split_after grammar t.units (flat_map units_of c1.items) in let s2 = split_after grammar s1.tail (flat_map units_of c2.items) in
-    sym (rw (split_after-append utf8 t.bytes xs ys, flat_map-append units_of c1.items c2.items, split_after-append grammar t.units (flat_map units_of c1.items) (flat_map units_of c2.items), fold-append effect t.page s1.items s2.items) refl)
+    let units = split_after-append grammar t.units (flat_map units_of c1.items) (flat_map units_of c2.items) in
+    sym (rw (split_after-append utf8 t.bytes xs ys, flat_map-append units_of c1.items c2.items, units, fold-append effect t.page s1.items s2.items) refl)
 
 pub play-none : (t : Terminal) → t ≡ play t []
 unfolding play typed split_after

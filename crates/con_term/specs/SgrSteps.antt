@@ -18,7 +18,10 @@ skip_at k = if nat_lt 1 k then Skip (k - 1) else Next
 
 -- a parameter by itself, or the begin of a colour
 abbrev pub begin_at : Pen → ℕ → Reader
-begin_at p n = if n == 38 then record { pen = p; place = Kind Fore } else if n == 48 then record { pen = p; place = Kind Back } else record { pen = pen_after p n; place = Next }
+begin_at p n =
+    if n == 38 then record { pen = p; place = Kind Fore }
+    else if n == 48 then record { pen = p; place = Kind Back }
+    else record { pen = pen_after p n; place = Next }
 
 abbrev pub read_at : Pen → ℕ → Place → Reader
 read_at p n Next = begin_at p n

@@ -39,14 +39,23 @@ line-sides s n = either s _ _ (n == 0) (refl, refl) (either s _ _ (n == 1) (refl
 
 private-sides : (s : Page) (c : Csi) → HasSidesOf s (private_effect s c)
 unfolding private_effect
-private-sides s c = either s _ _ (slice_index c.params 0 == 25) (either s _ _ (c.last == 0x68) (refl, refl) (either s _ _ (c.last == 0x6C) (refl, refl) (refl, refl))) (refl, refl)
+private-sides s c = either s _ _ (slice_index c.params 0 == 25)
+    (either s _ _ (c.last == 0x68) (refl, refl) (either s _ _ (c.last == 0x6C) (refl, refl) (refl, refl))) (refl, refl)
 
 plain-sides : (s : Page) (c : Csi) → HasSidesOf s (plain_effect s c)
 unfolding plain_effect
 plain-sides s c =
-    either s _ _ (c.last == 0x41) (refl, refl) (either s _ _ (c.last == 0x42) (refl, refl) (either s _ _ (c.last == 0x43) (refl, refl) (either s _ _ (c.last == 0x44) (refl, refl)
-    (either s _ _ (c.last == 0x48) (refl, refl) (either s _ _ (c.last == 0x66) (refl, refl) (either s _ _ (c.last == 0x53) (refl, refl) (either s _ _ (c.last == 0x4A) (display-sides s (slice_index c.params 0))
-    (either s _ _ (c.last == 0x4B) (line-sides s (slice_index c.params 0)) (either s _ _ (c.last == 0x58) (refl, refl) (either s _ _ (c.last == 0x6D) (refl, refl) (refl, refl)))))))))))
+    either s _ _ (c.last == 0x41) (refl, refl)
+    (either s _ _ (c.last == 0x42) (refl, refl)
+    (either s _ _ (c.last == 0x43) (refl, refl)
+    (either s _ _ (c.last == 0x44) (refl, refl)
+    (either s _ _ (c.last == 0x48) (refl, refl)
+    (either s _ _ (c.last == 0x66) (refl, refl)
+    (either s _ _ (c.last == 0x53) (refl, refl)
+    (either s _ _ (c.last == 0x4A) (display-sides s (slice_index c.params 0))
+    (either s _ _ (c.last == 0x4B) (line-sides s (slice_index c.params 0))
+    (either s _ _ (c.last == 0x58) (refl, refl)
+    (either s _ _ (c.last == 0x6D) (refl, refl) (refl, refl)))))))))))
 
 control-sides : (s : Page) (u : ℕ) → HasSidesOf s (control_effect s u)
 control-sides s u = either s _ _ (u == 8) (refl, refl) (either s _ _ (u == 10) (lowered-sides s) (either s _ _ (u == 13) (refl, refl) (refl, refl)))

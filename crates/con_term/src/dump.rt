@@ -2,7 +2,8 @@
 ghost use Rattle.std.specs.Prelude.{◌≡◌, ◌+◌, ◌*◌, ◌<◌, ◌≤◌, ◌++◌, ◌∷◌, [], ◌==◌, List, length, OnOk, IfOk, take, drop};
 ghost use Rattle.con_units.specs.Decimal.{decimal};
 ghost use Rattle.con_units.specs.Glyph.{Glyph};
-ghost use Rattle.con_term.specs.Dump.{hex_digit, hex_word, shade_text, attr_text, same_shade, same_attr, untold, head_line, row_units, row_line, run_line, run_lines, rows_text, runs_text, dump as dump_of};
+ghost use Rattle.con_term.specs.Dump.{hex_digit, hex_word, shade_text, attr_text, same_shade, same_attr, untold};
+ghost use Rattle.con_term.specs.Dump.{head_line, row_units, row_line, run_line, run_lines, rows_text, runs_text, dump as dump_of};
 
 use crate::page::Page;
 use con_units::{Attr, Cell, Shade, Size};
@@ -152,7 +153,8 @@ struct Stretch {
 #[tactic(auto, unfolding(crate::specs::Dump::run_lines))]
 fn more(out: &mut Vec<u16>, y: u16, so_far: Stretch, cell: &Cell) -> Result<Stretch, AllocError>
     requires few { (y < 1000) × (so_far.x + so_far.n < 999) }
-    ensures lines { IfOk result (λ r. (cs : List Glyph) → out.new.items ++ run_lines y r.x r.n r.attr cs ≡ out.old.items ++ run_lines y so_far.x so_far.n so_far.attr (cell.now ∷ cs)) }
+    ensures lines { IfOk result (λ r. (cs : List Glyph) → out.new.items ++ run_lines y r.x r.n r.attr cs
+        ≡ out.old.items ++ run_lines y so_far.x so_far.n so_far.attr (cell.now ∷ cs)) }
     ensures few { IfOk result (λ r. r.x + r.n ≡ so_far.x + so_far.n + 1) }
 {
     let attr = cell.attr();

@@ -8,7 +8,8 @@ ghost use Rattle.con_units.specs.Plain.{is_plain};
 ghost use Rattle.con_vtgram.specs.State.{item_of};
 ghost use Rattle.con_vtgram.specs.declared.item.Item.TheVariants as Item;
 ghost use Rattle.std.specs.List.{list_all};
-ghost use Rattle.con_term.specs.Effect.{row_end, unpended, gone_to, display_erased, line_erased, some_erased, control_effect, private_effect, pen_of, plain_effect, effect, moved_to, lifted};
+ghost use Rattle.con_term.specs.Effect.{row_end, unpended, gone_to, moved_to, lifted, display_erased, line_erased, some_erased};
+ghost use Rattle.con_term.specs.Effect.{control_effect, private_effect, pen_of, plain_effect, effect};
 ghost use Rattle.con_term.specs.Page.{IsPage, blank_page, place, blank, erased, scrolled, lowered, wrapped, put, advanced, printed};
 
 use crate::block::Block;
@@ -71,6 +72,7 @@ impl Page {
     pub fn is_page(&self)
         ensures { IsPage self.now }
     {
+        // A field is read, so that the clause has the invariant.
         let _ = &self.size;
     }
 
@@ -257,6 +259,7 @@ impl Page {
         ensures count { result ≡ self.now.h * self.now.w }
         ensures whole { result ≡ length self.now.cells }
     {
+        // A field is read, so that the first clause has the invariant.
         let _ = &self.size;
         self.cells.len()
     }
@@ -337,14 +340,17 @@ impl Page {
         ensures { self.new ≡ control_effect self.old unit }
     {
         match unit {
+            // BS
             8 => {
                 self.x = self.x.saturating_sub(1);
                 self.pending = false;
             }
+            // LF
             10 => {
                 self.lower();
                 self.unpend();
             }
+            // CR
             13 => {
                 self.x = 0;
                 self.pending = false;
@@ -357,6 +363,7 @@ impl Page {
     fn private(&mut self, csi: &Csi)
         ensures { self.new ≡ private_effect self.old csi.now }
     {
+        // DECTCEM, CSI ? 25 h and CSI ? 25 l
         if csi.params[0] == 25 {
             match csi.last {
                 0x68 => self.visible = true,
@@ -381,26 +388,37 @@ impl Page {
         ensures { self.new ≡ plain_effect self.old csi.now }
     {
         match csi.last {
+            // CUU, CSI A
             0x41 => self.move_to(self.x, self.y.saturating_sub(csi.params[0].max(1))),
+            // CUD, CSI B
             0x42 => self.move_to(
                 self.x,
                 self.y
                     .saturating_add(csi.params[0].max(1))
                     .min(self.size.h - 1),
             ),
+            // CUF, CSI C
             0x43 => self.move_to(
                 self.x
                     .saturating_add(csi.params[0].max(1))
                     .min(self.size.w - 1),
                 self.y,
             ),
+            // CUB, CSI D
             0x44 => self.move_to(self.x.saturating_sub(csi.params[0].max(1)), self.y),
+            // CUP, CSI H
             0x48 => self.go_to(csi.params[0], csi.params[1]),
+            // HVP, CSI f
             0x66 => self.go_to(csi.params[0], csi.params[1]),
+            // SU, CSI S
             0x53 => self.lift(csi.params[0].max(1)),
+            // ED, CSI J
             0x4A => self.erase_display(csi.params[0]),
+            // EL, CSI K
             0x4B => self.erase_line(csi.params[0]),
+            // ECH, CSI X
             0x58 => self.erase_some(csi.params[0]),
+            // SGR, CSI m
             0x6D => self.set_pen(csi),
             _ => {}
         }

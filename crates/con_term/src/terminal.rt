@@ -1,5 +1,6 @@
 //! A terminal that plays bytes.
-ghost use Rattle.std.specs.Prelude.{◌≡◌, ℕ, List, ◌<◌, ◌≤◌, ◌*◌, [], ◌∷◌, flat_map, option_to_list, ◌++◌, IfOk, OnOk, MatchResult, length, take, vec_capacity, true};
+ghost use Rattle.std.specs.Prelude.{◌≡◌, ℕ, List, ◌<◌, ◌≤◌, ◌*◌, [], ◌∷◌, flat_map, option_to_list, ◌++◌};
+ghost use Rattle.std.specs.Prelude.{IfOk, OnOk, MatchResult, length, take, vec_capacity, true};
 ghost use Rattle.con_term.specs.Play.{units_of, typed, play};
 ghost use Rattle.con_term.specs.Inside.{parts};
 ghost use Rattle.con_term.specs.Dump.{dump as dump_of};

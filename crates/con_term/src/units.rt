@@ -1,6 +1,7 @@
 //! Bytes of UTF-8 as UTF-16 code units.
 
-ghost use Rattle.std.specs.Prelude.{◌≡◌, ℕ, ◌+◌, ◌-◌, ◌*◌, ◌≤◌, ◌<◌, max, true, List, [], ◌∷◌, ◌++◌, length, get_or, take, flat_map, option_to_list, vec_len, vec_capacity};
+ghost use Rattle.std.specs.Prelude.{◌≡◌, ℕ, ◌+◌, ◌-◌, ◌*◌, ◌≤◌, ◌<◌, max, true, List, [], ◌∷◌, ◌++◌};
+ghost use Rattle.std.specs.Prelude.{length, get_or, take, flat_map, option_to_list, vec_len, vec_capacity};
 ghost use Rattle.std.specs.List.{list_all};
 ghost use Rattle.con_units.specs.Split.{split_after, next};
 ghost use Rattle.con_units.specs.Utf8.{utf8};
