@@ -1,5 +1,6 @@
 -- What a changed line does to the screen that it is typed on.
-use Rattle.std.specs.Prelude.{ℕ, ℤ, pos, negsuc, ◌≡◌, ◌+◌, ◌-◌, ◌+ℤ◌, ◌-ℤ◌, ◌*ℤ◌, ◌<ℤ◌, ◌↔◌, ◌<◌, ◌≤◌, ◌*◌, ◌/◌, ◌%◌, false, nat_lt, List, length, map, take, drop, slice_index, slice_index_or, None, if◌then◌else◌}
+use Rattle.std.specs.Prelude.{ℕ, ℤ, pos, negsuc, ◌≡◌, ◌+◌, ◌-◌, ◌+ℤ◌, ◌-ℤ◌, ◌*ℤ◌, ◌<ℤ◌, ◌↔◌, ◌<◌, ◌≤◌, ◌*◌, ◌/◌, ◌%◌, false}
+use Rattle.std.specs.Prelude.{nat_lt, List, length, map, take, drop, slice_index, slice_index_or, None, if◌then◌else◌}
 use Rattle.std.specs.List.{range_with_len}
 use Rattle.con_units.specs.Natural.{natural}
 use Rattle.con_units.specs.Glyph.{Glyph, cell_of}
@@ -116,15 +117,19 @@ ended p o end = shown (down_in (record (cursor_at p (origin_in p o) end) { x = 0
 -- The definitions above in whole numbers.
 pub record IsLaidRowByRow : Type 0 where
   -- place k of the line is the k-th cell after the origin
-  pub place : (p : Page) (o : Origin) (rule : ℕ → Glyph → Glyph) (i k : ℕ) (was : Glyph) → pos i ≡ o.y *ℤ pos p.grid.width +ℤ pos (o.x + k) → ruled p o rule i was ≡ rule k was
+  pub place : (p : Page) (o : Origin) (rule : ℕ → Glyph → Glyph) (i k : ℕ) (was : Glyph) → pos i ≡ o.y *ℤ pos p.grid.width +ℤ pos (o.x + k)
+      → ruled p o rule i was ≡ rule k was
   -- a cell before the origin is no place of the line
-  pub before : (p : Page) (o : Origin) (rule : ℕ → Glyph → Glyph) (i : ℕ) (was : Glyph) → pos i <ℤ (o.y *ℤ pos p.grid.width +ℤ pos o.x) → ruled p o rule i was ≡ was
+  pub before : (p : Page) (o : Origin) (rule : ℕ → Glyph → Glyph) (i : ℕ) (was : Glyph) → pos i <ℤ (o.y *ℤ pos p.grid.width +ℤ pos o.x)
+      → ruled p o rule i was ≡ was
   -- a scroll by n rows brings place k in, or above row 0, exactly where n is not less than the number of rows that it scrolls
-  pub least : (p : Page) (o : Origin) (k n : ℕ) → 0 < p.grid.height → (rows_past p o k ≤ n) ↔ (((o.y +ℤ pos ((o.x + k) / p.grid.width)) -ℤ pos n) <ℤ pos p.grid.height)
+  pub least : (p : Page) (o : Origin) (k n : ℕ) → 0 < p.grid.height
+      → (rows_past p o k ≤ n) ↔ (((o.y +ℤ pos ((o.x + k) / p.grid.width)) -ℤ pos n) <ℤ pos p.grid.height)
 
 -- The first difference, the units from there on, by how much the text became shorter, and the caret determine what the
 -- whole texts do.
 pub record IsEchoedByPart : Type 0 where
   pub by_part : (s : Screen) (o : Origin) (old new : List ℕ) (caret : ℕ) →
-      part_echoed s o (first_difference old new) (take (length new - first_difference old new) (drop (first_difference old new) new)) (length old - length new) caret
+      part_echoed s o (first_difference old new) (take (length new - first_difference old new) (drop (first_difference old new) new))
+      (length old - length new) caret
       ≡ echoed s o old new caret

@@ -1,5 +1,6 @@
 //! What a write tells beside the screen.
-ghost use Rattle.std.specs.Prelude.{◌≡◌, ℕ, ◌+◌, ◌-◌, ◌*◌, ◌<◌, ◌≤◌, ◌++◌, ◌∷◌, [], Some, None, IsSome, IsTrue, ◌↔◌, IfOk, OnOk, OnErr, max, vec_len, vec_capacity, length};
+ghost use Rattle.std.specs.Prelude.{◌≡◌, ℕ, ◌+◌, ◌-◌, ◌*◌, ◌<◌, ◌≤◌, ◌++◌, ◌∷◌, [], Some, None, IsSome};
+ghost use Rattle.std.specs.Prelude.{IsTrue, ◌↔◌, IfOk, OnOk, OnErr, max, vec_len, vec_capacity, length};
 ghost use Rattle.con_units.specs.Decimal.{decimal};
 ghost use Rattle.con_screen.specs.Told.{Told, Answered, nothing_told, cursor_report, device_report, reported};
 

@@ -1,6 +1,7 @@
 //! A screen without its unfinished text.
 ghost use Rattle.std.specs.Prelude.{IfOk, ◌≡◌, ℕ, ◌+◌, ◌<◌, ◌≤◌, ◌*◌, ◌^◌, ◌&&◌, ◌==◌, None, length, true};
-ghost use Rattle.con_screen.specs.Page.{IsPage, place, row_start, row_end, blank, erased, rows_up, rows_down, region_first, region_end, row_down, down, down_in, shown, least_shift, unlate};
+ghost use Rattle.con_screen.specs.Page.{IsPage, place, row_start, row_end, blank, erased, rows_up, rows_down};
+ghost use Rattle.con_screen.specs.Page.{region_first, region_end, row_down, down, down_in, shown, least_shift, unlate};
 ghost use Rattle.con_screen.specs.Effect as now;
 ghost use Rattle.con_screen.specs.Alternate.{sides};
 ghost use Rattle.con_screen.specs.Setters.{new_page};

@@ -1,6 +1,7 @@
 //! The pen.
 ghost use Rattle.std.specs.Prelude.{◌≡◌, ◌<◌, ◌≤◌};
-ghost use Rattle.con_screen.specs.Pen.{word_of, attr_of, lit, starting_pen, in_colour, in_shade, coloured, pen_after, indexed, IsPen, styled, styled_plainly, styled_all, kind_of, skip_of};
+ghost use Rattle.con_screen.specs.Pen.{word_of, attr_of, lit, starting_pen, in_colour, in_shade, coloured, pen_after};
+ghost use Rattle.con_screen.specs.Pen.{indexed, IsPen, styled, styled_plainly, styled_all, kind_of, skip_of};
 ghost use Rattle.con_screen.specs.declared.pen.Reading.TheVariants.{Plain};
 ghost use Rattle.con_screen.specs.Nibble.{nibble as nibble_of};
 

@@ -91,7 +91,8 @@ impl Screen {
     /// Moves the cursor. Only a place outside the buffer is refused.
     pub fn set_cursor(&mut self, at: Coord) -> Result<(), Code>
         requires { IsPage self.old.page }
-        ensures moved { OnOk result (IsInside self.old.page.grid at × (self.new ≡ record self.old { page = cursor_set self.old.page (natural at.x) (natural at.y) })) }
+        ensures moved { OnOk result
+            (IsInside self.old.page.grid at × (self.new ≡ record self.old { page = cursor_set self.old.page (natural at.x) (natural at.y) })) }
         ensures refused { IfErr result (λ e. (e ≡ BadArgument) × (¬ IsInside self.old.page.grid at) × (self.new ≡ self.old)) }
         ensures page { IsPage self.new.page }
         ensures sides { sides self.new.page ≡ sides self.old.page }
@@ -102,7 +103,8 @@ impl Screen {
     /// Moves the window. Only a window that would leave the buffer is refused.
     pub fn set_window_origin(&mut self, at: Coord) -> Result<(), Code>
         requires { IsPage self.old.page }
-        ensures moved { OnOk result (IsOrigin self.old.page at × (self.new ≡ record self.old { page = origin_set self.old.page (natural at.x) (natural at.y) })) }
+        ensures moved { OnOk result
+            (IsOrigin self.old.page at × (self.new ≡ record self.old { page = origin_set self.old.page (natural at.x) (natural at.y) })) }
         ensures refused { IfErr result (λ e. (e ≡ BadArgument) × (¬ IsOrigin self.old.page at) × (self.new ≡ self.old)) }
         ensures page { IsPage self.new.page }
         ensures sides { sides self.new.page ≡ sides self.old.page }
@@ -143,7 +145,8 @@ impl Screen {
     /// Sets the cursor's size and whether it is visible. Only a size of 0 or above 100 is refused.
     pub fn set_cursor_info(&mut self, size: u32, visible: bool) -> Result<(), Code>
         requires { IsPage self.old.page }
-        ensures set { OnOk result ((0 < size) × (size ≤ 100) × (self.new ≡ record self.old { page = record self.old.page { cursor_size = size; visible = visible } })) }
+        ensures set { OnOk result
+            ((0 < size) × (size ≤ 100) × (self.new ≡ record self.old { page = record self.old.page { cursor_size = size; visible = visible } })) }
         ensures refused { IfErr result (λ e. (e ≡ BadArgument) × ((size ≡ 0) ⊎ (100 < size)) × (self.new ≡ self.old)) }
         ensures page { IsPage self.new.page }
         ensures sides { sides self.new.page ≡ sides self.old.page }
@@ -174,7 +177,8 @@ impl Screen {
         requires fit { IsFit self.old.page fit }
         ensures screen { self.new ≡ record self.old { page = refitted self.old.page fit.buffer fit.window } }
         ensures page { IsPage self.new.page }
-        ensures sides { sides self.new.page ≡ record { width = fit.buffer.w; height = fit.buffer.h; w = fit.window.w; h = fit.window.h; now = self.old.page.grid.now; moment = None } }
+        ensures sides { sides self.new.page
+            ≡ record { width = fit.buffer.w; height = fit.buffer.h; w = fit.window.w; h = fit.window.h; now = self.old.page.grid.now; moment = None } }
     {
         self.page.resize(fit);
     }

@@ -47,6 +47,7 @@ pub(crate) fn is_switch(csi: &Csi) -> bool
     csi.inter == 0 && csi.private && csi.params[0] == 1049 && (csi.last == 0x68 || csi.last == 0x6C)
 }
 
+// DECSTR, CSI ! p
 pub(crate) fn is_reset(csi: &Csi) -> bool
     ensures { result ≡ tells.is_reset csi.now }
 {
@@ -214,7 +215,8 @@ pub(crate) fn write_some(
     requires some { 0 < length units.now }
     requires room { length units.now ≤ answers.old.room }
     ensures page { IsPage page.new }
-    ensures done { DoneSome (record { page = page.old; text = text.old.tail }) answers.old (take result.0 units.now) page.new text.new.tail answers.new result.1 }
+    ensures done { DoneSome (record { page = page.old; text = text.old.tail }) answers.old
+        (take result.0 units.now) page.new text.new.tail answers.new result.1 }
     ensures count { 0 < result.0 }
     ensures inside { result.0 ≤ length units.now }
     ensures one { result.1 ≡ true → result.0 ≡ 1 }

@@ -78,7 +78,8 @@ impl Page {
     pub(crate) fn draw(&mut self, origin: Origin, offset: usize, units: &[u16], blanks: usize)
         requires page { IsPage self.old }
         requires small { (offset < 2 ^ 16) × (blanks < 2 ^ 16) }
-        requires inside { natural origin.y * self.old.grid.width + origin.x + (offset + length units.now) < length self.old.grid.cells + echo.rows_above origin.y * self.old.grid.width }
+        requires inside { natural origin.y * self.old.grid.width + origin.x + (offset + length units.now)
+            < length self.old.grid.cells + echo.rows_above origin.y * self.old.grid.width }
         ensures effect { self.new ≡ echo.drawn_by self.old origin (echo.part_rule self.old offset units.now blanks) }
         ensures page { IsPage self.new }
     {

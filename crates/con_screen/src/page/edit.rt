@@ -165,14 +165,23 @@ impl Page {
         let how = csi.params[0];
         let n = how.max(1);
         match csi.last {
+            // ICH, CSI @
             0x40 => self.insert_cells(n),
+            // ED, CSI J
             0x4A => self.erase_display(how),
+            // EL, CSI K
             0x4B => self.erase_line(how),
+            // IL, CSI L
             0x4C => self.insert_lines(n),
+            // DL, CSI M
             0x4D => self.delete_lines(n),
+            // DCH, CSI P
             0x50 => self.delete_cells(n),
+            // SU, CSI S
             0x53 => self.scroll_up(n),
+            // SD, CSI T
             0x54 => self.scroll_down(n),
+            // ECH, CSI X
             _ => self.erase_some(n),
         }
     }

@@ -33,12 +33,16 @@ impl Page {
         ensures page { IsPage self.new }
     {
         match unit {
+            // BS
             8 => {
                 self.x = self.x.saturating_sub(1);
                 self.late = false;
             }
+            // HT
             9 => self.tab_right(1),
+            // LF
             10 => self.line_feed(),
+            // CR
             13 => {
                 self.x = 0;
                 self.late = false;
@@ -60,22 +64,33 @@ impl Page {
         let left = self.left as u32;
         let top = self.top as u32;
         match csi.last {
+            // CUU, CSI A
             0x41 => self.row_to(y.saturating_sub(n)),
+            // CUD, CSI B
             0x42 => self.row_to(y + n),
+            // CUF, CSI C
             0x43 => self.column_to(x + n),
+            // CUB, CSI D
             0x44 => self.column_to(x.saturating_sub(n)),
+            // CNL, CSI E
             0x45 => {
                 self.row_to(y + n);
                 self.column_to(left);
             }
+            // CPL, CSI F
             0x46 => {
                 self.row_to(y.saturating_sub(n));
                 self.column_to(left);
             }
+            // CHA, CSI G
             0x47 => self.column_to(left + n - 1),
+            // CHT, CSI I
             0x49 => self.tab_right(n),
+            // CBT, CSI Z
             0x5A => self.tab_left(n),
+            // VPA, CSI d
             0x64 => self.row_to(top + n - 1),
+            // CUP, CSI H; HVP, CSI f
             _ => {
                 self.row_to(top + n - 1);
                 self.column_to(left + csi.params[1].max(1) as u32 - 1);

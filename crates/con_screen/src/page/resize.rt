@@ -79,7 +79,8 @@ impl Page {
         requires fit { IsFit self.old fit }
         ensures effect { self.new ≡ refitted self.old fit.buffer fit.window }
         ensures page { IsPage self.new }
-        ensures sides { sides self.new ≡ record { width = fit.buffer.w; height = fit.buffer.h; w = fit.window.w; h = fit.window.h; now = self.old.grid.now; moment = None } }
+        ensures sides { sides self.new
+            ≡ record { width = fit.buffer.w; height = fit.buffer.h; w = fit.window.w; h = fit.window.h; now = self.old.grid.now; moment = None } }
     {
         self.take_fit(fit);
         self.show_cursor();

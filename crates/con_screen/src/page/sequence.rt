@@ -89,17 +89,22 @@ impl Page {
         ensures page { IsPage self.new }
     {
         match csi.last {
+            // TBC, CSI g
             0x67 => self.clear_tabs(csi.params[0]),
+            // SGR, CSI m
             0x6D => self.set_pen(csi),
+            // DECSTBM, CSI r
             0x72 => {
                 let bottom = self.bottom_of(csi.params[1]);
                 self.set_margins(csi.params[0].max(1), bottom);
             }
+            // SCOSC, CSI s
             0x73 => {
                 if csi.count == 0 {
                     self.save();
                 }
             }
+            // SCORC, CSI u
             0x75 => {
                 if csi.count == 0 {
                     self.restore();
@@ -130,6 +135,7 @@ impl Page {
         ensures effect { self.new ≡ now.private_effect self.old csi.now }
         ensures page { IsPage self.new }
     {
+        // DECTCEM, CSI ? 25 h and CSI ? 25 l
         if csi.params[0] == 25 {
             match csi.last {
                 0x68 => self.visible = true,
@@ -165,6 +171,7 @@ impl Page {
                 self.plain(csi);
             }
         } else if csi.inter == 0x21 && !csi.private && csi.last == 0x70 {
+            // DECSTR, CSI ! p
             self.reset();
         }
     }
@@ -176,9 +183,13 @@ impl Page {
         ensures page { IsPage self.new }
     {
         match unit {
+            // DECSC, ESC 7
             0x37 => self.save(),
+            // DECRC, ESC 8
             0x38 => self.restore(),
+            // HTS, ESC H
             0x48 => self.set_tab(true),
+            // RI, ESC M
             0x4D => self.row_up(),
             _ => {}
         }
@@ -190,7 +201,9 @@ impl Page {
         ensures page { IsPage self.new }
     {
         match unit {
+            // SCS, ESC ( 0
             0x30 => self.drawing = true,
+            // SCS, ESC ( B
             0x42 => self.drawing = false,
             _ => {}
         }
