@@ -5,10 +5,8 @@
 
 pub mod callers;
 #[cfg(test)]
-mod lines;
-#[cfg(test)]
 mod rows;
 #[cfg(test)]
-mod told;
+mod tables;
 #[cfg(test)]
 mod units;

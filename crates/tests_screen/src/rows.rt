@@ -1,45 +1,35 @@
-//! Rows of tables, and the line that shows a screen.
-ghost use Rattle.std.specs.Prelude.{◌≡◌, ◌<◌, ◌≤◌, IfOk};
+//! What a screen is told to do, and the lines that show it.
+ghost use Rattle.std.specs.Prelude.{◌≡◌, ◌<◌, ◌≤◌};
 ghost use Rattle.con_screen.specs.Page.{IsPage};
 
-use con_screen::{Answers, Screen};
-use con_units::{Coord, Size};
-use std::alloc::Global;
+use con_screen::{Answers, Origin, Screen};
+use con_units::Coord;
 use std::test::Fail;
 
-// How many units a text of a table may have.
+// How many units a text may have.
 const LONGEST: usize = 64;
 
-/// How a row begins.
-#[derive(Clone, Copy)]
-pub(crate) enum Start {
-    /// Fourteen letters in five columns and three rows, in a mode.
-    Letters(u32),
-    /// Sixteen letters in four columns and four rows. In digits: the sides of the window, its corner, and the cursor.
-    Window(&'static [u8; 6]),
-}
+/// What is shown of a line: offset, units from there on, blanks behind them, and the caret.
+pub(crate) type Line = (u16, &'static [u8], u16, u16);
 
-/// How it begins, a text, and what is shown then: the cells, the window's corner and the cursor.
-pub(crate) type Row = (Start, &'static [u8], &'static str);
-
-// A digit as a number of cells, from 1 to 4.
-fn side(digit: u8) -> u16
+/// A number of cells, from 1 to 10.
+pub(crate) fn side(cells: u16) -> u16
     ensures some { 0 < result }
-    ensures few { result ≤ 4 }
+    ensures few { result ≤ 10 }
 {
-    (digit as u16).saturating_sub(0x30).max(1).min(4)
+    cells.max(1).min(10)
 }
 
-// Two digits as a place.
-fn place(x: u8, y: u8) -> Coord {
+/// Two digits as a place.
+pub(crate) fn place(x: u8, y: u8) -> Coord {
     Coord {
         x: x.saturating_sub(0x30) as i16,
         y: y.saturating_sub(0x30) as i16,
     }
 }
 
-/// A number as a digit.
-pub(crate) fn digit(number: i16) -> char {
+// A number as a digit.
+fn digit(number: i16) -> char {
     match u8::try_from(number) {
         Ok(n) if n < 10 => (0x30 + n) as char,
         _ => '?',
@@ -57,75 +47,78 @@ fn spread(text: &[u8], units: &mut [u16; LONGEST]) -> usize
     count
 }
 
-/// Writes a text, and what it tells.
-pub(crate) fn tell(alloc: Global, screen: &mut Screen, text: &[u8]) -> Result<Answers, Fail>
-    requires { IsPage screen.old.page }
-    ensures { IsPage screen.new.page }
+/// Writes units; the answers are those to them.
+pub(crate) fn write_units(
+    screen: &mut Screen,
+    units: &[u16],
+    answers: &mut Answers,
+) -> Result<(), Fail>
+    requires page { IsPage screen.old.page }
+    ensures page { IsPage screen.new.page }
 {
-    let mut answers = Answers::room(alloc, LONGEST)?;
-    let mut units = [0; LONGEST];
-    let count = spread(text, &mut units);
-    let _ = screen.write(&units[..count], &mut answers);
-    Ok(answers)
-}
-
-/// Writes a text.
-pub(crate) fn write(alloc: Global, screen: &mut Screen, text: &[u8]) -> Result<(), Fail>
-    requires { IsPage screen.old.page }
-    ensures { IsPage screen.new.page }
-{
-    let _ = tell(alloc, screen, text)?;
+    let count = units.len().min(LONGEST);
+    answers.clear(LONGEST)?;
+    screen.write(&units[..count], answers);
     Ok(())
 }
 
-fn small(alloc: Global, start: Start) -> Result<Screen, Fail>
-    ensures { IfOk result (λ s. IsPage s.page) }
+/// Writes a text; the answers are those to it.
+pub(crate) fn write(screen: &mut Screen, text: &[u8], answers: &mut Answers) -> Result<(), Fail>
+    requires page { IsPage screen.old.page }
+    ensures page { IsPage screen.new.page }
 {
-    let buffer = match start {
-        Start::Letters(_) => Size { w: 5, h: 3 },
-        _ => Size { w: 4, h: 4 },
-    };
-    let window = match start {
-        Start::Window(digits) => Size {
-            w: side(digits[0]),
-            h: side(digits[1]),
-        },
-        _ => buffer,
-    };
-    Ok(Screen::new(alloc, buffer, window)?)
+    let mut units = [0; LONGEST];
+    let count = spread(text, &mut units);
+    write_units(screen, &units[..count], answers)
 }
 
-// Brings a new screen to where a row begins.
-fn prepare(alloc: Global, screen: &mut Screen, start: Start) -> Result<(), Fail>
-    requires { IsPage screen.old.page }
-    ensures { IsPage screen.new.page }
+/// Fourteen letters, in a mode.
+pub(crate) fn letters(screen: &mut Screen, mode: u32, answers: &mut Answers) -> Result<(), Fail>
+    requires page { IsPage screen.old.page }
+    ensures page { IsPage screen.new.page }
 {
-    match start {
-        Start::Letters(mode) => {
-            let _ = screen.set_mode(mode);
-            write(alloc, screen, b"abcdefghijklmn")
-        }
-        Start::Window(digits) => {
-            let _ = screen.set_mode(15);
-            write(alloc, screen, b"abcdefghijklmnop")?;
-            let _ = screen.set_mode(7);
-            let _ = screen.set_cursor(place(digits[4], digits[5]));
-            let _ = screen.set_window_origin(place(digits[2], digits[3]));
-            Ok(())
-        }
-    }
+    let _ = screen.set_mode(mode);
+    write(screen, b"abcdefghijklmn", answers)
 }
 
-/// A screen where a row begins.
-pub(crate) fn begun(alloc: Global, start: Start) -> Result<Screen, Fail>
-    ensures { IfOk result (λ s. IsPage s.page) }
+/// Sixteen letters. In digits: the corner of the window, and the cursor.
+pub(crate) fn letters_behind(
+    screen: &mut Screen,
+    places: &[u8; 4],
+    answers: &mut Answers,
+) -> Result<(), Fail>
+    requires page { IsPage screen.old.page }
+    ensures page { IsPage screen.new.page }
 {
-    let mut screen = small(alloc, start)?;
-    prepare(alloc, &mut screen, start)?;
-    Ok(screen)
+    let _ = screen.set_mode(15);
+    write(screen, b"abcdefghijklmnop", answers)?;
+    let _ = screen.set_mode(7);
+    let _ = screen.set_cursor(place(places[2], places[3]));
+    let _ = screen.set_window_origin(place(places[0], places[1]));
+    Ok(())
 }
 
-/// Puts the cells of a screen, the window's corner and the cursor behind a text.
+/// Shows what changed of a line: where it begins then.
+pub(crate) fn change(screen: &mut Screen, origin: Origin, line: Line) -> Origin
+    requires page { IsPage screen.old.page }
+    ensures page { IsPage screen.new.page }
+{
+    let (offset, text, blanks, caret) = line;
+    let mut units = [0; LONGEST];
+    let count = spread(text, &mut units);
+    screen.echo(origin, offset.min(1000), &units[..count], blanks, caret)
+}
+
+/// Shows units with the caret behind them: where the line begins then.
+pub(crate) fn echo(screen: &mut Screen, origin: Origin, units: &[u16]) -> Origin
+    requires page { IsPage screen.old.page }
+    ensures page { IsPage screen.new.page }
+{
+    let count = units.len().min(LONGEST);
+    screen.echo(origin, 0, &units[..count], 0, count as u16)
+}
+
+/// Puts the cells, the window's corner and the cursor behind a text.
 pub(crate) fn show(screen: &Screen, seen: &mut String) -> Result<(), Fail>
     requires { IsPage screen.now.page }
 {
@@ -140,5 +133,65 @@ pub(crate) fn show(screen: &Screen, seen: &mut String) -> Result<(), Fail>
     seen.push(digit(info.window.top))?;
     seen.push(digit(info.cursor.x))?;
     seen.push(digit(info.cursor.y))?;
+    Ok(seen.push('\n')?)
+}
+
+fn sign_of(word: u16) -> char {
+    match word {
+        0x07 => '7',
+        0x1E => 'e',
+        _ => '?',
+    }
+}
+
+/// Puts a sign for the attribute word of each cell behind a text.
+pub(crate) fn show_words(screen: &Screen, seen: &mut String) -> Result<(), Fail> {
+    let grid = screen.grid();
+    for at in 0..grid.count() {
+        seen.push(sign_of(grid.at(at).attr().bits()))?;
+    }
+    Ok(())
+}
+
+/// Puts where a line begins behind a text.
+pub(crate) fn show_origin(origin: Origin, seen: &mut String) -> Result<(), Fail> {
+    writeln!(seen, "{} {}", origin.x, origin.y)?;
+    Ok(())
+}
+
+fn sign(on: Option<bool>) -> char {
+    match on {
+        None => '.',
+        Some(true) => '+',
+        Some(false) => '-',
+    }
+}
+
+fn put(units: &[u16], seen: &mut String) -> Result<(), Fail> {
+    for unit in units {
+        match u8::try_from(*unit) {
+            Ok(0x1B) => seen.push('^')?,
+            Ok(byte) => seen.push(byte as char)?,
+            Err(_) => seen.push('?')?,
+        }
+    }
+    Ok(())
+}
+
+/// Puts the reports, the title, the cursor key mode, the alternate screen, and how many units were read.
+pub(crate) fn show_told(answers: &Answers, seen: &mut String) -> Result<(), Fail> {
+    put(answers.reports(), seen)?;
+    seen.push('|')?;
+    if answers.titled() {
+        seen.push('\'')?;
+        put(answers.title(), seen)?;
+        seen.push('\'')?;
+    }
+    seen.push('|')?;
+    seen.push(sign(answers.cursor_keys()))?;
+    seen.push(sign(answers.alternate()))?;
+    let read = LONGEST.saturating_sub(answers.left()).min(99) as i16;
+    seen.push(digit(read / 10))?;
+    seen.push(digit(read % 10))?;
     Ok(seen.push('\n')?)
 }
