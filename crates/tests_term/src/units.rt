@@ -1,5 +1,5 @@
 //! Bytes of UTF-8 and their units, by hand: each text cut in two at every place, as no link shows it.
-ghost use Rattle.std.specs.Prelude.{◌≤◌, length};
+ghost use Rattle.std.specs.Prelude.{◌*◌, ◌≤◌, length, vec_capacity};
 
 use con_term::decode;
 use con_units::Utf8;
@@ -92,67 +92,98 @@ const ROWS: [Row; 37] = [
     (b"\xF4\x8F\x41\xE0\xA0\xE0", &[0xFFFD, 0x41, 0xFFFD], 1),
 ];
 
-// Puts the units last that the bytes complete.
-fn append(alloc: Global, decoder: &mut Utf8, bytes: &[u8], all: &mut Vec<u16>) -> Result<(), Fail>
-    requires { length bytes.now ≤ 128 }
+// Whether the bytes have these units and leave so many bytes, if they come cut at a place.
+fn is_decoded_in(bytes: &[u8], units: &[u16], held: u8, at: usize, list: &mut Vec<u16>) -> bool
+    requires place { at ≤ length bytes.now }
+    requires room { 4 * length bytes.now ≤ vec_capacity list.old }
 {
-    let mut units: Vec<u16> = Vec::with_capacity(alloc, 4 * MOST)?;
-    decode(decoder, bytes, &mut units);
-    all.extend_from_slice(units.as_slice())?;
-    Ok(())
+    let mut decoder = Utf8::new();
+    decode(&mut decoder, &bytes[..at], list);
+    let front = list.len();
+    if units.len() < front {
+        return false;
+    }
+    if list.as_slice() != &units[..front] {
+        return false;
+    }
+    decode(&mut decoder, &bytes[at..], list);
+    list.as_slice() == &units[front..] && decoder.held() == held
 }
 
-// Whether the bytes have these units and leave so many bytes, if they come cut at a place.
 fn is_decoded(alloc: Global, bytes: &[u8], units: &[u16], held: u8, at: usize) -> Result<bool, Fail>
     requires place { at ≤ length bytes.now }
     requires few { length bytes.now ≤ 128 }
 {
-    let mut decoder = Utf8::new();
-    let mut all: Vec<u16> = Vec::new(alloc);
-    append(alloc, &mut decoder, &bytes[..at], &mut all)?;
-    append(alloc, &mut decoder, &bytes[at..], &mut all)?;
-    Ok(all.as_slice() == units && decoder.held() == held)
+    let mut list: Vec<u16> = Vec::with_capacity(alloc, 4 * MOST)?;
+    Ok(is_decoded_in(bytes, units, held, at, &mut list))
 }
 
-// Whether a row holds behind so many letters, wherever its bytes are cut.
-fn holds(alloc: Global, row: &Row, letters: usize) -> Result<bool, Fail> {
-    let mut bytes: Vec<u8> = Vec::new(alloc);
-    let mut units: Vec<u16> = Vec::new(alloc);
-    for _ in 0..letters {
-        bytes.push(b'a')?;
-        units.push(0x61)?;
-    }
-    bytes.extend_from_slice(row.0)?;
-    units.extend_from_slice(row.1)?;
-    if bytes.len() > MOST {
-        return Ok(false);
-    }
+// Whether they do so wherever they are cut.
+fn are_decoded(alloc: Global, bytes: &[u8], units: &[u16], held: u8) -> Result<bool, Fail>
+    requires few { length bytes.now ≤ 128 }
+{
     for at in 0..bytes.len() + 1 {
-        if !is_decoded(alloc, bytes.as_slice(), units.as_slice(), row.2, at)? {
+        if !is_decoded(alloc, bytes, units, held, at)? {
             return Ok(false);
         }
     }
     Ok(true)
 }
 
-// The rows that do not hold behind so many letters.
-fn failures(alloc: Global, letters: usize) -> Result<Vec<usize>, Fail> {
-    let mut found: Vec<usize> = Vec::new(alloc);
+// So many letters, and bytes behind them.
+fn put_bytes(bytes: &[u8], letters: usize, all: &mut [u8; MOST]) -> usize
+    ensures { result ≤ 128 }
+{
+    let letters = letters.min(64);
+    let count = bytes.len().min(64);
+    for at in 0..letters {
+        all[at] = 0x61;
+    }
+    for at in 0..count {
+        all[letters + at] = bytes[at];
+    }
+    letters + count
+}
+
+// So many letters, and units behind them.
+fn put_units(units: &[u16], letters: usize, all: &mut [u16; MOST]) -> usize
+    ensures { result ≤ 128 }
+{
+    let letters = letters.min(64);
+    let count = units.len().min(64);
+    for at in 0..letters {
+        all[at] = 0x61;
+    }
+    for at in 0..count {
+        all[letters + at] = units[at];
+    }
+    letters + count
+}
+
+// Whether a row holds behind so many letters, wherever its bytes are cut.
+fn holds(alloc: Global, row: &Row, letters: usize) -> Result<bool, Fail> {
+    let mut bytes = [0; MOST];
+    let mut units = [0; MOST];
+    let len = put_bytes(row.0, letters, &mut bytes);
+    let count = put_units(row.1, letters, &mut units);
+    are_decoded(alloc, &bytes[..len], &units[..count], row.2)
+}
+
+// The first row that does not hold behind so many letters, and the number of rows where each does.
+fn first_failure(alloc: Global, letters: usize) -> Result<usize, Fail> {
     for at in 0..ROWS.len() {
         if !holds(alloc, &ROWS[at], letters)? {
-            found.push(at)?;
+            return Ok(at);
         }
     }
-    Ok(found)
+    Ok(ROWS.len())
 }
 
 // Where 64 bytes are looked at together, a text that begins before they end goes on past them.
 #[test]
 fn units_by_hand_and_past_a_chunk(rt: HostRuntime) -> Result<(), Fail> {
-    let found = [
-        failures(rt.alloc(), 0)?.len(),
-        failures(rt.alloc(), 62)?.len(),
-    ];
-    assert_eq!(rt; found, [0, 0]);
+    let at_front = first_failure(rt.alloc(), 0)?;
+    let past_chunk = first_failure(rt.alloc(), 62)?;
+    assert_eq!(rt; (at_front, past_chunk), (37, 37));
     Ok(())
 }
