@@ -21,19 +21,25 @@ fn made(screens: &mut Screens) -> Result<u32, OutOfMemory>
 }
 
 // The numbers of a buffer and of the one that gets its id, 0 where they are not there.
-fn numbers(alloc: Global) -> Result<(u64, u64), OutOfMemory> {
-    let mut screens = Screens::new(alloc, Size { w: 80, h: 25 })?;
-    let id = BufferId(made(&mut screens)?);
+fn numbers_in(screens: &mut Screens) -> Result<(u64, u64), OutOfMemory>
+    requires { AreBuffers screens.old }
+{
+    let id = BufferId(made(screens)?);
     if !screens.live(id) {
         return Ok((0, 0));
     }
     let born = screens.birth(id);
     screens.release_handle(id);
-    let again = made(&mut screens)?;
+    let again = made(screens)?;
     if again != id.0 || !screens.live(id) {
         return Ok((born, 0));
     }
     Ok((born, screens.birth(id)))
+}
+
+fn numbers(alloc: Global) -> Result<(u64, u64), OutOfMemory> {
+    let mut screens = Screens::new(alloc, Size { w: 80, h: 25 })?;
+    numbers_in(&mut screens)
 }
 
 #[test]

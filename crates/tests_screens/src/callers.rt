@@ -113,7 +113,10 @@ pub fn seen(screens: &Screens, rows: Vec<Cell>) -> View
     requires empty { rows.items ≡ [] }
     requires spare { screens.now.w * screens.now.h ≤ vec_capacity rows }
     ensures whole { IsWhole result }
-    ensures rows { (y : ℕ) → y < screens.now.h → row_of screens.now.w result.rows y ≡ row_part (screen_at screens.now screens.now.active).page.grid.width (screen_at screens.now screens.now.active).page.grid.cells (screen_at screens.now screens.now.active).page.left screens.now.w ((screen_at screens.now screens.now.active).page.top + y) }
+    ensures rows { (y : ℕ) → y < screens.now.h
+        → row_of screens.now.w result.rows y
+        ≡ row_part (screen_at screens.now screens.now.active).page.grid.width (screen_at screens.now screens.now.active).page.grid.cells
+        (screen_at screens.now screens.now.active).page.left screens.now.w ((screen_at screens.now screens.now.active).page.top + y) }
 {
     is_seen_by_rows();
     screens.view(rows)
@@ -122,7 +125,8 @@ pub fn seen(screens: &Screens, rows: Vec<Cell>) -> View
 /// Whether the console shows what it showed when the number was last raised, at the window's present place.
 pub fn is_as_it_was(screens: &Screens, last: &View) -> bool
     requires buffers { AreBuffers screens.now }
-    requires shown { WasShown (sides (screen_at screens.now screens.now.active).page) (screen_at screens.now screens.now.active).page.left (screen_at screens.now screens.now.active).page.top last.now }
+    requires shown { WasShown (sides (screen_at screens.now screens.now.active).page) (screen_at screens.now screens.now.active).page.left
+        (screen_at screens.now screens.now.active).page.top last.now }
     ensures as_it_was { result ≡ true → view_of (screen_at screens.now screens.now.active).page ≡ last.now }
     ensures changed { result ≡ false → ¬ (view_of (screen_at screens.now screens.now.active).page ≡ last.now) }
 {
