@@ -24,6 +24,7 @@ use Rattle.con_session.specs.Desk.{Rests, Stands, entry}
 use Rattle.con_session.specs.Painting.{CanvasIs, CanvasEnds, EntersPaint, PaintTurn, PainterFails, PainterActs}
 use Rattle.con_session.specs.Seats.{AllStandBy, AllFollow, ClientsTurnBy}
 use Rattle.con_session.specs.Sender.{LinkBy, LinkEndsBy, SenderTurn, FailsBy}
+use Rattle.con_session.specs.OpeningLaws.{moment_of}
 use Rattle.con_session.specs.Solo.{AllIdle, Moment, HoldsBy, GoesBy, HasRounds, BreaksOff, StopsBy, RoundTurnBy, RoundsTurnBy, fails_at}
 use Rattle.con_session.specs.declared.terminal.Side.{Side}
 use Rattle.con_session.specs.declared.worker.Worker.{Worker}
@@ -83,7 +84,7 @@ comes : (R : Reading) (M0 M1 M2 : List R.One → List Entry → Type 0) (b : Beg
     (ws : List Worker) (places : List (List ℕ)) (ms : List (List Memory)) (slots : List (List ℕ)) (n : ℕ) (s3 : State) (h3 : List Entry) (r3 : List Reply) (kept : Kept) (es : List ℕ) (end : ℕ) (failed : Bool) (written : Option (List ℕ)) (sent' entered painted : Bool)
     → Turned R M0 M1 M2 b.state scripts m s1 h1 r1 side taken left s2 h2 r2 ws places ms slots n s3 h3 r3 kept es end failed written sent' entered painted
     → FailsBy m.failed b.failed (paints m.entries) → GoesBy R M0 b scripts before old m
-    → Comes R M2 b scripts before old m.entries (record { state = s3; entries = h3; replies = r3; workers = ws; places = places; memories = ms; slots = slots; side = side; taken = taken; left = left; kept = kept; ends = es; end = end; failed = failed; written = written }) (sent' || (entered || painted)) painted
+    → Comes R M2 b scripts before old m.entries (moment_of s3 h3 r3 ws places ms slots side taken left kept es end failed written) (sent' || (entered || painted)) painted
 comes R M0 M1 M2 b scripts before old m s1 h1 r1 side taken left s2 h2 r2 ws places ms slots n s3 h3 r3 kept es end failed written sent' entered painted t f k =
     let k0 = k.holds in
     let x = t.sends b f k0.link.stands.ended' in
@@ -127,14 +128,14 @@ pub round_ok : (R : Reading) (M0 M1 M2 : List R.One → List Entry → Type 0) (
     → acted ≡ (sent' || (entered || painted))
     → Turned R M0 M1 M2 b.state scripts m s1 h1 r1 side taken left s2 h2 r2 ws places ms slots n s3 h3 r3 kept es end failed written sent' entered painted
     → ((f : Option ℕ) → FailsBy m.failed f (paints m.entries) → GoesBy R M0 (fails_at b f) scripts before old m) → (f : Option ℕ) → FailsBy failed f (paints h3)
-    → RoundTurnBy R M2 M2 (Ok acted) (fails_at b f) scripts before old m.entries (record { state = s3; entries = h3; replies = r3; workers = ws; places = places; memories = ms; slots = slots; side = side; taken = taken; left = left; kept = kept; ends = es; end = end; failed = failed; written = written })
+    → RoundTurnBy R M2 M2 (Ok acted) (fails_at b f) scripts before old m.entries (moment_of s3 h3 r3 ws places ms slots side taken left kept es end failed written)
 round_ok R M0 M1 M2 b scripts before old m s1 h1 r1 side taken left s2 h2 r2 ws places ms slots n s3 h3 r3 kept es end failed written sent' entered painted acted a t all f k =
     let g = failing m.failed (paints m.entries) in
     let now = fails_now m.failed (paints m.entries) in
     let one = comes R M0 M1 M2 (fails_at b g) scripts before old m s1 h1 r1 side taken left s2 h2 r2 ws places ms slots n s3 h3 r3 kept es end failed written sent' entered painted t now (all g now) in
     let was = fails_before painted m.failed failed f (paints m.entries) (paints h3) t.fails one.more one.same k in
     let x = comes R M0 M1 M2 (fails_at b f) scripts before old m s1 h1 r1 side taken left s2 h2 r2 ws places ms slots n s3 h3 r3 kept es end failed written sent' entered painted t was (all f was) in
-    turn_by R M2 (fails_at b f) scripts before old m.entries (record { state = s3; entries = h3; replies = r3; workers = ws; places = places; memories = ms; slots = slots; side = side; taken = taken; left = left; kept = kept; ends = es; end = end; failed = failed; written = written })
+    turn_by R M2 (fails_at b f) scripts before old m.entries (moment_of s3 h3 r3 ws places ms slots side taken left kept es end failed written)
     (sent' || (entered || painted)) painted (all f was).rounds x acted (x.nobody ∙ ap not (sym a))
 
 -- ---- where there was no memory

@@ -162,26 +162,32 @@ open_canvas session racks f kept old failed =
       end' = refl;
     }
 
+-- what is seen of a session, by its parts
+abbrev pub moment_of : State → List Entry → List Reply → List Worker → List (List ℕ) → List (List Memory) → List (List ℕ) → Side → ℕ → Option (List ℕ)
+    → Kept → List ℕ → ℕ → Bool → Option (List ℕ) → Moment
+moment_of s h rs ws places ms slots side taken left kept es end failed written = record {
+  state = s;
+  entries = h;
+  replies = rs;
+  workers = ws;
+  places = places;
+  memories = ms;
+  slots = slots;
+  side = side;
+  taken = taken;
+  left = left;
+  kept = kept;
+  ends = es;
+  end = end;
+  failed = failed;
+  written = written;
+}
+
 -- a session begins
 pub opens_goes : {A : Type 0} (R : Reading) (More : List R.One → List Entry → Type 0) (worker : A → Worker) (places : A → List ℕ) (mems : A → List Memory) (slots : A → List ℕ) (session : Clients) (racks : List (List ℕ)) (f : Option ℕ) (before old : Option (List ℕ)) (seats : List A) (kept : Kept) (s : State)
     → s ≡ begun session racks → AreFreshBy worker places mems slots racks 0 seats → More [] []
-    → GoesBy R More (begins session racks f) session.scripts before old (record {
-      state = s;
-      entries = [];
-      replies = [];
-      workers = map worker seats;
-      places = map places seats;
-      memories = map mems seats;
-      slots = map slots seats;
-      side = record { ended = false; end = ends.Done };
-      taken = 0;
-      left = before;
-      kept = kept;
-      ends = [];
-      end = 0;
-      failed = false;
-      written = old;
-    })
+    → GoesBy R More (begins session racks f) session.scripts before old (moment_of s [] [] (map worker seats) (map places seats) (map mems seats) (map slots seats)
+    (record { ended = false; end = ends.Done }) 0 before kept [] 0 false old)
 opens_goes R More worker places mems slots session racks f before old seats kept s e are more =
     let b = begins session racks f in
     let o = opens session racks in
@@ -288,17 +294,17 @@ side_first = record { ended = false; end = ends.Done }
 -- a session begins, as its parts were made
 pub goes_open : {A : Type 0} (R : Reading) (More : List R.One → List Entry → Type 0) (worker : A → Worker) (places : A → List ℕ) (mems : A → List Memory) (slots : A → List ℕ) (session : Clients) (racks : List (List ℕ)) (sizes : List ℕ) (before old : Option (List ℕ)) (seats slice : List A) (kept : Kept) (s : State) (h : List Entry) (rs : List Reply) (side : Side) (taken : ℕ) (es : List ℕ) (end : ℕ) (failed : Bool) (scripts : List Script)
     → s ≡ opening session sizes → map (λ ys. length ys) racks ≡ sizes → (h ≡ []) × (rs ≡ []) → (side ≡ side_first) × (taken ≡ 0) → (es ≡ []) × (end ≡ 0) × (failed ≡ false) → AreFreshBy worker places mems slots racks 0 seats → slice ≡ seats → scripts ≡ session.scripts → More [] []
-    → (f : Option ℕ) → GoesBy R More (begins session racks f) scripts before old (record { state = s; entries = h; replies = rs; workers = map worker slice; places = map places slice; memories = map mems slice; slots = map slots slice; side = side; taken = taken; left = before; kept = kept; ends = es; end = end; failed = failed; written = old })
+    → (f : Option ℕ) → GoesBy R More (begins session racks f) scripts before old (moment_of s h rs (map worker slice) (map places slice) (map mems slice) (map slots slice) side taken before kept es end failed old)
 goes_open {A} R More worker places mems slots session racks sizes before old seats slice kept s h rs side taken es end failed scripts e z (eh, er) (ed, et) (es', en, ef) are el ec more f =
     let first = opens_goes R More worker places mems slots session racks f before old slice kept s (e ∙ ap (λ (ns : List ℕ). opening session ns) (sym z)) (fresh_as worker places mems slots racks seats slice el are) more in
-    let P0 : List Entry → Type 0 = λ x. GoesBy R More (begins session racks f) session.scripts before old (record { state = s; entries = x; replies = []; workers = map worker slice; places = map places slice; memories = map mems slice; slots = map slots slice; side = side_first; taken = 0; left = before; kept = kept; ends = []; end = 0; failed = false; written = old }) in
-    let P1 : List Reply → Type 0 = λ x. GoesBy R More (begins session racks f) session.scripts before old (record { state = s; entries = h; replies = x; workers = map worker slice; places = map places slice; memories = map mems slice; slots = map slots slice; side = side_first; taken = 0; left = before; kept = kept; ends = []; end = 0; failed = false; written = old }) in
-    let P2 : Side → Type 0 = λ x. GoesBy R More (begins session racks f) session.scripts before old (record { state = s; entries = h; replies = rs; workers = map worker slice; places = map places slice; memories = map mems slice; slots = map slots slice; side = x; taken = 0; left = before; kept = kept; ends = []; end = 0; failed = false; written = old }) in
-    let P3 : ℕ → Type 0 = λ x. GoesBy R More (begins session racks f) session.scripts before old (record { state = s; entries = h; replies = rs; workers = map worker slice; places = map places slice; memories = map mems slice; slots = map slots slice; side = side; taken = x; left = before; kept = kept; ends = []; end = 0; failed = false; written = old }) in
-    let P4 : List ℕ → Type 0 = λ x. GoesBy R More (begins session racks f) session.scripts before old (record { state = s; entries = h; replies = rs; workers = map worker slice; places = map places slice; memories = map mems slice; slots = map slots slice; side = side; taken = taken; left = before; kept = kept; ends = x; end = 0; failed = false; written = old }) in
-    let P5 : ℕ → Type 0 = λ x. GoesBy R More (begins session racks f) session.scripts before old (record { state = s; entries = h; replies = rs; workers = map worker slice; places = map places slice; memories = map mems slice; slots = map slots slice; side = side; taken = taken; left = before; kept = kept; ends = es; end = x; failed = false; written = old }) in
-    let P6 : Bool → Type 0 = λ x. GoesBy R More (begins session racks f) session.scripts before old (record { state = s; entries = h; replies = rs; workers = map worker slice; places = map places slice; memories = map mems slice; slots = map slots slice; side = side; taken = taken; left = before; kept = kept; ends = es; end = end; failed = x; written = old }) in
-    let P7 : List Script → Type 0 = λ x. GoesBy R More (begins session racks f) x before old (record { state = s; entries = h; replies = rs; workers = map worker slice; places = map places slice; memories = map mems slice; slots = map slots slice; side = side; taken = taken; left = before; kept = kept; ends = es; end = end; failed = failed; written = old }) in
+    let P0 : List Entry → Type 0 = λ x. GoesBy R More (begins session racks f) session.scripts before old (moment_of s x [] (map worker slice) (map places slice) (map mems slice) (map slots slice) side_first 0 before kept [] 0 false old) in
+    let P1 : List Reply → Type 0 = λ x. GoesBy R More (begins session racks f) session.scripts before old (moment_of s h x (map worker slice) (map places slice) (map mems slice) (map slots slice) side_first 0 before kept [] 0 false old) in
+    let P2 : Side → Type 0 = λ x. GoesBy R More (begins session racks f) session.scripts before old (moment_of s h rs (map worker slice) (map places slice) (map mems slice) (map slots slice) x 0 before kept [] 0 false old) in
+    let P3 : ℕ → Type 0 = λ x. GoesBy R More (begins session racks f) session.scripts before old (moment_of s h rs (map worker slice) (map places slice) (map mems slice) (map slots slice) side x before kept [] 0 false old) in
+    let P4 : List ℕ → Type 0 = λ x. GoesBy R More (begins session racks f) session.scripts before old (moment_of s h rs (map worker slice) (map places slice) (map mems slice) (map slots slice) side taken before kept x 0 false old) in
+    let P5 : ℕ → Type 0 = λ x. GoesBy R More (begins session racks f) session.scripts before old (moment_of s h rs (map worker slice) (map places slice) (map mems slice) (map slots slice) side taken before kept es x false old) in
+    let P6 : Bool → Type 0 = λ x. GoesBy R More (begins session racks f) session.scripts before old (moment_of s h rs (map worker slice) (map places slice) (map mems slice) (map slots slice) side taken before kept es end x old) in
+    let P7 : List Script → Type 0 = λ x. GoesBy R More (begins session racks f) x before old (moment_of s h rs (map worker slice) (map places slice) (map mems slice) (map slots slice) side taken before kept es end failed old) in
     subst P7 (sym ec) (subst P6 (sym ef) (subst P5 (sym en) (subst P4 (sym es') (subst P3 (sym et) (subst P2 (sym ed) (subst P1 (sym er) (subst P0 (sym eh) first)))))))
 
 pub going_open : (R : Reading) (More : List R.One → List Entry → Type 0) (session : Clients) (racks : List (List ℕ)) (before old : Option (List ℕ)) (scripts : List Script) (m : Moment)
