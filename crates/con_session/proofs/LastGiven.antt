@@ -36,11 +36,13 @@ all_marked : (s : State) (v : View) (marks : List Bool) (y : ℕ) → Pictures v
 all_marked s v marks y p m low unmarked =
     let A : ℕ → Type 0 = λ n. y < n in
     let inside : y < (view_now s).size.h = subst A (ap (λ (x : View). x.size.h) p.view) low in
-    let has : get_or marks y false ≡ true = ap (λ (l : List Bool). get_or l y false) (m.fresh (sym p.fresh')) ∙ get_or-replicate (view_now s).size.h y true false inside in
+    let has : get_or marks y false ≡ true = ap (λ (l : List Bool). get_or l y false) (m.fresh (sym p.fresh'))
+    ∙ get_or-replicate (view_now s).size.h y true false inside in
     absurd (let z : true ≡ false = sym has ∙ unmarked in cc)
 
 -- a row without a mark
-row_since : (s : State) (last v : View) (marks : List Bool) (y : ℕ) (fresh : Bool) → IsTied s (kept_as last) → Pictures v fresh s → AreMarks s marks → y < v.size.h → get_or marks y false ≡ false
+row_since : (s : State) (last v : View) (marks : List Bool) (y : ℕ) (fresh : Bool)
+    → IsTied s (kept_as last) → Pictures v fresh s → AreMarks s marks → y < v.size.h → get_or marks y false ≡ false
     → (last.size.w ≡ v.size.w) × (row_of v.size.w v.rows y ≡ row_of v.size.w last.rows y)
 row_since s last v marks y true k p m low unmarked = absurd (all_marked s v marks y p m low unmarked)
 row_since s last v marks y false k p m low unmarked =
@@ -49,7 +51,8 @@ row_since s last v marks y false k p m low unmarked =
     let C : ℕ → Type 0 = λ n. row_of n v.rows y ≡ row_of n last.rows y in
     (sym z.0, subst C (sym z.0) (tied_rows s (kept_as last) v marks false k p m refl y (subst A z.1 low) unmarked))
 
-pub pictured_since : (o : Option Picture) (given : Option View) (s t : State) (h g : List Entry) (rs qs : List Reply) → IsFollowed s given → Pictured (Ok o) s t h g rs qs → IfSome o (λ p. AreMarks s p.marks)
+pub pictured_since : (o : Option Picture) (given : Option View) (s t : State) (h g : List Entry) (rs qs : List Reply)
+    → IsFollowed s given → Pictured (Ok o) s t h g rs qs → IfSome o (λ p. AreMarks s p.marks)
     → IfSome o (λ p. AreSince given p.view p.marks)
 pictured_since None given s t h g rs qs k pic m = tt
 pictured_since (Some p) given s t h g rs qs k pic m = record {
@@ -58,7 +61,8 @@ pictured_since (Some p) given s t h g rs qs k pic m = record {
 }
 
 -- behind a turn of the painter
-pub followed_paint : (o : Option Picture) (old new : Option View) (s t : State) (h g : List Entry) (rs qs : List Reply) → IsFollowed s old → Pictured (Ok o) s t h g rs qs → GivenBehind o old new → IsFollowed t new
+pub followed_paint : (o : Option Picture) (old new : Option View) (s t : State) (h g : List Entry) (rs qs : List Reply)
+    → IsFollowed s old → Pictured (Ok o) s t h g rs qs → GivenBehind o old new → IsFollowed t new
 followed_paint None old new s t h g rs qs k pic e =
     let P : State → Type 0 = λ z. IsFollowed z new in let Q : Option View → Type 0 = λ z. IsFollowed s z in subst P (sym pic.state) (subst Q (sym e) k)
 followed_paint (Some p) old new s t h g rs qs k pic given = elim given [

@@ -41,21 +41,26 @@ Lacks s size es was now lost frames h = Mirrors s frames size es was now lost tr
 
 -- ---- what goes on, and what is left
 
-pub closed_by : (s : State) (ended : Bool) (kept : Option Kept) (es : List ℕ) (end : ℕ) (was now : Option (List ℕ)) (lost : Bool) (fs : List MirrorFrame) (h : List Entry) (x : Entry) → is_terminal x.actor ≡ false → is_paint x.event ≡ false
+pub closed_by : (s : State) (ended : Bool) (kept : Option Kept) (es : List ℕ) (end : ℕ) (was now : Option (List ℕ)) (lost : Bool)
+    (fs : List MirrorFrame) (h : List Entry) (x : Entry) → is_terminal x.actor ≡ false → is_paint x.event ≡ false
     → Seconded s ended kept es end was now lost fs h → Seconded s ended kept es end was now lost fs (h ++ x ∷ [])
 closed_by s ended kept es end was now lost fs h x n p (ps, q) = (ps, second_other s ended kept ps es end was now lost fs h (h ++ x ∷ []) x refl n p q)
 
-pub ends_by : (s : State) (ended : Bool) (kept : Option Kept) (es : List ℕ) (end : ℕ) (was now : Option (List ℕ)) (lost memory : Bool) (size : Size) (fs : List MirrorFrame) (h : List Entry)
+pub ends_by : (s : State) (ended : Bool) (kept : Option Kept) (es : List ℕ) (end : ℕ) (was now : Option (List ℕ)) (lost memory : Bool) (size : Size)
+    (fs : List MirrorFrame) (h : List Entry)
     → Seconded s ended kept es end was now lost fs h → Mirrors s fs size es was now lost memory h
 ends_by s ended kept es end was now lost memory size fs h (ps, q) = second_ends s ended kept ps es end was now lost lost memory size fs h (λ l m. l) q
 
-pub past_by : (s : State) (ended : Bool) (kept : Option Kept) (es : List ℕ) (end : ℕ) (was now : Option (List ℕ)) (lost : Bool) (size : Size) (fs : List MirrorFrame) (h : List Entry)
+pub past_by : (s : State) (ended : Bool) (kept : Option Kept) (es : List ℕ) (end : ℕ) (was now : Option (List ℕ)) (lost : Bool) (size : Size)
+    (fs : List MirrorFrame) (h : List Entry)
     → Seconded s ended kept es end was now lost fs h → Mirrors s fs size es was now lost true (h ++ entry actors.Painter events.Paint ∷ [])
-past_by s ended kept es end was now lost size fs h (ps, q) = second_past s ended kept ps es end was now lost lost size fs h (h ++ entry actors.Painter events.Paint ∷ []) refl q
+past_by s ended kept es end was now lost size fs h (ps, q) =
+    second_past s ended kept ps es end was now lost lost size fs h (h ++ entry actors.Painter events.Paint ∷ []) refl q
 
 -- ---- the turn of the terminal's side
 
-pub mirror_frames : (read : Result MirrorFrame LinkFault) (old now : Option (List ℕ)) (taken later : ℕ) → Took mirrored read old now taken later → IfOk read (λ f. is_mirror_frame f ≡ true)
+pub mirror_frames : (read : Result MirrorFrame LinkFault) (old now : Option (List ℕ)) (taken later : ℕ) → Took mirrored read old now taken later
+    → IfOk read (λ f. is_mirror_frame f ≡ true)
 mirror_frames (Ok f) old now taken later (text, l, c, a) = a.1
 mirror_frames (Err e) old now taken later took = tt
 
@@ -65,62 +70,91 @@ plain_frames (Ok (Attach z)) k = refl
 plain_frames (Ok Detach) k = refl
 plain_frames (Err e) k = tt
 
-pub plain_frame : (read : Result MirrorFrame LinkFault) (heard' : Result Frame LinkFault) (old now : Option (List ℕ)) (taken later : ℕ) → heard' ≡ plain_of mirrored read → Took mirrored read old now taken later → IfOk heard' (λ f. is_frame f ≡ true)
-plain_frame read heard' old now taken later e took = let P : Result Frame LinkFault → Type 0 = λ z. IfOk z (λ f. is_frame f ≡ true) in subst P (sym e) (plain_frames read (mirror_frames read old now taken later took))
+pub plain_frame : (read : Result MirrorFrame LinkFault) (heard' : Result Frame LinkFault) (old now : Option (List ℕ)) (taken later : ℕ)
+    → heard' ≡ plain_of mirrored read → Took mirrored read old now taken later → IfOk heard' (λ f. is_frame f ≡ true)
+plain_frame read heard' old now taken later e took = let P : Result Frame LinkFault → Type 0 = λ z. IfOk z (λ f. is_frame f ≡ true) in
+    subst P (sym e) (plain_frames read (mirror_frames read old now taken later took))
 
-heard_as : (read : Result MirrorFrame LinkFault) (heard' : Result Frame LinkFault) (result : Result Bool OutOfMemory) (was side : Side) (s t : State) (h g : List Entry) (rs qs : List Reply) → heard' ≡ plain_of mirrored read
+heard_as : (read : Result MirrorFrame LinkFault) (heard' : Result Frame LinkFault) (result : Result Bool OutOfMemory) (was side : Side) (s t : State)
+    (h g : List Entry) (rs qs : List Reply) → heard' ≡ plain_of mirrored read
     → Hears result heard' was side s t h g rs qs → Hears result (plain_of mirrored read) was side s t h g rs qs
 heard_as read heard' result was side s t h g rs qs e k = let P : Result Frame LinkFault → Type 0 = λ z. Hears result z was side s t h g rs qs in subst P e k
 
-pub mirror_few : (read : Result MirrorFrame LinkFault) (heard' : Result Frame LinkFault) (result : Result Bool OutOfMemory) (was side : Side) (s t : State) (h g : List Entry) (rs qs : List Reply) (old now : Option (List ℕ)) (taken later : ℕ) → heard' ≡ plain_of mirrored read
+pub mirror_few : (read : Result MirrorFrame LinkFault) (heard' : Result Frame LinkFault) (result : Result Bool OutOfMemory) (was side : Side)
+    (s t : State) (h g : List Entry) (rs qs : List Reply) (old now : Option (List ℕ)) (taken later : ℕ) → heard' ≡ plain_of mirrored read
     → Hears result heard' was side s t h g rs qs → Took mirrored read old now taken later → IfOk result (λ _. side.ended ≡ false → later ≤ 16777216)
-mirror_few read heard' result was side s t h g rs qs old now taken later e hears took = heard_few mirrored read result was side s t h g rs qs old now taken later (heard_as read heard' result was side s t h g rs qs e hears) took
+mirror_few read heard' result was side s t h g rs qs old now taken later e hears took =
+    heard_few mirrored read result was side s t h g rs qs old now taken later (heard_as read heard' result was side s t h g rs qs e hears) took
 
-pub mirror_failed : (P : Type 0) (read : Result MirrorFrame LinkFault) (heard' : Result Frame LinkFault) (result : Result Bool OutOfMemory) (was side : Side) (s t : State) (h g : List Entry) (rs qs : List Reply) → heard' ≡ plain_of mirrored read
+pub mirror_failed : (P : Type 0) (read : Result MirrorFrame LinkFault) (heard' : Result Frame LinkFault) (result : Result Bool OutOfMemory)
+    (was side : Side) (s t : State) (h g : List Entry) (rs qs : List Reply) → heard' ≡ plain_of mirrored read
     → Hears result heard' was side s t h g rs qs → (read ≡ Err faults.Failed → P) → side.end ≡ ends.Link → (was.end ≡ ends.Link) ⊎ P
-mirror_failed P read heard' result was side s t h g rs qs e hears rose l = heard_failed mirrored P read result was side s t h g rs qs (heard_as read heard' result was side s t h g rs qs e hears) rose l
+mirror_failed P read heard' result was side s t h g rs qs e hears rose l =
+    heard_failed mirrored P read result was side s t h g rs qs (heard_as read heard' result was side s t h g rs qs e hears) rose l
 
 -- a frame or a fault was heard
-pub mirror_heard : (read : Result MirrorFrame LinkFault) (heard' : Result Frame LinkFault) (result : Result Bool OutOfMemory) (was side : Side) (s t : State) (h g : List Entry) (rs qs : List Reply) (failed : Bool) (old left : Option (List ℕ)) (taken later : ℕ) (kept new : Option Kept)
-    → heard' ≡ plain_of mirrored read → was.ended ≡ false → Hears result heard' was side s t h g rs qs → Took mirrored read old left taken later → new ≡ kept_behind kept read
-    → (b : State) (size : Size) (es : List ℕ) (end : ℕ) (before' now : Option (List ℕ)) (lost : Bool) (before : Option (List ℕ)) → MirrorLinkIs b kept es end before' now lost h was failed before old taken
-    → LinkTurnBy mirrored (Seconded b side.ended new es end before' now lost) (λ frames z. Mirrors b frames size es before' now lost true z) result g side failed before left later
+pub mirror_heard : (read : Result MirrorFrame LinkFault) (heard' : Result Frame LinkFault) (result : Result Bool OutOfMemory) (was side : Side)
+    (s t : State) (h g : List Entry) (rs qs : List Reply) (failed : Bool) (old left : Option (List ℕ)) (taken later : ℕ) (kept new : Option Kept)
+    → heard' ≡ plain_of mirrored read → was.ended ≡ false → Hears result heard' was side s t h g rs qs → Took mirrored read old left taken later
+    → new ≡ kept_behind kept read
+    → (b : State) (size : Size) (es : List ℕ) (end : ℕ) (before' now : Option (List ℕ)) (lost : Bool) (before : Option (List ℕ))
+    → MirrorLinkIs b kept es end before' now lost h was failed before old taken
+    → LinkTurnBy mirrored (Seconded b side.ended new es end before' now lost)
+    (λ frames z. Mirrors b frames size es before' now lost true z) result g side failed before left later
 mirror_heard read heard' result was side s t h g rs qs failed old left taken later kept new e n hears took attends b size es end before' now lost before k =
     let M : Bool → Option Kept → List MirrorFrame → List Entry → Type 0 = λ ended o fs z. Seconded b ended o es end before' now lost fs z in
-    heard_by mirrored (M was.ended kept) (M side.ended new) (Lacks b size es before' now lost) read result was side s t h g rs qs failed before old left taken later n (heard_as read heard' result was side s t h g rs qs e hears) took
+    heard_by mirrored (M was.ended kept) (M side.ended new) (Lacks b size es before' now lost) read result was side s t h g rs qs failed before old left
+    taken later n (heard_as read heard' result was side s t h g rs qs e hears) took
     (λ f i d fs m. attends_frame f i d fs m) (λ x i c d fs m. attends_none x i c d fs m) (λ d fs m. stops_here d fs m) k
   where
-    attends_frame : (f : MirrorFrame) → read ≡ Ok f → g ≡ h ++ entry actors.Terminal (sent_by (mirrored.plain f)) ∷ [] → (fs : List MirrorFrame) → Seconded b was.ended kept es end before' now lost fs h → Seconded b side.ended new es end before' now lost (fs ++ f ∷ []) g
+    attends_frame : (f : MirrorFrame) → read ≡ Ok f → g ≡ h ++ entry actors.Terminal (sent_by (mirrored.plain f)) ∷ [] → (fs : List MirrorFrame)
+        → Seconded b was.ended kept es end before' now lost fs h → Seconded b side.ended new es end before' now lost (fs ++ f ∷ []) g
     attends_frame f i d fs (ps, q) =
         let P : Option Kept → Type 0 = λ z. SecondIs b side.ended z ps es end before' now lost (fs ++ f ∷ []) g in
-        let Q : Bool → Type 0 = λ z. SecondIs b z kept ps es end before' now lost fs h in
-        (ps, subst P (sym (attends ∙ ap (λ (z : Result MirrorFrame LinkFault). kept_behind kept z) i)) (second_frame b side.ended kept ps es end before' now lost fs h g f d (subst Q n q)))
+        let Q : Bool → Type 0 = λ z. SecondIs b z kept ps es end before' now lost fs h in (
+          ps,
+          subst P (sym (attends ∙ ap (λ (z : Result MirrorFrame LinkFault). kept_behind kept z) i))
+              (second_frame b side.ended kept ps es end before' now lost fs h g f d (subst Q n q)),
+        )
 
-    attends_none : (x : LinkFault) → read ≡ Err x → side.ended ≡ true → g ≡ h ++ entry actors.Terminal events.Hangup ∷ [] → (fs : List MirrorFrame) → Seconded b was.ended kept es end before' now lost fs h → Seconded b side.ended new es end before' now lost fs g
+    attends_none : (x : LinkFault) → read ≡ Err x → side.ended ≡ true → g ≡ h ++ entry actors.Terminal events.Hangup ∷ [] → (fs : List MirrorFrame)
+        → Seconded b was.ended kept es end before' now lost fs h → Seconded b side.ended new es end before' now lost fs g
     attends_none x i c d fs (ps, q) =
         let P : Option Kept → Type 0 = λ z. SecondIs b side.ended z ps es end before' now lost fs g in
-        let Q : Bool → Type 0 = λ z. SecondIs b z kept ps es end before' now lost fs g in
-        (ps, subst P (sym (attends ∙ ap (λ (z : Result MirrorFrame LinkFault). kept_behind kept z) i)) (subst Q (sym c) (second_hung b kept ps es end before' now lost fs h g was.ended d q)))
+        let Q : Bool → Type 0 = λ z. SecondIs b z kept ps es end before' now lost fs g in (
+          ps,
+          subst P (sym (attends ∙ ap (λ (z : Result MirrorFrame LinkFault). kept_behind kept z) i))
+              (subst Q (sym c) (second_hung b kept ps es end before' now lost fs h g was.ended d q)),
+        )
 
     stops_here : g ≡ h → (fs : List MirrorFrame) → Seconded b was.ended kept es end before' now lost fs h → Mirrors b fs size es before' now lost true g
-    stops_here d fs m = let P : List Entry → Type 0 = λ z. Mirrors b fs size es before' now lost true z in subst P (sym d) (ends_by b was.ended kept es end before' now lost true size fs h m)
+    stops_here d fs m = let P : List Entry → Type 0 = λ z. Mirrors b fs size es before' now lost true z in
+        subst P (sym d) (ends_by b was.ended kept es end before' now lost true size fs h m)
 
 -- the hangup where the terminal has failed
-pub mirror_hung : (s : State) (kept : Option Kept) (es : List ℕ) (end : ℕ) (was now : Option (List ℕ)) (lost : Bool) (h g : List Entry) (side : Side) (failed : Bool) (before left : Option (List ℕ)) (taken : ℕ) → side.ended ≡ false → failed ≡ true → g ≡ h ++ entry actors.Terminal events.Hangup ∷ []
-    → MirrorLinkIs s kept es end was now lost h side failed before left taken → MirrorLinkIs s kept es end was now lost g (record { ended = true; end = side.end }) failed before left taken
+pub mirror_hung : (s : State) (kept : Option Kept) (es : List ℕ) (end : ℕ) (was now : Option (List ℕ)) (lost : Bool) (h g : List Entry) (side : Side)
+    (failed : Bool) (before left : Option (List ℕ)) (taken : ℕ) → side.ended ≡ false → failed ≡ true → g ≡ h ++ entry actors.Terminal events.Hangup ∷ []
+    → MirrorLinkIs s kept es end was now lost h side failed before left taken
+    → MirrorLinkIs s kept es end was now lost g (record { ended = true; end = side.end }) failed before left taken
 mirror_hung s kept es end was now lost h g side failed before left taken n f e k =
-    linked_hung mirrored (Seconded s side.ended kept es end was now lost) (Seconded s true kept es end was now lost) h g side failed before left taken n f e (λ fs (ps, q). (ps, second_hung s kept ps es end was now lost fs h g side.ended e q)) k
+    linked_hung mirrored (Seconded s side.ended kept es end was now lost) (Seconded s true kept es end was now lost) h g side failed before left taken n f e
+    (λ fs (ps, q). (ps, second_hung s kept ps es end was now lost fs h g side.ended e q)) k
 
 -- where there was no memory, before and behind what was read
-pub mirror_stays : (s : State) (kept : Option Kept) (es : List ℕ) (end : ℕ) (was now : Option (List ℕ)) (lost : Bool) (size : Size) (h : List Entry) (side : Side) (failed : Bool) (before left : Option (List ℕ)) (taken : ℕ)
+pub mirror_stays : (s : State) (kept : Option Kept) (es : List ℕ) (end : ℕ) (was now : Option (List ℕ)) (lost : Bool) (size : Size) (h : List Entry)
+    (side : Side) (failed : Bool) (before left : Option (List ℕ)) (taken : ℕ)
     → MirrorLinkIs s kept es end was now lost h side failed before left taken → LinkEndsBy mirrored (Lacks s size es was now lost) h before left
 mirror_stays s kept es end was now lost size h side failed before left taken k =
-    linked_stays mirrored (Seconded s side.ended kept es end was now lost) (Lacks s size es was now lost) h side failed before left taken (λ fs m. ends_by s side.ended kept es end was now lost true size fs h m) k
+    linked_stays mirrored (Seconded s side.ended kept es end was now lost) (Lacks s size es was now lost) h side failed before left taken
+    (λ fs m. ends_by s side.ended kept es end was now lost true size fs h m) k
 
-pub mirror_stops : (s : State) (kept : Option Kept) (es : List ℕ) (end : ℕ) (was now : Option (List ℕ)) (lost : Bool) (size : Size) (h : List Entry) (side : Side) (failed : Bool) (before old left : Option (List ℕ)) (taken later : ℕ) (read : Result MirrorFrame LinkFault) → side.ended ≡ false
-    → Took mirrored read old left taken later → MirrorLinkIs s kept es end was now lost h side failed before old taken → LinkEndsBy mirrored (Lacks s size es was now lost) h before left
+pub mirror_stops : (s : State) (kept : Option Kept) (es : List ℕ) (end : ℕ) (was now : Option (List ℕ)) (lost : Bool) (size : Size) (h : List Entry)
+    (side : Side) (failed : Bool) (before old left : Option (List ℕ)) (taken later : ℕ) (read : Result MirrorFrame LinkFault) → side.ended ≡ false
+    → Took mirrored read old left taken later → MirrorLinkIs s kept es end was now lost h side failed before old taken
+    → LinkEndsBy mirrored (Lacks s size es was now lost) h before left
 mirror_stops s kept es end was now lost size h side failed before old left taken later read n took k =
-    linked_stops mirrored (Seconded s side.ended kept es end was now lost) (Lacks s size es was now lost) h side failed before old left taken later read n took (λ fs m. ends_by s side.ended kept es end was now lost true size fs h m) k
+    linked_stops mirrored (Seconded s side.ended kept es end was now lost) (Lacks s size es was now lost) h side failed before old left taken later read
+    n took (λ fs m. ends_by s side.ended kept es end was now lost true size fs h m) k
 
 -- ---- the painter's turn
 
@@ -133,14 +167,17 @@ pub pictured_whole : (o : Option Picture) (s t : State) (h g : List Entry) (rs q
 pictured_whole (Some p) s t h g rs qs k = k.1
 pictured_whole None s t h g rs qs k = tt
 
-pictured_view : (o : Option Picture) (start s t : State) (h g : List Entry) (rs qs : List Reply) → s ≡ run start h → Pictured (Ok o) s t h g rs qs → IfSome o (λ p. p.view ≡ view_now (run start h))
+pictured_view : (o : Option Picture) (start s t : State) (h g : List Entry) (rs qs : List Reply) → s ≡ run start h → Pictured (Ok o) s t h g rs qs
+    → IfSome o (λ p. p.view ≡ view_now (run start h))
 pictured_view (Some p) start s t h g rs qs i k = k.0.view ∙ ap (λ (z : State). view_now z) i
 pictured_view None start s t h g rs qs i k = tt
 
 -- the second terminal behind it
-pub followed_by : (o : Option Picture) (a : Bool) (start s t : State) (h g : List Entry) (rs qs : List Reply) (ended : Bool) (kept new : Option Kept) (es xs : List ℕ) (end upto : ℕ) (was now later : Option (List ℕ)) (lost more : Bool)
+pub followed_by : (o : Option Picture) (a : Bool) (start s t : State) (h g : List Entry) (rs qs : List Reply) (ended : Bool) (kept new : Option Kept)
+    (es xs : List ℕ) (end upto : ℕ) (was now later : Option (List ℕ)) (lost more : Bool)
     → Pictured (Ok o) s t h g rs qs
-    → ((ps : List (List ℕ)) (fs : List MirrorFrame) → IfSome o (λ p. p.view ≡ view_now (run start h)) → SecondIs start ended kept ps es end was now lost fs h → FollowTurn (Ok a) o start ended new xs upto was later more fs h)
+    → ((ps : List (List ℕ)) (fs : List MirrorFrame) → IfSome o (λ p. p.view ≡ view_now (run start h))
+    → SecondIs start ended kept ps es end was now lost fs h → FollowTurn (Ok a) o start ended new xs upto was later more fs h)
     → s ≡ run start h → (fs : List MirrorFrame) → Seconded start ended kept es end was now lost fs h → Seconded start ended new xs upto was later more fs g
 followed_by (Some p) a start s t h g rs qs ended kept new es xs end upto was now later lost more pic turn i fs (ps, q) =
     let P : List Entry → Type 0 = λ z. Seconded start ended new xs upto was later more fs z in
@@ -150,9 +187,11 @@ followed_by None a start s t h g rs qs ended kept new es xs end upto was now lat
     subst P (sym pic.entries) (turn ps fs tt q)
 
 -- where there was no memory in it
-pub followed_none : (o : Option Picture) (start s t : State) (h g : List Entry) (rs qs : List Reply) (ended : Bool) (kept : Option Kept) (es xs : List ℕ) (end : ℕ) (was now later : Option (List ℕ)) (lost more : Bool) (size : Size)
+pub followed_none : (o : Option Picture) (start s t : State) (h g : List Entry) (rs qs : List Reply) (ended : Bool) (kept : Option Kept)
+    (es xs : List ℕ) (end : ℕ) (was now later : Option (List ℕ)) (lost more : Bool) (size : Size)
     → is_some o ≡ true → Pictured (Ok o) s t h g rs qs
-    → ((ps : List (List ℕ)) (fs : List MirrorFrame) → IfSome o (λ p. p.view ≡ view_now (run start h)) → SecondIs start ended kept ps es end was now lost fs h → (z : Size) → Mirrors start fs z xs was later more true (h ++ entry actors.Painter events.Paint ∷ []))
+    → ((ps : List (List ℕ)) (fs : List MirrorFrame) → IfSome o (λ p. p.view ≡ view_now (run start h)) → SecondIs start ended kept ps es end was now lost fs h
+    → (z : Size) → Mirrors start fs z xs was later more true (h ++ entry actors.Painter events.Paint ∷ []))
     → s ≡ run start h → (fs : List MirrorFrame) → Seconded start ended kept es end was now lost fs h → Mirrors start fs size xs was later more true g
 followed_none None start s t h g rs qs ended kept es xs end was now later lost more size some pic turn i fs m = absurd (cc)
 followed_none (Some p) start s t h g rs qs ended kept es xs end was now later lost more size some pic turn i fs (ps, q) =
@@ -167,9 +206,11 @@ fails_some o a old new e k = by_some (λ r. PainterFails r old new) o a e k
 pub acts_some : (o : Option Picture) (a : Bool) (b : Begun) (h : List Entry) → a ≡ is_some o → PainterActs (acted (Ok o)) b h → PainterActs (Ok a) b h
 acts_some o a b h e k = by_some (λ r. PainterActs r b h) o a e k
 
-pub paint_some : (o : Option Picture) (a : Bool) (b : Begun) (s t : State) (h g : List Entry) (rs qs : List Reply) (size : Size) (kept : Kept) (ps : List (List ℕ)) (es : List ℕ) (end : ℕ) (before now : Option (List ℕ)) (failed : Bool) → a ≡ is_some o
+pub paint_some : (o : Option Picture) (a : Bool) (b : Begun) (s t : State) (h g : List Entry) (rs qs : List Reply) (size : Size) (kept : Kept)
+    (ps : List (List ℕ)) (es : List ℕ) (end : ℕ) (before now : Option (List ℕ)) (failed : Bool) → a ≡ is_some o
     → PaintTurn (acted (Ok o)) b s t h g rs qs size kept ps es end before now failed → PaintTurn (Ok a) b s t h g rs qs size kept ps es end before now failed
-paint_some o a b s t h g rs qs size kept ps es end before now failed e k = by_some (λ r. PaintTurn r b s t h g rs qs size kept ps es end before now failed) o a e k
+paint_some o a b s t h g rs qs size kept ps es end before now failed e k =
+    by_some (λ r. PaintTurn r b s t h g rs qs size kept ps es end before now failed) o a e k
 
 -- ---- the cause of a failure
 
@@ -178,21 +219,27 @@ cause_now P was new failed w f e t = elim (f (sym e ∙ t)) [ inl x ↦ absurd (
 
 -- ---- the second terminal's part of it
 
-pub view_in : (o : Option Picture) (p : Picture) (s : State) (h : List Entry) → o ≡ Some p → IfSome o (λ q. q.view ≡ view_now (run s h)) → p.view ≡ view_now (run s h)
+pub view_in : (o : Option Picture) (p : Picture) (s : State) (h : List Entry)
+    → o ≡ Some p → IfSome o (λ q. q.view ≡ view_now (run s h)) → p.view ≡ view_now (run s h)
 view_in (Some q) p s h e k = let i : q ≡ p = cc in let P : Picture → Type 0 = λ z. z.view ≡ view_now (run s h) in subst P i k
 view_in None p s h e k = absurd (cc)
 
-pub follow_some : (a : Bool) (o : Option Picture) (p : Picture) (s : State) (ended : Bool) (kept : Option Kept) (es : List ℕ) (end : ℕ) (before now : Option (List ℕ)) (failed : Bool) (fs : List MirrorFrame) (h : List Entry) → o ≡ Some p
-    → Seconded s ended kept es end before now failed fs (h ++ entry actors.Painter events.Paint ∷ []) → FollowTurn (Ok a) o s ended kept es end before now failed fs h
+pub follow_some : (a : Bool) (o : Option Picture) (p : Picture) (s : State) (ended : Bool) (kept : Option Kept) (es : List ℕ) (end : ℕ)
+    (before now : Option (List ℕ)) (failed : Bool) (fs : List MirrorFrame) (h : List Entry) → o ≡ Some p
+    → Seconded s ended kept es end before now failed fs (h ++ entry actors.Painter events.Paint ∷ [])
+    → FollowTurn (Ok a) o s ended kept es end before now failed fs h
 follow_some a (Some q) p s ended kept es end before now failed fs h e k = k
 follow_some a None p s ended kept es end before now failed fs h e k = absurd (cc)
 
-pub follow_none : (a : Bool) (o : Option Picture) (s : State) (ended : Bool) (kept : Option Kept) (es : List ℕ) (end : ℕ) (before now : Option (List ℕ)) (failed : Bool) (fs : List MirrorFrame) (h : List Entry) → o ≡ None
+pub follow_none : (a : Bool) (o : Option Picture) (s : State) (ended : Bool) (kept : Option Kept) (es : List ℕ) (end : ℕ) (before now : Option (List ℕ))
+    (failed : Bool) (fs : List MirrorFrame) (h : List Entry) → o ≡ None
     → Seconded s ended kept es end before now failed fs h → FollowTurn (Ok a) o s ended kept es end before now failed fs h
 follow_none a None s ended kept es end before now failed fs h e k = k
 follow_none a (Some q) s ended kept es end before now failed fs h e k = absurd (cc)
 
-pub follow_err : (result : Result Bool OutOfMemory) (o : Option Picture) (s : State) (ended : Bool) (kept : Option Kept) (es : List ℕ) (end : ℕ) (before now : Option (List ℕ)) (failed : Bool) (fs : List MirrorFrame) (h : List Entry) → IsErr result
-    → ((size : Size) → Mirrors s fs size es before now failed true (h ++ entry actors.Painter events.Paint ∷ [])) → FollowTurn result o s ended kept es end before now failed fs h
+pub follow_err : (result : Result Bool OutOfMemory) (o : Option Picture) (s : State) (ended : Bool) (kept : Option Kept) (es : List ℕ) (end : ℕ)
+    (before now : Option (List ℕ)) (failed : Bool) (fs : List MirrorFrame) (h : List Entry) → IsErr result
+    → ((size : Size) → Mirrors s fs size es before now failed true (h ++ entry actors.Painter events.Paint ∷ []))
+    → FollowTurn result o s ended kept es end before now failed fs h
 follow_err (Ok a) o s ended kept es end before now failed fs h i k = absurd (cc)
 follow_err (Err e) o s ended kept es end before now failed fs h i k = k

@@ -26,7 +26,8 @@ later : (n m : ℕ) → n < m → nat_le m n ≡ false
 later n m l = grind (arith, nat_tests)
 
 -- what is known behind a turn of the painter was so before it
-pub fails_before : (painted old new : Bool) (f : Option ℕ) (n m : ℕ) → PainterFails (Ok painted) old new → (painted ≡ true → m ≡ n + 1) → (painted ≡ false → m ≡ n) → FailsBy new f m → FailsBy old f n
+pub fails_before : (painted old new : Bool) (f : Option ℕ) (n m : ℕ)
+    → PainterFails (Ok painted) old new → (painted ≡ true → m ≡ n + 1) → (painted ≡ false → m ≡ n) → FailsBy new f m → FailsBy old f n
 fails_before false old new f n m e p q k =
     let A : Bool → Type 0 = λ z. FailsBy z f n in let B : ℕ → Type 0 = λ z. FailsBy new f z in
     subst A e (subst B (q refl) k)
@@ -41,8 +42,10 @@ fails_before true old new f n m e p q k =
 -- ---- a whole round
 
 pub whole_round : (b : Begun) (h h1 h2 h3 : List Entry) (t1 : Option Event) (tc : List (Option Event)) (tp : Option Event) (by : List Actor)
-    → IsTurn b h actors.Terminal t1 → h1 ≡ h ++ entry_of actors.Terminal t1 → AreTurns false b h1 by tc → h2 ≡ h1 ++ entries_of by tc → IsTurn b h2 actors.Painter tp → h3 ≡ h2 ++ entry_of actors.Painter tp
-    → AreTurns false b h (actors.Terminal ∷ (by ++ actors.Painter ∷ [])) (t1 ∷ (tc ++ tp ∷ [])) × (h3 ≡ h ++ entries_of (actors.Terminal ∷ (by ++ actors.Painter ∷ [])) (t1 ∷ (tc ++ tp ∷ [])))
+    → IsTurn b h actors.Terminal t1 → h1 ≡ h ++ entry_of actors.Terminal t1 → AreTurns false b h1 by tc → h2 ≡ h1 ++ entries_of by tc
+    → IsTurn b h2 actors.Painter tp → h3 ≡ h2 ++ entry_of actors.Painter tp
+    → AreTurns false b h (actors.Terminal ∷ (by ++ actors.Painter ∷ [])) (t1 ∷ (tc ++ tp ∷ []))
+    × (h3 ≡ h ++ entries_of (actors.Terminal ∷ (by ++ actors.Painter ∷ [])) (t1 ∷ (tc ++ tp ∷ [])))
 whole_round b h h1 h2 h3 t1 tc tp by u e1 v e2 w e3 =
     let sent = h ++ entry_of actors.Terminal t1 in
     let A : List Entry → Type 0 = λ z. AreTurns false b z by tc in
@@ -52,7 +55,8 @@ whole_round b h h1 h2 h3 t1 tc tp by u e1 v e2 w e3 =
     let m = entries_more b sent by tc actors.Painter tp v' in (
       (u, turns_more b sent by tc actors.Painter tp v' (subst I e2' w)),
       e3 ∙ (ap (λ (z : List Entry). z ++ entry_of actors.Painter tp) e2' ∙ (append_assoc sent (entries_of by tc) (entry_of actors.Painter tp)
-          ∙ (ap (λ (z : List Entry). sent ++ z) (sym m) ∙ append_assoc h (entry_of actors.Terminal t1) (entries_of (by ++ actors.Painter ∷ []) (tc ++ tp ∷ []))))),
+          ∙ (ap (λ (z : List Entry). sent ++ z) (sym m)
+          ∙ append_assoc h (entry_of actors.Terminal t1) (entries_of (by ++ actors.Painter ∷ []) (tc ++ tp ∷ []))))),
     )
 
 -- ---- one that breaks off
@@ -63,7 +67,8 @@ broken_all b h [] (u ∷ us) are = absurd are
 broken_all b h (c ∷ cs) [] are = refl
 broken_all b h (c ∷ cs) (u ∷ us) are = (are.0, broken_all b (h ++ entry_of c u) cs us are.1)
 
-broken_front : (b : Begun) (h : List Entry) (by more : List Actor) (ts : List (Option Event)) → AreTurns true b h by ts → AreTurns true b h (by ++ more) ts × (entries_of (by ++ more) ts ≡ entries_of by ts)
+broken_front : (b : Begun) (h : List Entry) (by more : List Actor) (ts : List (Option Event)) → AreTurns true b h by ts
+    → AreTurns true b h (by ++ more) ts × (entries_of (by ++ more) ts ≡ entries_of by ts)
 broken_front b h [] [] [] are = (tt, refl)
 broken_front b h [] (a ∷ rest) [] are = (refl, refl)
 broken_front b h [] more (u ∷ us) are = absurd are
@@ -75,7 +80,8 @@ broken_front b h (c ∷ cs) more (u ∷ us) are =
 -- it breaks off among the clients
 pub broken_round : (b : Begun) (h h1 h2 : List Entry) (t1 : Option Event) (tc : List (Option Event)) (by : List Actor)
     → IsTurn b h actors.Terminal t1 → h1 ≡ h ++ entry_of actors.Terminal t1 → AreTurns true b h1 by tc → h2 ≡ h1 ++ entries_of by tc
-    → AreTurns true b h (actors.Terminal ∷ (by ++ actors.Painter ∷ [])) (t1 ∷ tc) × (h2 ≡ h ++ entries_of (actors.Terminal ∷ (by ++ actors.Painter ∷ [])) (t1 ∷ tc))
+    → AreTurns true b h (actors.Terminal ∷ (by ++ actors.Painter ∷ [])) (t1 ∷ tc)
+    × (h2 ≡ h ++ entries_of (actors.Terminal ∷ (by ++ actors.Painter ∷ [])) (t1 ∷ tc))
 broken_round b h h1 h2 t1 tc by u e1 v e2 =
     let sent = h ++ entry_of actors.Terminal t1 in
     let A : List Entry → Type 0 = λ z. AreTurns true b z by tc in
@@ -101,7 +107,8 @@ none_by true b c = refl
 none_by false true c = refl
 none_by false false c = refl
 
-pub nobody_all : (t1 : Option Event) (tc : List (Option Event)) (tp : Option Event) (sent entered painted : Bool) → is_nobody (t1 ∷ []) ≡ not sent → is_nobody tc ≡ not entered → is_nobody (tp ∷ []) ≡ not painted
+pub nobody_all : (t1 : Option Event) (tc : List (Option Event)) (tp : Option Event) (sent entered painted : Bool)
+    → is_nobody (t1 ∷ []) ≡ not sent → is_nobody tc ≡ not entered → is_nobody (tp ∷ []) ≡ not painted
     → is_nobody (t1 ∷ (tc ++ tp ∷ [])) ≡ not (sent || (entered || painted))
 nobody_all t1 tc tp sent entered painted a b c =
     nobody_one t1 (tc ++ tp ∷ []) ∙ (ap (λ (x : Bool). is_nobody (t1 ∷ []) && x) (nobody_more tc tp)
@@ -123,12 +130,15 @@ AllRest b h (a ∷ rest) = IsTurn b h a None × AllRest b h rest
 pub all_rest : (b : Begun) (h : List Entry) (by : List Actor) (ts : List (Option Event)) → AreTurns false b h by ts → is_nobody ts ≡ true → AllRest b h by
 all_rest b h [] ts are n = tt
 all_rest b h (a ∷ rest) [] are n = absurd (let e : false ≡ true = are in cc)
-all_rest b h (a ∷ rest) (None ∷ ts) are n = (are.0, let P : List Entry → Type 0 = λ z. AreTurns false b z rest ts in all_rest b h rest ts (subst P (append_none h) are.1) n)
+all_rest b h (a ∷ rest) (None ∷ ts) are n =
+    (are.0, let P : List Entry → Type 0 = λ z. AreTurns false b z rest ts in all_rest b h rest ts (subst P (append_none h) are.1) n)
 all_rest b h (a ∷ rest) (Some e ∷ ts) are n = absurd (cc)
 
-pub client_rests : (b : Begun) (h : List Entry) (from n : ℕ) (more : List Actor) → AllRest b h (clients_from from n ++ more) → (j : ℕ) → j < n → IsTurn b h (actors.Client (from + j + 1)) None
+pub client_rests : (b : Begun) (h : List Entry) (from n : ℕ) (more : List Actor) → AllRest b h (clients_from from n ++ more) → (j : ℕ) → j < n
+    → IsTurn b h (actors.Client (from + j + 1)) None
 client_rests b h from zero more k j l = absurd (let none : j < 0 = l in omega arith)
-client_rests b h from (suc n) more k zero l = let P : ℕ → Type 0 = λ z. IsTurn b h (actors.Client (z + 1)) None in subst P (let e : from ≡ from + 0 = omega arith in e) k.0
+client_rests b h from (suc n) more k zero l =
+    let P : ℕ → Type 0 = λ z. IsTurn b h (actors.Client (z + 1)) None in subst P (let e : from ≡ from + 0 = omega arith in e) k.0
 client_rests b h from (suc n) more k (suc j) l =
     let P : ℕ → Type 0 = λ z. IsTurn b h (actors.Client (z + 1)) None in
     subst P (let e : from + 1 + j ≡ from + suc j = omega arith in e) (client_rests b h (from + 1) n more k.1 j (omega arith))
@@ -139,7 +149,8 @@ painter_rests b h from (suc n) k = painter_rests b h (from + 1) n k.1
 
 -- ---- one more round
 
-pub one_round : (b : Begun) (h g : List Entry) (one : List (Option Event)) → HasRounds b h → AreTurns false b h (all_order b) one → is_nobody one ≡ false → g ≡ h ++ entries_of (all_order b) one → HasRounds b g
+pub one_round : (b : Begun) (h g : List Entry) (one : List (Option Event))
+    → HasRounds b h → AreTurns false b h (all_order b) one → is_nobody one ≡ false → g ≡ h ++ entries_of (all_order b) one → HasRounds b g
 one_round b h g one (rounds, are, e) t n i =
     let P : List Entry → Type 0 = λ z. AreTurns false b z (all_order b) one in (
       rounds ++ one ∷ [],
@@ -147,7 +158,8 @@ one_round b h g one (rounds, are, e) t n i =
       i ∙ (ap (λ (z : List Entry). z ++ entries_of (all_order b) one) e ∙ sym (all_entries_more (all_order b) rounds one)),
     )
 
-some_entry : (b : Begun) (h : List Entry) (by : List Actor) (ts : List (Option Event)) → AreTurns false b h by ts → is_nobody ts ≡ false → 0 < length (entries_of by ts)
+some_entry : (b : Begun) (h : List Entry) (by : List Actor) (ts : List (Option Event))
+    → AreTurns false b h by ts → is_nobody ts ≡ false → 0 < length (entries_of by ts)
 some_entry b h [] [] are n = absurd (cc)
 some_entry b h [] (u ∷ us) are n = absurd are
 some_entry b h (c ∷ cs) [] are n = absurd (cc)
@@ -155,5 +167,6 @@ some_entry b h (c ∷ cs) (None ∷ us) are n = some_entry b (h ++ []) cs us are
 some_entry b h (c ∷ cs) (Some e ∷ us) are n = omega arith
 
 -- and it has more entries
-pub round_longer : (b : Begun) (h g : List Entry) (by : List Actor) (ts : List (Option Event)) → AreTurns false b h by ts → is_nobody ts ≡ false → g ≡ h ++ entries_of by ts → length h < length g
+pub round_longer : (b : Begun) (h g : List Entry) (by : List Actor) (ts : List (Option Event))
+    → AreTurns false b h by ts → is_nobody ts ≡ false → g ≡ h ++ entries_of by ts → length h < length g
 round_longer b h g by ts are n e = let l = some_entry b h by ts are n in omega (arith, ap (λ (z : List Entry). length z) e, length-append h (entries_of by ts))

@@ -38,7 +38,8 @@ joined_more (q ∷ qs) p = ap (λ (x : List ℕ). q ++ x) (joined_more qs p) ∙
 pub ends_more : (n : ℕ) (ps : List (List ℕ)) (p : List ℕ) → ends_from n (ps ++ p ∷ []) ≡ ends_from n ps ++ (n + length (joined ps) + length p) ∷ []
 ends_more n [] p = ap (λ (m : ℕ). (m + length p) ∷ []) (let e : n ≡ n + 0 = omega arith in e)
 ends_more n (q ∷ qs) p = ap (λ (x : List ℕ). (n + length q) ∷ x) (ends_more (n + length q) qs p
-    ∙ ap (λ (m : ℕ). ends_from (n + length q) qs ++ (m + length p) ∷ []) (let e : n + length q + length (joined qs) ≡ n + length (q ++ joined qs) = omega (arith, length-append q (joined qs)) in e))
+    ∙ ap (λ (m : ℕ). ends_from (n + length q) qs ++ (m + length p) ∷ [])
+    (let e : n + length q + length (joined qs) ≡ n + length (q ++ joined qs) = omega (arith, length-append q (joined qs)) in e))
 
 pub take_all : (xs : List ℕ) → take (length xs) xs ≡ xs
 take_all xs = take-length xs
@@ -46,25 +47,31 @@ take_all xs = take-length xs
 pub take_past : (xs ys : List ℕ) (n : ℕ) → take (length xs + n) (xs ++ ys) ≡ xs ++ take n ys
 take_past xs ys n = take-append-add xs ys n
 
-pub written_more : (before now later : Option (List ℕ)) (ps : List (List ℕ)) (p : List ℕ) (n : ℕ) (failed : Bool) → Written before now ps false → n ≤ length p → later ≡ then_written now (take n p) → (failed ≡ false → n ≡ length p) → Written before later (ps ++ p ∷ []) failed
+pub written_more : (before now later : Option (List ℕ)) (ps : List (List ℕ)) (p : List ℕ) (n : ℕ) (failed : Bool) → Written before now ps false
+    → n ≤ length p → later ≡ then_written now (take n p) → (failed ≡ false → n ≡ length p) → Written before later (ps ++ p ∷ []) failed
 written_more before now later ps p n failed w l e f =
     let c : w.count ≡ length (joined ps) = w.whole refl in
-    let whole : now ≡ then_written before (joined ps) = w.front ∙ ap (λ (x : List ℕ). then_written before x) (ap (λ (m : ℕ). take m (joined ps)) c ∙ take_all (joined ps)) in
+    let whole : now ≡ then_written before (joined ps) =
+    w.front ∙ ap (λ (x : List ℕ). then_written before x) (ap (λ (m : ℕ). take m (joined ps)) c ∙ take_all (joined ps)) in
     let j = joined_more ps p in
     record {
       count = length (joined ps) + n;
       most = omega (arith, ap (λ (x : List ℕ). length x) j, length-append (joined ps) p);
-      front = then_written-more (joined ps) (take n p) before now later whole e ∙ ap (λ (x : List ℕ). then_written before x) (sym (take_past (joined ps) p n) ∙ ap (λ (x : List ℕ). take (length (joined ps) + n) x) (sym j));
+      front = then_written-more (joined ps) (take n p) before now later whole e
+          ∙ ap (λ (x : List ℕ). then_written before x) (sym (take_past (joined ps) p n) ∙ ap (λ (x : List ℕ). take (length (joined ps) + n) x) (sym j));
       whole = λ x. ap (λ (m : ℕ). length (joined ps) + m) (f x) ∙ (sym (length-append (joined ps) p) ∙ ap (λ (x' : List ℕ). length x') (sym j));
     }
 
-pub readied_is : (s : State) (v : View) (kept : Kept) (fresh : Bool) → v.size.w ≡ s.buffers.w → v.size.h ≡ s.buffers.h → (if fresh then unpainted v.size.w v.size.h else kept) ≡ readied fresh s kept
+pub readied_is : (s : State) (v : View) (kept : Kept) (fresh : Bool) → v.size.w ≡ s.buffers.w → v.size.h ≡ s.buffers.h
+    → (if fresh then unpainted v.size.w v.size.h else kept) ≡ readied fresh s kept
 readied_is s v kept true w h = ap (λ (x : ℕ). unpainted x v.size.h) w ∙ ap (λ (x : ℕ). unpainted s.buffers.w x) h
 readied_is s v kept false w h = refl
 
-pub canvas_paint : (b : Begun) (size : Size) (before now later : Option (List ℕ)) (kept after : Kept) (ps : List (List ℕ)) (ends : List ℕ) (end upto : ℕ) (v : View) (fresh failed : Bool) (bytes : List ℕ) (n : ℕ) (s : State) (h g : List Entry)
+pub canvas_paint : (b : Begun) (size : Size) (before now later : Option (List ℕ)) (kept after : Kept) (ps : List (List ℕ)) (ends : List ℕ)
+    (end upto : ℕ) (v : View) (fresh failed : Bool) (bytes : List ℕ) (n : ℕ) (s : State) (h g : List Entry)
     → s ≡ run b.state h → g ≡ h ++ entry actors.Painter events.Paint ∷ [] → Pictures v fresh s
-    → ((t : Terminal) → Allows (if fresh then unpainted v.size.w v.size.h else kept) t → Paints (if fresh then unpainted v.size.w v.size.h else kept) after v bytes t) → IsShown after v → ((after.w ≡ v.size.w) × (after.h ≡ v.size.h))
+    → ((t : Terminal) → Allows (if fresh then unpainted v.size.w v.size.h else kept) t
+    → Paints (if fresh then unpainted v.size.w v.size.h else kept) after v bytes t) → IsShown after v → ((after.w ≡ v.size.w) × (after.h ≡ v.size.h))
     → n ≤ length bytes → later ≡ then_written now (take n bytes) → (failed ≡ false → n ≡ length bytes) → upto ≡ end + length bytes
     → CanvasIs b h size kept ps ends end before now false → CanvasIs b g size after (ps ++ bytes ∷ []) (ends ++ upto ∷ []) upto before later failed
 canvas_paint b size before now later kept after ps ends end upto v fresh failed bytes n s h g i e tells paints shown sizes l w f u k =
@@ -76,11 +83,13 @@ canvas_paint b size before now later kept after ps ends end upto v fresh failed 
     let P : Kept → Type 0 = λ z. (t : Terminal) → Allows z t → Paints z after v bytes t in
     let paints' = subst P (readied_is r v kept fresh wide high) paints in
     let j = joined_more ps bytes in
-    let m : upto ≡ length (joined (ps ++ bytes ∷ [])) = u ∙ (ap (λ (z : ℕ). z + length bytes) k.end' ∙ (sym (length-append (joined ps) bytes) ∙ ap (λ (x : List ℕ). length x) (sym j))) in
+    let m : upto ≡ length (joined (ps ++ bytes ∷ [])) =
+    u ∙ (ap (λ (z : ℕ). z + length bytes) k.end' ∙ (sym (length-append (joined ps) bytes) ∙ ap (λ (x : List ℕ). length x) (sym j))) in
     record {
       stands = painter_paint b h g v size kept after ps bytes fresh e f' v' paints' shown (sizes.0 ∙ wide) (sizes.1 ∙ high) k.stands;
       written = written_more before now later ps bytes n failed k.written l w f;
-      ends' = ap (λ (x : List ℕ). x ++ upto ∷ []) k.ends' ∙ (ap (λ (z : ℕ). ends_from 0 ps ++ z ∷ []) (let q : upto ≡ 0 + length (joined ps) + length bytes = omega (arith, u, k.end') in q) ∙ sym (ends_more 0 ps bytes));
+      ends' = ap (λ (x : List ℕ). x ++ upto ∷ []) k.ends' ∙ (ap (λ (z : ℕ). ends_from 0 ps ++ z ∷ [])
+          (let q : upto ≡ 0 + length (joined ps) + length bytes = omega (arith, u, k.end') in q) ∙ sym (ends_more 0 ps bytes));
       end' = m;
     }
 
@@ -119,20 +128,35 @@ pub painted_count : (b : Begun) (h : List Entry) (size : Size) (kept : Kept) (ps
 painted_count b h size kept ps k = matched_count (sights_of b.state h) ps k.matched ∙ pictures_are b.state h
 
 -- its end
-pub canvas_ends : (b : Begun) (h : List Entry) (size : Size) (kept : Kept) (ps : List (List ℕ)) (ends : List ℕ) (end : ℕ) (before now : Option (List ℕ)) (failed : Bool) → CanvasIs b h size kept ps ends end before now failed → CanvasEnds b h size ends before now
-canvas_ends b h size kept ps ends end before now failed k = record { pieces = ps; each = k.stands.each; ends' = k.ends'; count = inl (painted_count b h size kept ps k.stands); failed = failed; written = k.written }
+pub canvas_ends : (b : Begun) (h : List Entry) (size : Size) (kept : Kept) (ps : List (List ℕ)) (ends : List ℕ) (end : ℕ) (before now : Option (List ℕ))
+    (failed : Bool) → CanvasIs b h size kept ps ends end before now failed → CanvasEnds b h size ends before now
+canvas_ends b h size kept ps ends end before now failed k =
+    record { pieces = ps; each = k.stands.each; ends' = k.ends'; count = inl (painted_count b h size kept ps k.stands); failed = failed; written = k.written }
 
 -- a Paint without a frame ends it
-pub canvas_none : (b : Begun) (h g : List Entry) (size : Size) (kept : Kept) (ps : List (List ℕ)) (ends : List ℕ) (end : ℕ) (before now : Option (List ℕ)) (failed : Bool) → g ≡ h ++ entry actors.Painter events.Paint ∷ [] → CanvasIs b h size kept ps ends end before now failed → CanvasEnds b g size ends before now
-canvas_none b h g size kept ps ends end before now failed e k = record { pieces = ps; each = none_each b h g size kept ps e k.stands; ends' = k.ends'; count = inr (ap (λ (n : ℕ). n + 1) (painted_count b h size kept ps k.stands) ∙ sym (ap paints e ∙ paints-append h (entry actors.Painter events.Paint ∷ []))); failed = failed; written = k.written }
+pub canvas_none : (b : Begun) (h g : List Entry) (size : Size) (kept : Kept) (ps : List (List ℕ)) (ends : List ℕ) (end : ℕ) (before now : Option (List ℕ))
+    (failed : Bool) → g ≡ h ++ entry actors.Painter events.Paint ∷ [] → CanvasIs b h size kept ps ends end before now failed
+    → CanvasEnds b g size ends before now
+canvas_none b h g size kept ps ends end before now failed e k = record {
+  pieces = ps;
+  each = none_each b h g size kept ps e k.stands;
+  ends' = k.ends';
+  count = inr (ap (λ (n : ℕ). n + 1) (painted_count b h size kept ps k.stands)
+      ∙ sym (ap paints e ∙ paints-append h (entry actors.Painter events.Paint ∷ [])));
+  failed = failed;
+  written = k.written;
+}
 
-pub was_fine : (b : Begun) (h : List Entry) (size : Size) (kept : Kept) (ps : List (List ℕ)) (ends : List ℕ) (end : ℕ) (before now : Option (List ℕ)) (failed : Bool) → failed ≡ false → CanvasIs b h size kept ps ends end before now failed → CanvasIs b h size kept ps ends end before now false
+pub was_fine : (b : Begun) (h : List Entry) (size : Size) (kept : Kept) (ps : List (List ℕ)) (ends : List ℕ) (end : ℕ) (before now : Option (List ℕ))
+    (failed : Bool) → failed ≡ false → CanvasIs b h size kept ps ends end before now failed → CanvasIs b h size kept ps ends end before now false
 was_fine b h size kept ps ends end before now failed e k = let P : Bool → Type 0 = λ x. CanvasIs b h size kept ps ends end before now x in subst P e k
 
 -- a frame that was taken whole
-pub canvas_ok : (b : Begun) (size : Size) (before now later : Option (List ℕ)) (kept after : Kept) (ps : List (List ℕ)) (ends : List ℕ) (end upto : ℕ) (v : View) (fresh was : Bool) (bytes slice more : List ℕ) (s : State) (h g : List Entry)
+pub canvas_ok : (b : Begun) (size : Size) (before now later : Option (List ℕ)) (kept after : Kept) (ps : List (List ℕ)) (ends : List ℕ) (end upto : ℕ)
+    (v : View) (fresh was : Bool) (bytes slice more : List ℕ) (s : State) (h g : List Entry)
     → was ≡ false → s ≡ run b.state h → g ≡ h ++ entry actors.Painter events.Paint ∷ [] → Pictures v fresh s
-    → ((t : Terminal) → Allows (if fresh then unpainted v.size.w v.size.h else kept) t → Paints (if fresh then unpainted v.size.w v.size.h else kept) after v bytes t) → IsShown after v → ((after.w ≡ v.size.w) × (after.h ≡ v.size.h))
+    → ((t : Terminal) → Allows (if fresh then unpainted v.size.w v.size.h else kept) t
+    → Paints (if fresh then unpainted v.size.w v.size.h else kept) after v bytes t) → IsShown after v → ((after.w ≡ v.size.w) × (after.h ≡ v.size.h))
     → slice ≡ bytes → later ≡ then_written now slice → upto ≡ end + length bytes
     → CanvasIs b h size kept ps ends end before now was → more ≡ ends ++ upto ∷ [] → CanvasIs b g size after (ps ++ bytes ∷ []) more upto before later was
 canvas_ok b size before now later kept after ps ends end upto v fresh was bytes slice more s h g w i e tells paints shown sizes sl l u k em =
@@ -141,9 +165,11 @@ canvas_ok b size before now later kept after ps ends end upto v fresh was bytes 
     (l ∙ ap (λ (x : List ℕ). then_written now x) (sl ∙ sym (take-length bytes))) (λ x. refl) u (was_fine b h size kept ps ends end before now was w k))
 
 -- one that was not
-pub canvas_failed : (b : Begun) (size : Size) (before now later : Option (List ℕ)) (kept after : Kept) (ps : List (List ℕ)) (ends : List ℕ) (end upto : ℕ) (v : View) (fresh was : Bool) (bytes slice more : List ℕ) (s : State) (h g : List Entry)
+pub canvas_failed : (b : Begun) (size : Size) (before now later : Option (List ℕ)) (kept after : Kept) (ps : List (List ℕ)) (ends : List ℕ)
+    (end upto : ℕ) (v : View) (fresh was : Bool) (bytes slice more : List ℕ) (s : State) (h g : List Entry)
     → was ≡ false → s ≡ run b.state h → g ≡ h ++ entry actors.Painter events.Paint ∷ [] → Pictures v fresh s
-    → ((t : Terminal) → Allows (if fresh then unpainted v.size.w v.size.h else kept) t → Paints (if fresh then unpainted v.size.w v.size.h else kept) after v bytes t) → IsShown after v → ((after.w ≡ v.size.w) × (after.h ≡ v.size.h))
+    → ((t : Terminal) → Allows (if fresh then unpainted v.size.w v.size.h else kept) t
+    → Paints (if fresh then unpainted v.size.w v.size.h else kept) after v bytes t) → IsShown after v → ((after.w ≡ v.size.w) × (after.h ≡ v.size.h))
     → slice ≡ bytes → WroteFront slice now later → upto ≡ end + length bytes
     → CanvasIs b h size kept ps ends end before now was → more ≡ ends ++ upto ∷ [] → CanvasIs b g size after (ps ++ bytes ∷ []) more upto before later true
 canvas_failed b size before now later kept after ps ends end upto v fresh was bytes slice more s h g w i e tells paints shown sizes sl (n, m, l) u k em =
@@ -153,8 +179,12 @@ canvas_failed b size before now later kept after ps ends end upto v fresh was by
     (l ∙ ap (λ (x : List ℕ). then_written now (take n x)) sl) (λ x. absurd (cc)) u (was_fine b h size kept ps ends end before now was w k))
 
 -- its end, where nothing was entered
-pub canvas_rests : (b : Begun) (s t : State) (h g : List Entry) (rs qs : List Reply) (size : Size) (kept : Kept) (ps : List (List ℕ)) (ends : List ℕ) (end : ℕ) (before now : Option (List ℕ)) (failed : Bool) → Rests s t h g rs qs → CanvasIs b h size kept ps ends end before now failed → CanvasEnds b g size ends before now
-canvas_rests b s t h g rs qs size kept ps ends end before now failed r k = let P : List Entry → Type 0 = λ z. CanvasEnds b z size ends before now in subst P (sym r.entries) (canvas_ends b h size kept ps ends end before now failed k)
+pub canvas_rests : (b : Begun) (s t : State) (h g : List Entry) (rs qs : List Reply) (size : Size) (kept : Kept) (ps : List (List ℕ)) (ends : List ℕ)
+    (end : ℕ) (before now : Option (List ℕ)) (failed : Bool) → Rests s t h g rs qs → CanvasIs b h size kept ps ends end before now failed
+    → CanvasEnds b g size ends before now
+canvas_rests b s t h g rs qs size kept ps ends end before now failed r k = let P : List Entry → Type 0 = λ z. CanvasEnds b z size ends before now in
+    subst P (sym r.entries) (canvas_ends b h size kept ps ends end before now failed k)
 
-pub ends_as : (b : Begun) (h : List Entry) (size : Size) (es old : List ℕ) (before now : Option (List ℕ)) → es ≡ old → CanvasEnds b h size old before now → CanvasEnds b h size es before now
+pub ends_as : (b : Begun) (h : List Entry) (size : Size) (es old : List ℕ) (before now : Option (List ℕ))
+    → es ≡ old → CanvasEnds b h size old before now → CanvasEnds b h size es before now
 ends_as b h size es old before now e k = let P : List ℕ → Type 0 = λ z. CanvasEnds b h size z before now in subst P (sym e) k

@@ -39,7 +39,8 @@ others p xs e = ap (λ (z : List Entry). are_others p z) e
 -- ---- what was entered since
 
 pub since_here : (s : State) (h : List Entry) (rs : List Reply) → Since s s h h rs rs
-since_here s h rs = record { ran = record { entries = []; after' = sym (append_none h); state = refl; legal = refl; others = refl }; replies = sym (append-nil rs) }
+since_here s h rs =
+    record { ran = record { entries = []; after' = sym (append_none h); state = refl; legal = refl; others = refl }; replies = sym (append-nil rs) }
 
 module _ (s t u : State) (h g l : List Entry) (rs qs ps : List Reply) (k : Since s t h g rs qs) where
   pub since_rests : Rests t u g l qs ps → Since s u h l rs ps
@@ -52,7 +53,8 @@ module _ (s t u : State) (h g l : List Entry) (rs qs ps : List Reply) (k : Since
   since_enters a e n r p =
       let x = entry a e in
       let told : map listed (replies_of s (k.ran.entries ++ x ∷ [])) ≡ map listed (replies_of s k.ran.entries) ++ listed (step t a e).reply ∷ [] =
-      ap (λ (z : List Reply). map listed z) (replies-append s k.ran.entries (x ∷ [])) ∙ (map-append listed (replies_of s k.ran.entries) (replies_of (run s k.ran.entries) (x ∷ []))
+      ap (λ (z : List Reply). map listed z) (replies-append s k.ran.entries (x ∷ []))
+      ∙ (map-append listed (replies_of s k.ran.entries) (replies_of (run s k.ran.entries) (x ∷ []))
       ∙ ap (λ (z : State). map listed (replies_of s k.ran.entries) ++ listed (step z a e).reply ∷ []) (sym k.ran.state)) in
       record {
         ran = record {
@@ -60,13 +62,15 @@ module _ (s t u : State) (h g l : List Entry) (rs qs ps : List Reply) (k : Since
           after' = n.entries ∙ (ap (λ (z : List Entry). z ++ x ∷ []) k.ran.after' ∙ append_assoc h k.ran.entries (x ∷ []));
           state = n.state ∙ (ap (λ (z : State). (step z a e).after) k.ran.state ∙ sym (run_one s k.ran.entries x));
           legal = legal-one s k.ran.entries x k.ran.legal (ap (λ (z : State). is_ready z a e) (sym k.ran.state) ∙ r);
-          others = list_all-append (λ z. not (is_painter z.actor)) k.ran.entries (x ∷ []) ∙ (ap (λ (c : Bool). c && list_all (λ z. not (is_painter z.actor)) (x ∷ [])) k.ran.others ∙ ap (λ (c : Bool). not c && true) p);
+          others = list_all-append (λ z. not (is_painter z.actor)) k.ran.entries (x ∷ [])
+              ∙ (ap (λ (c : Bool). c && list_all (λ z. not (is_painter z.actor)) (x ∷ [])) k.ran.others ∙ ap (λ (c : Bool). not c && true) p);
         };
         replies = n.replies ∙ (ap (λ (z : List Reply). z ++ listed (step t a e).reply ∷ []) k.replies
             ∙ (append_assoc rs (map listed (replies_of s k.ran.entries)) (listed (step t a e).reply ∷ []) ∙ ap (λ (z : List Reply). rs ++ z) (sym told)));
       }
 
-pub since_put : (s t u : State) (h g l : List Entry) (rs qs ps : List Reply) (a : Actor) (e : Event) (r : Result Brief OutOfMemory) → is_ready t a e ≡ true → is_painter a ≡ false
+pub since_put : (s t u : State) (h g l : List Entry) (rs qs ps : List Reply) (a : Actor) (e : Event) (r : Result Brief OutOfMemory)
+    → is_ready t a e ≡ true → is_painter a ≡ false
     → IfOk r (λ brief. Enters t u g l qs ps a e) → OnErr r (Rests t u g l qs ps) → Since s t h g rs qs → Since s u h l rs ps
 since_put s t u h g l rs qs ps a e (Ok brief) ready p x y k = since_enters s t u h g l rs qs ps k a e x ready p
 since_put s t u h g l rs qs ps a e (Err err) ready p x y k = since_rests s t u h g l rs qs ps k y
@@ -80,7 +84,8 @@ saw_same h g e = record { between = []; may = refl; entries' = e ∙ sym (append
 pub since_run : (s t z : State) (h g : List Entry) → Ran s t h g → s ≡ run z h → t ≡ run z g
 since_run s t z h g k i = k.state ∙ (ap (λ (y : State). run y k.entries) i ∙ (sym (run-append z h k.entries) ∙ ap (λ (y : List Entry). run z y) (sym k.after')))
 
-pub desk_entered : (s t u z : State) (h g l : List Entry) (rs qs ps : List Reply) (a : Actor) (e : Event) (brief : Brief) → is_ready t a e ≡ true → Enters t u g l qs ps a e → brief ≡ brief_of (step t a e).reply
+pub desk_entered : (s t u z : State) (h g l : List Entry) (rs qs ps : List Reply) (a : Actor) (e : Event) (brief : Brief)
+    → is_ready t a e ≡ true → Enters t u g l qs ps a e → brief ≡ brief_of (step t a e).reply
     → Since s t h g rs qs → s ≡ run z h → Entered IsNothing z a e brief g l
 desk_entered s t u z h g l rs qs ps a e brief ready n br k i =
     let now : t ≡ run z (g ++ []) = since_run s t z h g k.ran i ∙ ap (λ (y : List Entry). run z y) (sym (append_none g)) in
@@ -92,7 +97,8 @@ desk_entered s t u z h g l rs qs ps a e brief ready n br k i =
       brief' = br ∙ ap (λ (y : State). brief_of (step y a e).reply) now;
     }
 
-pub desk_ready : (s t z : State) (h g : List Entry) (rs qs : List Reply) (a : Actor) (e : Event) (b : Bool) → b ≡ is_ready t a e → Since s t h g rs qs → s ≡ run z h → b ≡ is_ready (run z g) a e
+pub desk_ready : (s t z : State) (h g : List Entry) (rs qs : List Reply) (a : Actor) (e : Event) (b : Bool)
+    → b ≡ is_ready t a e → Since s t h g rs qs → s ≡ run z h → b ≡ is_ready (run z g) a e
 desk_ready s t z h g rs qs a e b r k i = r ∙ ap (λ (y : State). is_ready y a e) (since_run s t z h g k.ran i)
 
 -- ---- what was entered, by the history alone
@@ -115,6 +121,7 @@ module _ (s t : State) (h g : List Entry) (rs qs : List Reply) (k : Since s t h 
 
   pub enters_since : (between : List Entry) (a : Actor) (e : Event) → between ≡ [] → g ≡ (h ++ between) ++ entry a e ∷ [] → Enters s t h g rs qs a e
   enters_since between a e may i =
-      let same : g ≡ h ++ entry a e ∷ [] = i ∙ (ap (λ (z : List Entry). (h ++ z) ++ entry a e ∷ []) may ∙ ap (λ (z : List Entry). z ++ entry a e ∷ []) (append_none h)) in
+      let same : g ≡ h ++ entry a e ∷ [] =
+      i ∙ (ap (λ (z : List Entry). (h ++ z) ++ entry a e ∷ []) may ∙ ap (λ (z : List Entry). z ++ entry a e ∷ []) (append_none h)) in
       let b = since_by (entry a e ∷ []) same in
       record { state = b.0; entries = same; replies = b.1 }

@@ -16,14 +16,18 @@ pub run_one : (s : State) (h : List Entry) (x : Entry) → run s (h ++ x ∷ [])
 run_one s h x = run-append s h (x ∷ [])
 
 -- the console behind an entry
-pub entered_run : (start s t : State) (h g : List Entry) (rs qs : List Reply) (a : Actor) (e : Event) → s ≡ run start h → Enters s t h g rs qs a e → t ≡ run start g
+pub entered_run : (start s t : State) (h g : List Entry) (rs qs : List Reply) (a : Actor) (e : Event)
+    → s ≡ run start h → Enters s t h g rs qs a e → t ≡ run start g
 entered_run start s t h g rs qs a e i n =
     n.state ∙ (ap (λ (z : State). moved z (entry a e)) i ∙ (sym (run_one start h (entry a e)) ∙ ap (λ (z : List Entry). run start z) (sym n.entries)))
 
-pub listed_one : (start : State) (h : List Entry) (x : Entry) → map listed (replies_of start (h ++ x ∷ [])) ≡ map listed (replies_of start h) ++ listed (step (run start h) x.actor x.event).reply ∷ []
-listed_one start h x = ap (λ (rs : List Reply). map listed rs) (replies-append start h (x ∷ [])) ∙ map-append listed (replies_of start h) (replies_of (run start h) (x ∷ []))
+pub listed_one : (start : State) (h : List Entry) (x : Entry)
+    → map listed (replies_of start (h ++ x ∷ [])) ≡ map listed (replies_of start h) ++ listed (step (run start h) x.actor x.event).reply ∷ []
+listed_one start h x = ap (λ (rs : List Reply). map listed rs) (replies-append start h (x ∷ []))
+    ∙ map-append listed (replies_of start h) (replies_of (run start h) (x ∷ []))
 
-pub stands_one : (start s t : State) (h g : List Entry) (rs qs : List Reply) (a : Actor) (e : Event) → Enters s t h g rs qs a e → is_ready s a e ≡ true → Stands start s h rs → Stands start t g qs
+pub stands_one : (start s t : State) (h g : List Entry) (rs qs : List Reply) (a : Actor) (e : Event)
+    → Enters s t h g rs qs a e → is_ready s a e ≡ true → Stands start s h rs → Stands start t g qs
 stands_one start s t h g rs qs a e n r k =
     let x = entry a e in
     let P : State → Type 0 = λ z. is_ready z a e ≡ true in

@@ -23,12 +23,14 @@ module _ (b : Begun) (p : ℕ) (s t : State) (h g : List Entry) (rs qs : List Re
   acts_by x = record {
     event = x.event;
     enters = enters_since s t h g rs qs k x.between (actors.Client p) x.event x.fits x.entries';
-    ready = ap (λ (z : State). is_ready z (actors.Client p) x.event) (i ∙ ap (λ (z : List Entry). run b.state z) (sym (ap (λ (z : List Entry). h ++ z) x.fits ∙ append-nil h))) ∙ x.ready;
+    ready = ap (λ (z : State). is_ready z (actors.Client p) x.event)
+        (i ∙ ap (λ (z : List Entry). run b.state z) (sym (ap (λ (z : List Entry). h ++ z) x.fits ∙ append-nil h))) ∙ x.ready;
     may = x.may;
     turn = x.turn x.fits;
   }
 
-  pub exact : (r : Result Bool OutOfMemory) (steps : List Step) (w : Worker) (places : List ℕ) (ms : List Memory) (slots : List ℕ) → HasTurnedBy IsNothing r b p steps h g w places ms slots → HandsTurnBy r b p s t h g rs qs steps w places ms slots
+  pub exact : (r : Result Bool OutOfMemory) (steps : List Step) (w : Worker) (places : List ℕ) (ms : List Memory) (slots : List ℕ)
+      → HasTurnedBy IsNothing r b p steps h g w places ms slots → HandsTurnBy r b p s t h g rs qs steps w places ms slots
   exact (Ok true) steps w places ms slots x = (acts_by x.0, x.1.worker, x.2)
   exact (Ok false) steps w places ms slots x =
       let r = rests_since s t h g rs qs k x.0.saw in

@@ -51,13 +51,15 @@ pub record HasWaited (May : List Entry → Type 0) (b : Begun) (p : ℕ) (h g : 
   pub turn : saw.between ≡ [] → IsTurn b h (actors.Client p) None
 
 -- A client's turn: whether it entered an event. Where there is no memory, it may have entered its event, and has not left.
-abbrev pub HasTurnedBy : (List Entry → Type 0) → Result Bool OutOfMemory → Begun → ℕ → List Step → List Entry → List Entry → Worker → List ℕ → List Memory → List ℕ → Type 0
+abbrev pub HasTurnedBy : (List Entry → Type 0) → Result Bool OutOfMemory → Begun → ℕ → List Step → List Entry → List Entry → Worker
+    → List ℕ → List Memory → List ℕ → Type 0
 HasTurnedBy May (Ok true) b p steps h g w places ms slots = HasActed May b p h g × ClientAt b p g steps w × HandsStandBy b p g places ms slots
 HasTurnedBy May (Ok false) b p steps h g w places ms slots = HasWaited May b p h g × ClientAt b p g steps w × HandsStandBy b p g places ms slots
 HasTurnedBy May (Err e) b p steps h g w places ms slots = (Saw May h g ⊎ HasActed May b p h g) × ClientStands b g p × (w.gone ≡ false)
 
 -- whether it took a control event; false: none is pending
-abbrev pub HasTakenBy : (List Entry → Type 0) → Result Bool OutOfMemory → Begun → ℕ → List Step → List Entry → List Entry → Worker → List ℕ → List Memory → List ℕ → Type 0
+abbrev pub HasTakenBy : (List Entry → Type 0) → Result Bool OutOfMemory → Begun → ℕ → List Step → List Entry → List Entry → Worker
+    → List ℕ → List Memory → List ℕ → Type 0
 HasTakenBy May (Ok true) b p steps h g w places ms slots = HasTurnedBy May (Ok true) b p steps h g w places ms slots
 HasTakenBy May (Ok false) b p steps h g w places ms slots = Saw May h g × IsQuiet b p g × ClientAt b p g steps w × HandsStandBy b p g places ms slots
 HasTakenBy May (Err e) b p steps h g w places ms slots = HasTurnedBy May (Err e) b p steps h g w places ms slots

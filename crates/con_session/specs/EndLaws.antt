@@ -53,19 +53,23 @@ use Rattle.con_session.specs.RanLaws.{append_none}
 
 -- ---- who has left
 
-pub waits_by : (pending open' done : Bool) (e : Event) → None ≡ (if pending then Some events.TakeCtrl else if open' then (if done then Some events.Collect else None) else Some e) → (open' ≡ true) × (done ≡ false)
+pub waits_by : (pending open' done : Bool) (e : Event) → None
+    ≡ (if pending then Some events.TakeCtrl else if open' then (if done then Some events.Collect else None) else Some e) → (open' ≡ true) × (done ≡ false)
 waits_by true open' done e t = absurd (cc)
 waits_by false false done e t = absurd (cc)
 waits_by false true true e t = absurd (cc)
 waits_by false true false e t = (refl, refl)
 
-pub waits_stance : (st : Stance) (s : State) (p : ℕ) (c : Client) → is_here st ≡ true → ClientTurnBy st s p c None → (is_open s.reads p ≡ true) × (has_done s.reads p ≡ false)
+pub waits_stance : (st : Stance) (s : State) (p : ℕ) (c : Client) → is_here st ≡ true → ClientTurnBy st s p c None
+    → (is_open s.reads p ≡ true) × (has_done s.reads p ≡ false)
 waits_stance GoesOn s p c i t = waits_by (is_pending s p) (is_open s.reads p) (has_done s.reads p) (next_event c.left) t
-waits_stance MayLeave s p c i t = elim t [ inl e ↦ absurd (cc) | inr e ↦ waits_by (is_pending s p) (is_open s.reads p) (has_done s.reads p) (next_event c.left) e ]
+waits_stance MayLeave s p c i t =
+    elim t [ inl e ↦ absurd (cc) | inr e ↦ waits_by (is_pending s p) (is_open s.reads p) (has_done s.reads p) (next_event c.left) e ]
 waits_stance MustLeave s p c i t = absurd (cc)
 waits_stance Gone s p c i t = absurd (cc)
 
-pub waits_attached : (there : Bool) (s : State) (p : ℕ) (c : Client) → is_attached s.procs p ≡ there → there ≡ is_here c.stance → ClientTurn there s p c None → WaitsOrGone s p
+pub waits_attached : (there : Bool) (s : State) (p : ℕ) (c : Client)
+    → is_attached s.procs p ≡ there → there ≡ is_here c.stance → ClientTurn there s p c None → WaitsOrGone s p
 waits_attached false s p c a h t = inl a
 waits_attached true s p c a h t = inr (waits_stance c.stance s p c (sym h) t)
 
@@ -83,13 +87,16 @@ pub by_number : (P : ℕ → Type 0) (n : ℕ) → ((k : ℕ) → k < n → P (k
 by_number P n f zero l m = absurd (let none : 0 < 0 = l in omega arith)
 by_number P n f (suc k) l m = let e : k + 1 ≡ suc k = omega arith in subst P e (f k (omega arith))
 
-pub each_number : (session : Clients) (racks : List (List ℕ)) (f : Option ℕ) (h : List Entry) → ((k : ℕ) → k < length session.scripts → ClientStands (begins session racks f) h (k + 1))
+pub each_number : (session : Clients) (racks : List (List ℕ)) (f : Option ℕ) (h : List Entry)
+    → ((k : ℕ) → k < length session.scripts → ClientStands (begins session racks f) h (k + 1))
     → (p : ℕ) → 0 < p → p ≤ length session.scripts → ClientStands (begins session racks f) h p
 each_number session racks f h k = by_number (λ p. ClientStands (begins session racks f) h p) (length session.scripts) k
 
 -- the terminal's side has ended, and each client waits for a read or is gone: then all are gone
-pub left_by_waits : (session : Clients) (racks : List (List ℕ)) (f : Option ℕ) (h : List Entry) → ((k : ℕ) → k < length session.scripts → ClientStands (begins session racks f) h (k + 1))
-    → ((k : ℕ) → k < length session.scripts → WaitsOrGone (run (begun session racks) h) (k + 1)) → has_ended false (sent h) ≡ true → HaveAllLeft (begun session racks) h session racks
+pub left_by_waits : (session : Clients) (racks : List (List ℕ)) (f : Option ℕ) (h : List Entry)
+    → ((k : ℕ) → k < length session.scripts → ClientStands (begins session racks f) h (k + 1))
+    → ((k : ℕ) → k < length session.scripts → WaitsOrGone (run (begun session racks) h) (k + 1)) → has_ended false (sent h) ≡ true
+    → HaveAllLeft (begun session racks) h session racks
 left_by_waits session racks f h k wait ended = λ p l m.
     let b = begins session racks f in
     let gone = none_waits session racks h ended (by_number (λ q. WaitsOrGone (run b.state h) q) (length session.scripts) wait) p l m in
@@ -99,19 +106,24 @@ left_by_waits session racks f h k wait ended = λ p l m.
 
 pub last_by : (n : ℕ) (ps : List (List ℕ)) → end_of n (ends_from n ps) ≡ n + length (joined ps)
 last_by n [] = let e : n ≡ n + 0 = omega arith in e
-last_by n (p ∷ ps) = last_by (n + length p) ps ∙ (let e : n + length p + length (joined ps) ≡ n + length (p ++ joined ps) = omega (arith, length-append p (joined ps)) in e)
+last_by n (p ∷ ps) = last_by (n + length p) ps
+    ∙ (let e : n + length p + length (joined ps) ≡ n + length (p ++ joined ps) = omega (arith, length-append p (joined ps)) in e)
 
 pub ends_count : (n : ℕ) (ps : List (List ℕ)) → length (ends_from n ps) ≡ length ps
 ends_count n [] = refl
 ends_count n (p ∷ ps) = ap suc (ends_count (n + length p) ps)
 
-pub each_map : (from to : Option View → View → List ℕ → Terminal → Type 0) → ((l : Option View) (v : View) (p : List ℕ) (t : Terminal) → from l v p t → to l v p t) → (t : Terminal) (last : Option View) (ss : List Sight) (ps : List (List ℕ)) → EachPiece from t last ss ps → EachPiece to t last ss ps
+pub each_map : (from to : Option View → View → List ℕ → Terminal → Type 0)
+    → ((l : Option View) (v : View) (p : List ℕ) (t : Terminal) → from l v p t → to l v p t)
+    → (t : Terminal) (last : Option View) (ss : List Sight) (ps : List (List ℕ)) → EachPiece from t last ss ps → EachPiece to t last ss ps
 each_map from to f t last [] ps e = tt
 each_map from to f t last (sights.Resize z ∷ ss) ps e = λ u i. each_map from to f u None ss ps (e u i)
 each_map from to f t last (sights.Paint v ∷ ss) [] e = tt
 each_map from to f t last (sights.Paint v ∷ ss) (p ∷ ps) e = (f last v p t e.0, each_map from to f (play t p) (Some v) ss ps e.1)
 
-pub stream_run : (to : Option View → View → List ℕ → Terminal → Type 0) → ((l : Option View) (v : View) (p : List ℕ) (t : Terminal) → Painted l v p t → to l v p t) → (size : Size) (ss : List Sight) (ps : List (List ℕ)) (n : ℕ) (es : List ℕ) → es ≡ ends_from 0 ps
+pub stream_run : (to : Option View → View → List ℕ → Terminal → Type 0)
+    → ((l : Option View) (v : View) (p : List ℕ) (t : Terminal) → Painted l v p t → to l v p t)
+    → (size : Size) (ss : List Sight) (ps : List (List ℕ)) (n : ℕ) (es : List ℕ) → es ≡ ends_from 0 ps
     → ((t : Terminal) → IsTerminal size.w size.h t → EachPiece Painted t None ss ps) → EachRun to size (take n (joined ps)) ss es
 stream_run to f size ss ps n es e k = let P : List ℕ → Type 0 = λ z. EachRun to size (take n (joined ps)) ss z in
     subst P (sym e) (run_by_pieces to size ss ps n (λ t i. each_map Painted to f t None ss ps (k t i)))
@@ -133,37 +145,52 @@ too_long faults.Failed e = absurd (cc)
 too_long (faults.Bad place kind) e = absurd (cc)
 too_long faults.OutOfMemory e = absurd (cc)
 
-pub bad_at : (place : ℕ) (kind : Rattle.con_units.specs.declared.view.FrameFault.FrameFault) (f : LinkFault) → ends.Bad place kind ≡ end_for f → f ≡ faults.Bad place kind
+pub bad_at : (place : ℕ) (kind : Rattle.con_units.specs.declared.view.FrameFault.FrameFault) (f : LinkFault)
+    → ends.Bad place kind ≡ end_for f → f ≡ faults.Bad place kind
 bad_at place kind (faults.Bad p k) e = cc
 bad_at place kind faults.Failed e = absurd (cc)
 bad_at place kind faults.TooLong e = absurd (cc)
 bad_at place kind faults.OutOfMemory e = absurd (cc)
 
-pub sent_cut : (R : Reading) (frames : List R.One) (es : List Event) (cut : Bool) → cut ≡ true → all_go_on R frames ≡ true → es ≡ map sent_by (R.plains frames) ++ hung cut → IsCutBy R frames es
+pub sent_cut : (R : Reading) (frames : List R.One) (es : List Event) (cut : Bool)
+    → cut ≡ true → all_go_on R frames ≡ true → es ≡ map sent_by (R.plains frames) ++ hung cut → IsCutBy R frames es
 sent_cut R frames es cut c g e = (g, e ∙ ap (λ (z : Bool). map sent_by (R.plains frames) ++ hung z) c)
 
-pub answer_of : (R : Reading) (f g : LinkFault) (n : ℕ) (text : List ℕ) (left : Option (List ℕ)) → f ≡ g → R.answers (Err f) n text left → R.answers (Err g) n text left
+pub answer_of : (R : Reading) (f g : LinkFault) (n : ℕ) (text : List ℕ) (left : Option (List ℕ))
+    → f ≡ g → R.answers (Err f) n text left → R.answers (Err g) n text left
 answer_of R f g n text left e a = let P : LinkFault → Type 0 = λ z. R.answers (Err z) n text left in subst P e a
 
 pub no_cut : (cut failed is : Bool) → (cut ≡ true → (failed ≡ true) ⊎ (is ≡ true)) → failed ≡ false → is ≡ false → cut ≡ false
 no_cut false failed is w f i = refl
 no_cut true failed is w f i = absurd (elim (w refl) [ inl e ↦ let z = sym e ∙ f in cc | inr e ↦ let z = sym e ∙ i in cc ])
 
-pub sent_by_end : (R : Reading) (More : List R.One → List Entry → Type 0) (end : End) (h : List Entry) (side : Side) (failed : Bool) (before left : Option (List ℕ)) (taken : ℕ) (k : LinkBy R More h side failed before left taken) → side.end ≡ end → side.ended ≡ true → failed ≡ false → HasSentBy R end k.frames k.extra left (sent h)
+pub sent_by_end : (R : Reading) (More : List R.One → List Entry → Type 0) (end : End) (h : List Entry) (side : Side) (failed : Bool)
+    (before left : Option (List ℕ)) (taken : ℕ) (k : LinkBy R More h side failed before left taken) → side.end ≡ end → side.ended ≡ true → failed ≡ false
+    → HasSentBy R end k.frames k.extra left (sent h)
 sent_by_end R More ends.Done h side failed before left taken k i e f =
     let c = no_cut k.cut failed (is_cut side.end) (λ x. (k.why x).1) f (ap is_cut i) in
     let w = k.whole c e in
     (w.0, w.1, w.2, k.stands.all' ∙ (ap (λ (z : Bool). map sent_by (R.plains k.frames) ++ hung z) c ∙ append_none (map sent_by (R.plains k.frames))))
 sent_by_end R More ends.Link h side failed before left taken k i e f =
-    let (g, c, j, a) = k.fault (ap is_cut i) in (sent_cut R k.frames (sent h) k.cut c (k.why c).0 k.stands.all', answer_of R g faults.Failed (length (flat_map R.spelling k.frames)) k.extra left (not_failed g (sym i ∙ j)) a)
+    let (g, c, j, a) = k.fault (ap is_cut i) in (
+      sent_cut R k.frames (sent h) k.cut c (k.why c).0 k.stands.all',
+      answer_of R g faults.Failed (length (flat_map R.spelling k.frames)) k.extra left (not_failed g (sym i ∙ j)) a,
+    )
 sent_by_end R More ends.TooLong h side failed before left taken k i e f =
-    let (g, c, j, a) = k.fault (ap is_cut i) in (sent_cut R k.frames (sent h) k.cut c (k.why c).0 k.stands.all', answer_of R g faults.TooLong (length (flat_map R.spelling k.frames)) k.extra left (too_long g (sym i ∙ j)) a)
+    let (g, c, j, a) = k.fault (ap is_cut i) in (
+      sent_cut R k.frames (sent h) k.cut c (k.why c).0 k.stands.all',
+      answer_of R g faults.TooLong (length (flat_map R.spelling k.frames)) k.extra left (too_long g (sym i ∙ j)) a,
+    )
 sent_by_end R More (ends.Bad place kind) h side failed before left taken k i e f =
-    let (g, c, j, a) = k.fault (ap is_cut i) in (sent_cut R k.frames (sent h) k.cut c (k.why c).0 k.stands.all', answer_of R g (faults.Bad place kind) (length (flat_map R.spelling k.frames)) k.extra left (bad_at place kind g (sym i ∙ j)) a)
+    let (g, c, j, a) = k.fault (ap is_cut i) in (
+      sent_cut R k.frames (sent h) k.cut c (k.why c).0 k.stands.all',
+      answer_of R g (faults.Bad place kind) (length (flat_map R.spelling k.frames)) k.extra left (bad_at place kind g (sym i ∙ j)) a,
+    )
 sent_by_end R More ends.Term h side failed before left taken k i e f = tt
 sent_by_end R More ends.Memory h side failed before left taken k i e f = tt
 
-pub link_sent : (R : Reading) (More : List R.One → List Entry → Type 0) (failed : Bool) (h : List Entry) (side : Side) (before left : Option (List ℕ)) (taken : ℕ) (k : LinkBy R More h side failed before left taken) → side.ended ≡ true → HasSentBy R (end_by failed side.end) k.frames k.extra left (sent h)
+pub link_sent : (R : Reading) (More : List R.One → List Entry → Type 0) (failed : Bool) (h : List Entry) (side : Side) (before left : Option (List ℕ))
+    (taken : ℕ) (k : LinkBy R More h side failed before left taken) → side.ended ≡ true → HasSentBy R (end_by failed side.end) k.frames k.extra left (sent h)
 link_sent R More true h side before left taken k e = tt
 link_sent R More false h side before left taken k e = sent_by_end R More side.end h side false before left taken k refl e refl
 
@@ -193,8 +220,10 @@ answered_lost out (x ∷ xs) = (may_lost out x.actor, answered_lost (asks out x)
 -- ---- the whole
 
 -- nobody has anything left to do
-pub leaves_whole_by : (R : Reading) (More Then : List R.One → List Entry → Type 0) (session : Clients) (racks : List (List ℕ)) (f : Option ℕ) (scripts : List Script) (before old : Option (List ℕ)) (m : Moment) → HoldsBy R More (begins session racks f) scripts before old m
-    → ((k : ℕ) → k < length session.scripts → ClientStands (begins session racks f) m.entries (k + 1)) → has_ended false (sent m.entries) ≡ true → HaveAllLeft (begun session racks) m.entries session racks
+pub leaves_whole_by : (R : Reading) (More Then : List R.One → List Entry → Type 0) (session : Clients) (racks : List (List ℕ)) (f : Option ℕ)
+    (scripts : List Script) (before old : Option (List ℕ)) (m : Moment) → HoldsBy R More (begins session racks f) scripts before old m
+    → ((k : ℕ) → k < length session.scripts → ClientStands (begins session racks f) m.entries (k + 1)) → has_ended false (sent m.entries) ≡ true
+    → HaveAllLeft (begun session racks) m.entries session racks
     → (m.failed ≡ false → is_ready (run (begun session racks) m.entries) actors.Painter events.Paint ≡ false)
     → ((fs : List R.One) → More fs m.entries → Then fs m.entries)
     → LeavesBy R Then session racks m.entries m.replies m.ends (end_by m.failed m.side.end) before m.left old m.written
@@ -204,7 +233,8 @@ leaves_whole_by R More Then session racks f scripts before old m k stands ended 
     let end = end_by m.failed m.side.end in
     let w = k.canvas.written in
     let total = last_joined m.ends k.pieces k.canvas.ends' in
-    let count : length m.ends ≡ n = ap (λ (z : List ℕ). length z) k.canvas.ends' ∙ (ends_count 0 k.pieces ∙ painted_count b m.entries session.size m.kept k.pieces k.canvas.stands) in
+    let count : length m.ends ≡ n = ap (λ (z : List ℕ). length z) k.canvas.ends'
+    ∙ (ends_count 0 k.pieces ∙ painted_count b m.entries session.size m.kept k.pieces k.canvas.stands) in
     let F : List Frame → Type 0 = λ z. FollowsLink (is_cut end) z (sent m.entries) in
     let ss = sights_of (begun session racks) m.entries in
     record {
@@ -221,13 +251,15 @@ leaves_whole_by R More Then session racks f scripts before old m k stands ended 
       follows = record {
         actors = k.numbered;
         clients = λ p l i. (each_number session racks f m.entries stands p l i).follows;
-        link = subst F (append_none (R.plains k.link.frames)) (k.link.stands.follows (is_cut end) (cut_at_end k.link.cut m.failed m.side.end (λ c. (k.link.why c).1)) []);
+        link = subst F (append_none (R.plains k.link.frames))
+            (k.link.stands.follows (is_cut end) (cut_at_end k.link.cut m.failed m.side.end (λ c. (k.link.why c).1)) []);
         answered = k.asks.answered (is_lost end) (lost_at_end m.failed m.side.end);
       };
       built = joined k.pieces;
       long = sym total;
       front = (w.count, w.most, w.front);
-      all' = λ i. w.front ∙ ap (λ (x : List ℕ). then_written old x) (ap (λ (c : ℕ). take c (joined k.pieces)) (w.whole (whole_at_end m.failed m.side.end i)) ∙ take_all (joined k.pieces));
+      all' = λ i. w.front ∙ ap (λ (x : List ℕ). then_written old x)
+          (ap (λ (c : ℕ). take c (joined k.pieces)) (w.whole (whole_at_end m.failed m.side.end i)) ∙ take_all (joined k.pieces));
       ends' = λ i. count;
       but_last = inl count;
       shows = λ n. stream_run ShowsView (λ l v p t x. x.shows) session.size ss k.pieces n m.ends k.canvas.ends' k.canvas.stands.each;
@@ -243,9 +275,11 @@ leaves_whole_by R More Then session racks f scripts before old m k stands ended 
     }
 
 -- there was no memory
-pub leaves_stops_by : (R : Reading) (More : List R.One → List Entry → Type 0) (session : Clients) (racks : List (List ℕ)) (f : Option ℕ) (before old left written : Option (List ℕ)) (h : List Entry) (rs : List Reply) (es : List ℕ)
+pub leaves_stops_by : (R : Reading) (More : List R.One → List Entry → Type 0) (session : Clients) (racks : List (List ℕ)) (f : Option ℕ)
+    (before old left written : Option (List ℕ)) (h : List Entry) (rs : List Reply) (es : List ℕ)
     → is_legal (begun session racks) h ≡ true → rs ≡ map listed (replies_of (begun session racks) h) → are_of_session (length session.scripts) h ≡ true
-    → ((k : ℕ) → k < length session.scripts → ClientStands (begins session racks f) h (k + 1)) → LinkEndsBy R More h before left → CanvasEnds (begins session racks f) h session.size es old written
+    → ((k : ℕ) → k < length session.scripts → ClientStands (begins session racks f) h (k + 1)) → LinkEndsBy R More h before left
+    → CanvasEnds (begins session racks f) h session.size es old written
     → LeavesBy R More session racks h rs es ends.Memory before left old written
 leaves_stops_by R More session racks f before old left written h rs es legal answers numbered stands link canvas =
     let w = canvas.written in
@@ -286,7 +320,8 @@ leaves_stops_by R More session racks f before old left written h rs es legal ans
     }
 
 -- there was none to begin with
-pub leaves_none_by : (R : Reading) (More : List R.One → List Entry → Type 0) (session : Clients) (racks : List (List ℕ)) (before old : Option (List ℕ)) → More [] [] → LeavesBy R More session racks [] [] [] ends.Memory before before old old
+pub leaves_none_by : (R : Reading) (More : List R.One → List Entry → Type 0) (session : Clients) (racks : List (List ℕ)) (before old : Option (List ℕ))
+    → More [] [] → LeavesBy R More session racks [] [] [] ends.Memory before before old old
 leaves_none_by R More session racks before old more = record {
   legal = refl;
   replies = refl;
@@ -315,17 +350,23 @@ leaves_none_by R More session racks before old more = record {
 
 -- ---- of a session with no second terminal
 
-pub leaves_whole : (session : Clients) (racks : List (List ℕ)) (f : Option ℕ) (scripts : List Script) (before old : Option (List ℕ)) (m : Moment) → Holds (begins session racks f) scripts before old m
-    → ((k : ℕ) → k < length session.scripts → ClientStands (begins session racks f) m.entries (k + 1)) → has_ended false (sent m.entries) ≡ true → HaveAllLeft (begun session racks) m.entries session racks
+pub leaves_whole : (session : Clients) (racks : List (List ℕ)) (f : Option ℕ) (scripts : List Script) (before old : Option (List ℕ)) (m : Moment)
+    → Holds (begins session racks f) scripts before old m
+    → ((k : ℕ) → k < length session.scripts → ClientStands (begins session racks f) m.entries (k + 1)) → has_ended false (sent m.entries) ≡ true
+    → HaveAllLeft (begun session racks) m.entries session racks
     → (m.failed ≡ false → is_ready (run (begun session racks) m.entries) actors.Painter events.Paint ≡ false)
     → Leaves session racks m.entries m.replies m.ends (end_by m.failed m.side.end) before m.left old m.written
-leaves_whole session racks f scripts before old m k stands ended left idle = leaves_whole_by plainly NoMore NoMore session racks f scripts before old m k stands ended left idle (λ fs x. tt)
+leaves_whole session racks f scripts before old m k stands ended left idle =
+    leaves_whole_by plainly NoMore NoMore session racks f scripts before old m k stands ended left idle (λ fs x. tt)
 
-pub leaves_stops : (session : Clients) (racks : List (List ℕ)) (f : Option ℕ) (before old left written : Option (List ℕ)) (h : List Entry) (rs : List Reply) (es : List ℕ)
+pub leaves_stops : (session : Clients) (racks : List (List ℕ)) (f : Option ℕ) (before old left written : Option (List ℕ))
+    (h : List Entry) (rs : List Reply) (es : List ℕ)
     → is_legal (begun session racks) h ≡ true → rs ≡ map listed (replies_of (begun session racks) h) → are_of_session (length session.scripts) h ≡ true
-    → ((k : ℕ) → k < length session.scripts → ClientStands (begins session racks f) h (k + 1)) → LinkEnds h before left → CanvasEnds (begins session racks f) h session.size es old written
+    → ((k : ℕ) → k < length session.scripts → ClientStands (begins session racks f) h (k + 1)) → LinkEnds h before left
+    → CanvasEnds (begins session racks f) h session.size es old written
     → Leaves session racks h rs es ends.Memory before left old written
-leaves_stops session racks f before old left written h rs es legal answers numbered stands link canvas = leaves_stops_by plainly NoMore session racks f before old left written h rs es legal answers numbered stands link canvas
+leaves_stops session racks f before old left written h rs es legal answers numbered stands link canvas =
+    leaves_stops_by plainly NoMore session racks f before old left written h rs es legal answers numbered stands link canvas
 
 pub leaves_none : (session : Clients) (racks : List (List ℕ)) (before old : Option (List ℕ)) → Leaves session racks [] [] [] ends.Memory before before old old
 leaves_none session racks before old = leaves_none_by plainly NoMore session racks before old tt

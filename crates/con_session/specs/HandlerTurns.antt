@@ -17,7 +17,8 @@ use Rattle.con_session.specs.declared.desk.Brief.{Brief}
 use Rattle.con_session.specs.declared.worker.Worker.{Worker}
 
 -- the client after it, but for its handlers
-pub stepped : (c d : Client) (steps : List Step) (w : Worker) → IsWorker c steps w → w.gone ≡ false → w.leaving ≡ false → d.left ≡ drop 1 c.left → d.reading ≡ c.reading → d.stance ≡ GoesOn → IsWorker d steps (record w { at = w.at + 1 })
+pub stepped : (c d : Client) (steps : List Step) (w : Worker) → IsWorker c steps w → w.gone ≡ false → w.leaving ≡ false → d.left ≡ drop 1 c.left
+    → d.reading ≡ c.reading → d.stance ≡ GoesOn → IsWorker d steps (record w { at = w.at + 1 })
 stepped c d steps w k n l left reading stance = record {
   left = left ∙ (ap (λ (x : List Step). drop 1 x) k.left ∙ drop_one w.at steps);
   reading = reading ∙ k.reading;
@@ -26,17 +27,21 @@ stepped c d steps w k n l left reading stance = record {
 
 -- ---- one that was refused
 
-pub refused_entry : (c : Client) (call : Call) (r : Reply) → is_fail r ≡ true → entered c (events.Call call) r ≡ record c { left = drop 1 c.left; stance = GoesOn }
+pub refused_entry : (c : Client) (call : Call) (r : Reply) → is_fail r ≡ true
+    → entered c (events.Call call) r ≡ record c { left = drop 1 c.left; stance = GoesOn }
 refused_entry c call r e = by (is_fail r) e
   where
-    by : (b : Bool) → b ≡ true → (if b then record c { left = drop 1 c.left; stance = GoesOn } else chained (record c { left = drop 1 c.left; stance = GoesOn }) call) ≡ record c { left = drop 1 c.left; stance = GoesOn }
+    by : (b : Bool) → b ≡ true → (if b then record c { left = drop 1 c.left; stance = GoesOn }
+        else chained (record c { left = drop 1 c.left; stance = GoesOn }) call) ≡ record c { left = drop 1 c.left; stance = GoesOn }
     by true e = refl
     by false e = absurd (cc)
 
-pub granted_entry : (c : Client) (call : Call) (r : Reply) → is_fail r ≡ false → entered c (events.Call call) r ≡ chained (record c { left = drop 1 c.left; stance = GoesOn }) call
+pub granted_entry : (c : Client) (call : Call) (r : Reply) → is_fail r ≡ false
+    → entered c (events.Call call) r ≡ chained (record c { left = drop 1 c.left; stance = GoesOn }) call
 granted_entry c call r e = by (is_fail r) e
   where
-    by : (b : Bool) → b ≡ false → (if b then record c { left = drop 1 c.left; stance = GoesOn } else chained (record c { left = drop 1 c.left; stance = GoesOn }) call) ≡ chained (record c { left = drop 1 c.left; stance = GoesOn }) call
+    by : (b : Bool) → b ≡ false → (if b then record c { left = drop 1 c.left; stance = GoesOn }
+        else chained (record c { left = drop 1 c.left; stance = GoesOn }) call) ≡ chained (record c { left = drop 1 c.left; stance = GoesOn }) call
     by true e = absurd (cc)
     by false e = refl
 
@@ -61,6 +66,7 @@ pub places_without : (hs : List Handler) (place : ℕ) → places_in (without_ha
 places_without [] place = refl
 places_without (h ∷ hs) place = by (not (h.place == place)) (places_without hs place)
   where
-    by : (b : Bool) → places_in (without_handler hs place) ≡ without place (places_in hs) → places_in (if b then h ∷ without_handler hs place else without_handler hs place) ≡ (if b then h.place ∷ without place (places_in hs) else without place (places_in hs))
+    by : (b : Bool) → places_in (without_handler hs place) ≡ without place (places_in hs) → places_in (if b then h ∷ without_handler hs place
+        else without_handler hs place) ≡ (if b then h.place ∷ without place (places_in hs) else without place (places_in hs))
     by true e = ap (λ (xs : List ℕ). h.place ∷ xs) e
     by false e = e

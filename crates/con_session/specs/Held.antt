@@ -44,15 +44,19 @@ abbrev pub HandsStand : {X : Type 0} {V : X → Type 0} → Begun → ℕ → Li
 HandsStand b p h memory hands = HandsStandBy b p h hands.places.items (in_chain memory hands) (in_rack memory hands)
 
 -- a turn of a client with its handlers
-abbrev pub HandsTurn : {X : Type 0} {V : X → Type 0} → Result Bool OutOfMemory → Begun → ℕ → State → State → List Entry → List Entry → List Reply → List Reply → List Step → Worker → Remembers X V → Hands X V → Type 0
-HandsTurn result b p s t h g rs qs steps w memory hands = HandsTurnBy result b p s t h g rs qs steps w hands.places.items (in_chain memory hands) (in_rack memory hands)
+abbrev pub HandsTurn : {X : Type 0} {V : X → Type 0} → Result Bool OutOfMemory → Begun → ℕ → State → State → List Entry → List Entry → List Reply
+    → List Reply → List Step → Worker → Remembers X V → Hands X V → Type 0
+HandsTurn result b p s t h g rs qs steps w memory hands =
+    HandsTurnBy result b p s t h g rs qs steps w hands.places.items (in_chain memory hands) (in_rack memory hands)
 
 -- a turn of a client at a door, with its handlers
-abbrev pub HasTurned : {X : Type 0} {V : X → Type 0} → (List Entry → Type 0) → Result Bool OutOfMemory → Begun → ℕ → List Step → List Entry → List Entry → Worker → Remembers X V → Hands X V → Type 0
+abbrev pub HasTurned : {X : Type 0} {V : X → Type 0} → (List Entry → Type 0) → Result Bool OutOfMemory → Begun → ℕ → List Step → List Entry → List Entry
+    → Worker → Remembers X V → Hands X V → Type 0
 HasTurned May result b p steps h g w memory hands = HasTurnedBy May result b p steps h g w hands.places.items (in_chain memory hands) (in_rack memory hands)
 
 -- whether it took a control event, and asked its handlers
-abbrev pub HasTaken : {X : Type 0} {V : X → Type 0} → (List Entry → Type 0) → Result Bool OutOfMemory → Begun → ℕ → List Step → List Entry → List Entry → Worker → Remembers X V → Hands X V → Type 0
+abbrev pub HasTaken : {X : Type 0} {V : X → Type 0} → (List Entry → Type 0) → Result Bool OutOfMemory → Begun → ℕ → List Step → List Entry → List Entry
+    → Worker → Remembers X V → Hands X V → Type 0
 HasTaken May result b p steps h g w memory hands = HasTakenBy May result b p steps h g w hands.places.items (in_chain memory hands) (in_rack memory hands)
 
 -- ---- all clients
@@ -60,16 +64,20 @@ HasTaken May result b p steps h g w memory hands = HasTakenBy May result b p ste
 -- every client in its seat
 abbrev pub AllStand : {X : Type 0} {V : X → Type 0} → Begun → State → List Entry → List Script → Remembers X V → List (Seat X V) → Type 0
 AllStand b s h scripts memory seats =
-    AllStandBy b s h scripts (map (λ x. x.worker) seats) (map (λ x. x.hands.places.items) seats) (map (λ x. in_chain memory x.hands) seats) (map (λ x. in_rack memory x.hands) seats)
+    AllStandBy b s h scripts (map (λ x. x.worker) seats) (map (λ x. x.hands.places.items) seats) (map (λ x. in_chain memory x.hands) seats)
+    (map (λ x. in_rack memory x.hands) seats)
 
 -- the turns of n clients: whether one of them acted; where there is no memory they may break off
-abbrev pub ClientsTurn : {X : Type 0} {V : X → Type 0} → Result Bool OutOfMemory → Begun → State → State → List Entry → List Entry → List Reply → List Reply → ℕ → List Script → Remembers X V → List (Seat X V) → Type 0
+abbrev pub ClientsTurn : {X : Type 0} {V : X → Type 0} → Result Bool OutOfMemory → Begun → State → State → List Entry → List Entry → List Reply
+    → List Reply → ℕ → List Script → Remembers X V → List (Seat X V) → Type 0
 ClientsTurn result b s t h g rs qs n scripts memory seats =
-    ClientsTurnBy result b s t h g rs qs n scripts (map (λ x. x.worker) seats) (map (λ x. x.hands.places.items) seats) (map (λ x. in_chain memory x.hands) seats) (map (λ x. in_rack memory x.hands) seats)
+    ClientsTurnBy result b s t h g rs qs n scripts (map (λ x. x.worker) seats) (map (λ x. x.hands.places.items) seats)
+    (map (λ x. in_chain memory x.hands) seats) (map (λ x. in_rack memory x.hands) seats)
 
 -- the clients from k + 1 on have entered nothing, each with the rack of its number, if there is one
 abbrev pub AreFresh : {X : Type 0} {V : X → Type 0} → Remembers X V → List (List ℕ) → ℕ → List (Seat X V) → Type 0
-AreFresh memory racks k seats = AreFreshBy (λ x. x.worker) (λ x. x.hands.places.items) (λ x. in_chain memory x.hands) (λ x. in_rack memory x.hands) racks k seats
+AreFresh memory racks k seats =
+    AreFreshBy (λ x. x.worker) (λ x. x.hands.places.items) (λ x. in_chain memory x.hands) (λ x. in_rack memory x.hands) racks k seats
 
 -- what is seen of a session by its stage and its seats; of the link this is left, and to the terminal this was written
 abbrev pub moment : {X : Type 0} {V : X → Type 0} → Remembers X V → Stage → List (Seat X V) → Option (List ℕ) → Option (List ℕ) → Moment

@@ -25,26 +25,33 @@ use Rattle.con_session.specs.Sender.{LinkIs, LinkEnds, LinkTurn, NoMore, SenderT
 use Rattle.con_session.specs.declared.terminal.Side.{Side}
 
 -- another's entry
-pub link_other : (h g : List Entry) (x : Entry) (side : Side) (failed : Bool) (before now : Option (List ℕ)) (taken : ℕ) → g ≡ h ++ x ∷ [] → is_terminal x.actor ≡ false → LinkIs h side failed before now taken → LinkIs g side failed before now taken
+pub link_other : (h g : List Entry) (x : Entry) (side : Side) (failed : Bool) (before now : Option (List ℕ)) (taken : ℕ)
+    → g ≡ h ++ x ∷ [] → is_terminal x.actor ≡ false → LinkIs h side failed before now taken → LinkIs g side failed before now taken
 link_other h g x side failed before now taken e n k = linked_other plainly NoMore h g x side failed before now taken e n (λ fs m. tt) k
 
 -- the terminal has failed
-pub link_failed : (h : List Entry) (side : Side) (failed more : Bool) (before now : Option (List ℕ)) (taken : ℕ) → (failed ≡ true → more ≡ true) → LinkIs h side failed before now taken → LinkIs h side more before now taken
+pub link_failed : (h : List Entry) (side : Side) (failed more : Bool) (before now : Option (List ℕ)) (taken : ℕ)
+    → (failed ≡ true → more ≡ true) → LinkIs h side failed before now taken → LinkIs h side more before now taken
 link_failed h side failed more before now taken i k = linked_failed plainly NoMore NoMore h side failed more before now taken i (λ fs m. tt) k
 
-pub link_hung : (h g : List Entry) (side : Side) (failed : Bool) (before now : Option (List ℕ)) (taken : ℕ) → side.ended ≡ false → failed ≡ true → g ≡ h ++ entry actors.Terminal events.Hangup ∷ [] → LinkIs h side failed before now taken
+pub link_hung : (h g : List Entry) (side : Side) (failed : Bool) (before now : Option (List ℕ)) (taken : ℕ)
+    → side.ended ≡ false → failed ≡ true → g ≡ h ++ entry actors.Terminal events.Hangup ∷ [] → LinkIs h side failed before now taken
     → LinkIs g (record { ended = true; end = side.end }) failed before now taken
 link_hung h g side failed before now taken n f e k = linked_hung plainly NoMore NoMore h g side failed before now taken n f e (λ fs m. tt) k
 
-pub link_frame : (h g : List Entry) (side : Side) (failed : Bool) (before old now : Option (List ℕ)) (taken later : ℕ) (f : Frame) (ended : Bool) → side.ended ≡ false → g ≡ h ++ entry actors.Terminal (sent_by f) ∷ [] → ended ≡ ends_link f
+pub link_frame : (h g : List Entry) (side : Side) (failed : Bool) (before old now : Option (List ℕ)) (taken later : ℕ) (f : Frame) (ended : Bool)
+    → side.ended ≡ false → g ≡ h ++ entry actors.Terminal (sent_by f) ∷ [] → ended ≡ ends_link f
     → ((text : List ℕ) × (old ≡ then_left text now) × (later ≡ taken + length text) × Answers (Ok f) taken text now)
     → LinkIs h side failed before old taken → LinkIs g (record { ended = ended; end = side.end }) failed before now later
-link_frame h g side failed before old now taken later f ended n e d took k = linked_frame plainly NoMore NoMore h g side failed before old now taken later f ended n e d took (λ fs m. tt) k
+link_frame h g side failed before old now taken later f ended n e d took k =
+    linked_frame plainly NoMore NoMore h g side failed before old now taken later f ended n e d took (λ fs m. tt) k
 
-pub link_fault : (h g : List Entry) (side : Side) (failed : Bool) (before old now : Option (List ℕ)) (taken later : ℕ) (f : LinkFault) (end : End) → side.ended ≡ false → g ≡ h ++ entry actors.Terminal events.Hangup ∷ [] → end ≡ end_for f
+pub link_fault : (h g : List Entry) (side : Side) (failed : Bool) (before old now : Option (List ℕ)) (taken later : ℕ) (f : LinkFault) (end : End)
+    → side.ended ≡ false → g ≡ h ++ entry actors.Terminal events.Hangup ∷ [] → end ≡ end_for f
     → ((text : List ℕ) × (old ≡ then_left text now) × (later ≡ taken + length text) × Answers (Err f) taken text now)
     → LinkIs h side failed before old taken → LinkIs g (record { ended = true; end = end }) failed before now later
-link_fault h g side failed before old now taken later f end n e d took k = linked_fault plainly NoMore NoMore h g side failed before old now taken later f end n e d took (λ fs m. tt) k
+link_fault h g side failed before old now taken later f end n e d took k =
+    linked_fault plainly NoMore NoMore h g side failed before old now taken later f end n e d took (λ fs m. tt) k
 
 -- only a failed source ends a session with Link
 pub failed_for : (f : LinkFault) → end_for f ≡ ends.Link → f ≡ faults.Failed
@@ -55,19 +62,25 @@ failed_for faults.OutOfMemory e = absurd (cc)
 
 -- ---- where there is no memory
 
-pub link_stays : (h : List Entry) (side : Side) (failed : Bool) (before now : Option (List ℕ)) (taken : ℕ) → LinkIs h side failed before now taken → LinkEnds h before now
+pub link_stays : (h : List Entry) (side : Side) (failed : Bool) (before now : Option (List ℕ)) (taken : ℕ)
+    → LinkIs h side failed before now taken → LinkEnds h before now
 link_stays h side failed before now taken k = linked_stays plainly NoMore NoMore h side failed before now taken (λ fs m. tt) k
 
 -- what was taken behind the frames
-pub link_stops : (h : List Entry) (side : Side) (failed : Bool) (before old now : Option (List ℕ)) (taken later : ℕ) (r : Result Frame LinkFault) → side.ended ≡ false
-    → ((text : List ℕ) × (old ≡ then_left text now) × (later ≡ taken + length text) × Answers r taken text now) → LinkIs h side failed before old taken → LinkEnds h before now
-link_stops h side failed before old now taken later r n took k = linked_stops plainly NoMore NoMore h side failed before old now taken later r n took (λ fs m. tt) k
+pub link_stops : (h : List Entry) (side : Side) (failed : Bool) (before old now : Option (List ℕ)) (taken later : ℕ) (r : Result Frame LinkFault)
+    → side.ended ≡ false
+    → ((text : List ℕ) × (old ≡ then_left text now) × (later ≡ taken + length text) × Answers r taken text now) → LinkIs h side failed before old taken
+    → LinkEnds h before now
+link_stops h side failed before old now taken later r n took k =
+    linked_stops plainly NoMore NoMore h side failed before old now taken later r n took (λ fs m. tt) k
 
 -- in the place of an answer that is no value
-pub link_err : (h g : List Entry) (side : Side) (failed : Bool) (before now : Option (List ℕ)) (taken : ℕ) (result : Result Bool OutOfMemory) → IsErr result → g ≡ h → LinkEnds h before now → LinkTurn result g side failed before now taken
+pub link_err : (h g : List Entry) (side : Side) (failed : Bool) (before now : Option (List ℕ)) (taken : ℕ) (result : Result Bool OutOfMemory)
+    → IsErr result → g ≡ h → LinkEnds h before now → LinkTurn result g side failed before now taken
 link_err h g side failed before now taken result i e k = linked_err plainly NoMore NoMore h g side failed before now taken result i e k
 
-pub sender_err : (b : Begun) (s t : State) (h g : List Entry) (rs qs : List Reply) (result : Result Bool OutOfMemory) → IsErr result → Rests s t h g rs qs → SenderTurn result b s t h g rs qs
+pub sender_err : (b : Begun) (s t : State) (h g : List Entry) (rs qs : List Reply) (result : Result Bool OutOfMemory)
+    → IsErr result → Rests s t h g rs qs → SenderTurn result b s t h g rs qs
 sender_err b s t h g rs qs (Ok x) i r = absurd (cc)
 sender_err b s t h g rs qs (Err x) i r = r
 

@@ -28,26 +28,58 @@ append_none : {A : Type 0} (xs : List A) → xs ++ [] ≡ xs
 append_none [] = refl
 append_none (x ∷ xs) = ap (λ ys. x ∷ ys) (append_none xs)
 
-open_side : (h : List Entry) (coming : List Frame) (cut ended : Bool) → cut ≡ false → ended ≡ false → SideStands h coming cut ended → SideStands h coming false false
+open_side : (h : List Entry) (coming : List Frame) (cut ended : Bool)
+    → cut ≡ false → ended ≡ false → SideStands h coming cut ended → SideStands h coming false false
 open_side h coming cut ended c e k =
     let P : Bool → Type 0 = λ x. SideStands h coming x ended in let Q : Bool → Type 0 = λ x. SideStands h coming false x in
     subst Q e (subst P c k)
 
 -- another's entry
-pub linked_other : (R : Reading) (More : List R.One → List Entry → Type 0) (h g : List Entry) (x : Entry) (side : Side) (failed : Bool) (before now : Option (List ℕ)) (taken : ℕ) → g ≡ h ++ x ∷ [] → is_terminal x.actor ≡ false
+pub linked_other : (R : Reading) (More : List R.One → List Entry → Type 0) (h g : List Entry) (x : Entry) (side : Side) (failed : Bool)
+    (before now : Option (List ℕ)) (taken : ℕ) → g ≡ h ++ x ∷ [] → is_terminal x.actor ≡ false
     → ((fs : List R.One) → More fs h → More fs g) → LinkBy R More h side failed before now taken → LinkBy R More g side failed before now taken
 linked_other R More h g x side failed before now taken e n m k =
     let P : List Entry → Type 0 = λ z. SideStands z (R.plains k.frames) k.cut side.ended in
-    record { frames = k.frames; extra = k.extra; cut = k.cut; stands = subst P (sym e) (side_other h x (R.plains k.frames) k.cut side.ended n k.stands); frames' = k.frames'; read = k.read; open' = k.open'; place = k.place; why = k.why; fault = k.fault; whole = k.whole; behind = k.behind; more = m k.frames k.more }
+    record {
+      frames = k.frames;
+      extra = k.extra;
+      cut = k.cut;
+      stands = subst P (sym e) (side_other h x (R.plains k.frames) k.cut side.ended n k.stands);
+      frames' = k.frames';
+      read = k.read;
+      open' = k.open';
+      place = k.place;
+      why = k.why;
+      fault = k.fault;
+      whole = k.whole;
+      behind = k.behind;
+      more = m k.frames k.more;
+    }
 
 -- the terminal has failed; and something else is known of the frames
-pub linked_failed : (R : Reading) (More Then : List R.One → List Entry → Type 0) (h : List Entry) (side : Side) (failed later : Bool) (before now : Option (List ℕ)) (taken : ℕ) → (failed ≡ true → later ≡ true)
+pub linked_failed : (R : Reading) (More Then : List R.One → List Entry → Type 0) (h : List Entry) (side : Side) (failed later : Bool)
+    (before now : Option (List ℕ)) (taken : ℕ) → (failed ≡ true → later ≡ true)
     → ((fs : List R.One) → More fs h → Then fs h) → LinkBy R More h side failed before now taken → LinkBy R Then h side later before now taken
 linked_failed R More Then h side failed later before now taken i m k =
-    record { frames = k.frames; extra = k.extra; cut = k.cut; stands = k.stands; frames' = k.frames'; read = k.read; open' = k.open'; place = k.place; why = λ c. ((k.why c).0, elim (k.why c).1 [ inl e ↦ inl (i e) | inr e ↦ inr e ]); fault = k.fault; whole = k.whole; behind = k.behind; more = m k.frames k.more }
+    record {
+      frames = k.frames;
+      extra = k.extra;
+      cut = k.cut;
+      stands = k.stands;
+      frames' = k.frames';
+      read = k.read;
+      open' = k.open';
+      place = k.place;
+      why = λ c. ((k.why c).0, elim (k.why c).1 [ inl e ↦ inl (i e) | inr e ↦ inr e ]);
+      fault = k.fault;
+      whole = k.whole;
+      behind = k.behind;
+      more = m k.frames k.more;
+    }
 
 -- another's entry, behind which something else is known of the frames
-pub linked_paint : (R : Reading) (More Then : List R.One → List Entry → Type 0) (h g : List Entry) (x : Entry) (side : Side) (failed later : Bool) (before now : Option (List ℕ)) (taken : ℕ) → g ≡ h ++ x ∷ [] → is_terminal x.actor ≡ false → (failed ≡ true → later ≡ true)
+pub linked_paint : (R : Reading) (More Then : List R.One → List Entry → Type 0) (h g : List Entry) (x : Entry) (side : Side) (failed later : Bool)
+    (before now : Option (List ℕ)) (taken : ℕ) → g ≡ h ++ x ∷ [] → is_terminal x.actor ≡ false → (failed ≡ true → later ≡ true)
     → ((fs : List R.One) → More fs h → Then fs g) → LinkBy R More h side failed before now taken → LinkBy R Then g side later before now taken
 linked_paint R More Then h g x side failed later before now taken e n i m k =
     let Was : List R.One → List Entry → Type 0 = λ fs z. More fs h in
@@ -55,8 +87,10 @@ linked_paint R More Then h g x side failed later before now taken e n i m k =
     linked_failed R Was Then g side failed later before now taken i m (linked_other R Was h g x side failed before now taken e n (λ fs q. q) still)
 
 -- the hangup where the terminal has failed
-pub linked_hung : (R : Reading) (More Then : List R.One → List Entry → Type 0) (h g : List Entry) (side : Side) (failed : Bool) (before now : Option (List ℕ)) (taken : ℕ) → side.ended ≡ false → failed ≡ true → g ≡ h ++ entry actors.Terminal events.Hangup ∷ []
-    → ((fs : List R.One) → More fs h → Then fs g) → LinkBy R More h side failed before now taken → LinkBy R Then g (record { ended = true; end = side.end }) failed before now taken
+pub linked_hung : (R : Reading) (More Then : List R.One → List Entry → Type 0) (h g : List Entry) (side : Side) (failed : Bool)
+    (before now : Option (List ℕ)) (taken : ℕ) → side.ended ≡ false → failed ≡ true → g ≡ h ++ entry actors.Terminal events.Hangup ∷ []
+    → ((fs : List R.One) → More fs h → Then fs g) → LinkBy R More h side failed before now taken
+    → LinkBy R Then g (record { ended = true; end = side.end }) failed before now taken
 linked_hung R More Then h g side failed before now taken n f e m k =
     let p = k.place n in
     let P : List Entry → Type 0 = λ z. SideStands z (R.plains k.frames) true true in
@@ -83,7 +117,9 @@ spelled_more : {A : Type 0} (spell : A → List ℕ) (fs : List A) (f : A) → f
 spelled_more spell fs f = flat_map-append spell fs (f ∷ []) ∙ ap (λ (x : List ℕ). flat_map spell fs ++ x) (append_none (spell f))
 
 -- a frame that was read
-pub linked_frame : (R : Reading) (More Then : List R.One → List Entry → Type 0) (h g : List Entry) (side : Side) (failed : Bool) (before old now : Option (List ℕ)) (taken later : ℕ) (f : R.One) (ended : Bool) → side.ended ≡ false → g ≡ h ++ entry actors.Terminal (sent_by (R.plain f)) ∷ [] → ended ≡ ends_link (R.plain f)
+pub linked_frame : (R : Reading) (More Then : List R.One → List Entry → Type 0) (h g : List Entry) (side : Side)
+    (failed : Bool) (before old now : Option (List ℕ)) (taken later : ℕ) (f : R.One) (ended : Bool)
+    → side.ended ≡ false → g ≡ h ++ entry actors.Terminal (sent_by (R.plain f)) ∷ [] → ended ≡ ends_link (R.plain f)
     → ((text : List ℕ) × (old ≡ then_left text now) × (later ≡ taken + length text) × R.answers (Ok f) taken text now)
     → ((fs : List R.One) → More fs h → Then (fs ++ f ∷ []) g)
     → LinkBy R More h side failed before old taken → LinkBy R Then g (record { ended = ended; end = side.end }) failed before now later
@@ -100,14 +136,27 @@ linked_frame R More Then h g side failed before old now taken later f ended n e 
       frames = k.frames ++ f ∷ [];
       extra = [];
       cut = false;
-      stands = subst P (sym e) (subst Q (sym d) (subst S (sym (R.more k.frames f)) (side_frame h (R.plains k.frames) (R.plain f) (open_side h (R.plains k.frames) k.cut side.ended p.2 n k.stands))));
+      stands = subst P (sym e) (subst Q (sym d)
+          (subst S (sym (R.more k.frames f)) (side_frame h (R.plains k.frames) (R.plain f) (open_side h (R.plains k.frames) k.cut side.ended p.2 n k.stands))));
       frames' = all_more R.is_one k.frames f k.frames' a.1;
       open' = λ x. all_more (λ z. goes_on (R.plain z)) k.frames f (k.open' n) (ap not (sym d ∙ x));
-      read = then_left-more spelt text before old now was l ∙ ap (λ (x : List ℕ). then_left x now) (sym now' ∙ sym (append_none (flat_map R.spelling (k.frames ++ f ∷ []))));
-      place = λ x. (refl, c ∙ (ap (λ (y : ℕ). y + length text) p.1 ∙ (sym (length-append spelt text) ∙ ap length (sym now'))), refl, let b : taken + length text ≤ 16777216 = a.3 in let P' : ℕ → Type 0 = λ y. y ≤ 16777216 in subst P' (sym c) b, p.4);
+      read = then_left-more spelt text before old now was l
+          ∙ ap (λ (x : List ℕ). then_left x now) (sym now' ∙ sym (append_none (flat_map R.spelling (k.frames ++ f ∷ []))));
+      place = λ x. (
+        refl,
+        c ∙ (ap (λ (y : ℕ). y + length text) p.1 ∙ (sym (length-append spelt text) ∙ ap length (sym now'))),
+        refl,
+        let b : taken + length text ≤ 16777216 = a.3 in let P' : ℕ → Type 0 = λ y. y ≤ 16777216 in subst P' (sym c) b,
+        p.4,
+      );
       why = λ x. absurd (cc);
       fault = λ x. absurd (let y : is_cut side.end ≡ false = p.4 in cc);
-      whole = λ x y. ((k.frames, f, refl, k.open' n, sym d ∙ y, a.2), refl, let b : taken + length text ≤ 16777216 = a.3 in let P' : ℕ → Type 0 = λ z. z ≤ 16777216 in subst P' (ap (λ (z : ℕ). z + length text) p.1 ∙ (sym (length-append spelt text) ∙ ap length (sym now'))) b);
+      whole = λ x y. (
+        (k.frames, f, refl, k.open' n, sym d ∙ y, a.2),
+        refl,
+        let b : taken + length text ≤ 16777216 = a.3 in let P' : ℕ → Type 0 = λ z.
+            z ≤ 16777216 in subst P' (ap (λ (z : ℕ). z + length text) p.1 ∙ (sym (length-append spelt text) ∙ ap length (sym now'))) b,
+      );
       behind = inl refl;
       more = m k.frames k.more;
     }
@@ -119,7 +168,9 @@ cut_for (faults.Bad place kind) = refl
 cut_for faults.OutOfMemory = refl
 
 -- a fault that showed
-pub linked_fault : (R : Reading) (More Then : List R.One → List Entry → Type 0) (h g : List Entry) (side : Side) (failed : Bool) (before old now : Option (List ℕ)) (taken later : ℕ) (f : LinkFault) (end : End) → side.ended ≡ false → g ≡ h ++ entry actors.Terminal events.Hangup ∷ [] → end ≡ end_for f
+pub linked_fault : (R : Reading) (More Then : List R.One → List Entry → Type 0) (h g : List Entry) (side : Side)
+    (failed : Bool) (before old now : Option (List ℕ)) (taken later : ℕ) (f : LinkFault) (end : End)
+    → side.ended ≡ false → g ≡ h ++ entry actors.Terminal events.Hangup ∷ [] → end ≡ end_for f
     → ((text : List ℕ) × (old ≡ then_left text now) × (later ≡ taken + length text) × R.answers (Err f) taken text now)
     → ((fs : List R.One) → More fs h → Then fs g)
     → LinkBy R More h side failed before old taken → LinkBy R Then g (record { ended = true; end = end }) failed before now later
@@ -147,16 +198,19 @@ linked_fault R More Then h g side failed before old now taken later f end n e d 
 
 -- ---- where there is no memory
 
-going_by : (R : Reading) (ended cut : Bool) (frames : List R.One) (now : Option (List ℕ)) → (ended ≡ false → all_go_on R frames ≡ true) → (cut ≡ true → all_go_on R frames ≡ true) → (cut ≡ false → ended ≡ true → IsLinkBy R frames now)
+going_by : (R : Reading) (ended cut : Bool) (frames : List R.One) (now : Option (List ℕ))
+    → (ended ≡ false → all_go_on R frames ≡ true) → (cut ≡ true → all_go_on R frames ≡ true) → (cut ≡ false → ended ≡ true → IsLinkBy R frames now)
     → (all_go_on R frames ≡ true) ⊎ IsLinkBy R frames now
 going_by R false cut frames now o w i = inl (o refl)
 going_by R true true frames now o w i = inl (w refl)
 going_by R true false frames now o w i = inr (i refl refl)
 
-pub linked_going : (R : Reading) (More : List R.One → List Entry → Type 0) (h : List Entry) (side : Side) (failed : Bool) (before now : Option (List ℕ)) (taken : ℕ) (k : LinkBy R More h side failed before now taken) → (all_go_on R k.frames ≡ true) ⊎ IsLinkBy R k.frames now
+pub linked_going : (R : Reading) (More : List R.One → List Entry → Type 0) (h : List Entry) (side : Side) (failed : Bool) (before now : Option (List ℕ))
+    (taken : ℕ) (k : LinkBy R More h side failed before now taken) → (all_go_on R k.frames ≡ true) ⊎ IsLinkBy R k.frames now
 linked_going R More h side failed before now taken k = going_by R side.ended k.cut k.frames now k.open' (λ c. (k.why c).0) (λ c e. (k.whole c e).0)
 
-pub linked_stays : (R : Reading) (More Then : List R.One → List Entry → Type 0) (h : List Entry) (side : Side) (failed : Bool) (before now : Option (List ℕ)) (taken : ℕ) → ((fs : List R.One) → More fs h → Then fs h)
+pub linked_stays : (R : Reading) (More Then : List R.One → List Entry → Type 0) (h : List Entry) (side : Side) (failed : Bool)
+    (before now : Option (List ℕ)) (taken : ℕ) → ((fs : List R.One) → More fs h → Then fs h)
     → LinkBy R More h side failed before now taken → LinkEndsBy R Then h before now
 linked_stays R More Then h side failed before now taken m k = record {
   frames = k.frames;
@@ -172,11 +226,14 @@ linked_stays R More Then h side failed before now taken m k = record {
 }
 
 -- what was taken behind the frames
-pub linked_stops : (R : Reading) (More Then : List R.One → List Entry → Type 0) (h : List Entry) (side : Side) (failed : Bool) (before old now : Option (List ℕ)) (taken later : ℕ) (r : Result R.One LinkFault) → side.ended ≡ false
-    → ((text : List ℕ) × (old ≡ then_left text now) × (later ≡ taken + length text) × R.answers r taken text now) → ((fs : List R.One) → More fs h → Then fs h) → LinkBy R More h side failed before old taken → LinkEndsBy R Then h before now
+pub linked_stops : (R : Reading) (More Then : List R.One → List Entry → Type 0) (h : List Entry) (side : Side) (failed : Bool)
+    (before old now : Option (List ℕ)) (taken later : ℕ) (r : Result R.One LinkFault) → side.ended ≡ false
+    → ((text : List ℕ) × (old ≡ then_left text now) × (later ≡ taken + length text) × R.answers r taken text now)
+    → ((fs : List R.One) → More fs h → Then fs h) → LinkBy R More h side failed before old taken → LinkEndsBy R Then h before now
 linked_stops R More Then h side failed before old now taken later r n (text, l, c, a) m k =
     let spelt = flat_map R.spelling k.frames in
-    let was : before ≡ then_left spelt old = k.read ∙ ap (λ (x : List ℕ). then_left x old) (ap (λ (x : List ℕ). spelt ++ x) (k.place n).0 ∙ append_none spelt) in
+    let was : before ≡ then_left spelt old =
+    k.read ∙ ap (λ (x : List ℕ). then_left x old) (ap (λ (x : List ℕ). spelt ++ x) (k.place n).0 ∙ append_none spelt) in
     let Q : ℕ → Type 0 = λ x. R.answers r x text now in
     record {
       frames = k.frames;
@@ -192,7 +249,8 @@ linked_stops R More Then h side failed before old now taken later r n (text, l, 
     }
 
 -- in the place of an answer that is no value
-pub linked_err : (R : Reading) (More Then : List R.One → List Entry → Type 0) (h g : List Entry) (side : Side) (failed : Bool) (before now : Option (List ℕ)) (taken : ℕ) (result : Result Bool OutOfMemory) → IsErr result → g ≡ h → LinkEndsBy R Then h before now
+pub linked_err : (R : Reading) (More Then : List R.One → List Entry → Type 0) (h g : List Entry) (side : Side) (failed : Bool)
+    (before now : Option (List ℕ)) (taken : ℕ) (result : Result Bool OutOfMemory) → IsErr result → g ≡ h → LinkEndsBy R Then h before now
     → LinkTurnBy R More Then result g side failed before now taken
 linked_err R More Then h g side failed before now taken (Ok x) i e k = absurd (cc)
 linked_err R More Then h g side failed before now taken (Err x) i e k = let P : List Entry → Type 0 = λ z. LinkEndsBy R Then z before now in subst P (sym e) k

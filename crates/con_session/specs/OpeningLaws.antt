@@ -35,8 +35,10 @@ use Rattle.con_session.specs.declared.worker.Worker.{Worker}
 -- ---- clients that have entered nothing
 
 -- one more
-pub fresh_more : {A : Type 0} (worker : A → Worker) (places : A → List ℕ) (mems : A → List Memory) (slots : A → List ℕ) (racks : List (List ℕ)) (k : ℕ) (xs : List A) (x : A) → AreFreshBy worker places mems slots racks k xs
-    → worker x ≡ fresh → ((b : Begun) (p : ℕ) → kinds_of b.racks p ≡ get_or racks (k + length xs) [] → HandsStandBy b p [] (places x) (mems x) (slots x)) → AreFreshBy worker places mems slots racks k (xs ++ x ∷ [])
+pub fresh_more : {A : Type 0} (worker : A → Worker) (places : A → List ℕ) (mems : A → List Memory) (slots : A → List ℕ) (racks : List (List ℕ)) (k : ℕ)
+    (xs : List A) (x : A) → AreFreshBy worker places mems slots racks k xs
+    → worker x ≡ fresh → ((b : Begun) (p : ℕ) → kinds_of b.racks p ≡ get_or racks (k + length xs) [] → HandsStandBy b p [] (places x) (mems x) (slots x))
+    → AreFreshBy worker places mems slots racks k (xs ++ x ∷ [])
 fresh_more worker places mems slots racks k [] x f w h =
     let P : ℕ → Type 0 = λ z. (b : Begun) (p : ℕ) → kinds_of b.racks p ≡ get_or racks z [] → HandsStandBy b p [] (places x) (mems x) (slots x) in
     (w, subst P (let e : k + 0 ≡ k = omega arith in e) h, tt)
@@ -45,15 +47,18 @@ fresh_more worker places mems slots racks k (y ∷ ys) x (u, v, f) w h =
     (u, v, fresh_more worker places mems slots racks (k + 1) ys x f w (subst P (let e : k + suc (length ys) ≡ k + 1 + length ys = omega arith in e) h))
 
 -- the first of them
-pub fresh_take : {A : Type 0} (worker : A → Worker) (places : A → List ℕ) (mems : A → List Memory) (slots : A → List ℕ) (racks : List (List ℕ)) (k : ℕ) (xs : List A) (n : ℕ) → AreFreshBy worker places mems slots racks k xs → AreFreshBy worker places mems slots racks k (take n xs)
+pub fresh_take : {A : Type 0} (worker : A → Worker) (places : A → List ℕ) (mems : A → List Memory) (slots : A → List ℕ) (racks : List (List ℕ)) (k : ℕ)
+    (xs : List A) (n : ℕ) → AreFreshBy worker places mems slots racks k xs → AreFreshBy worker places mems slots racks k (take n xs)
 fresh_take worker places mems slots racks k [] zero f = tt
 fresh_take worker places mems slots racks k [] (suc n) f = tt
 fresh_take worker places mems slots racks k (x ∷ xs) zero f = tt
 fresh_take worker places mems slots racks k (x ∷ xs) (suc n) (u, v, f) = (u, v, fresh_take worker places mems slots racks (k + 1) xs n f)
 
 -- each of them
-pub fresh_at : {A : Type 0} (worker : A → Worker) (places : A → List ℕ) (mems : A → List Memory) (slots : A → List ℕ) (racks : List (List ℕ)) (k : ℕ) (xs : List A) → AreFreshBy worker places mems slots racks k xs
-    → (j : ℕ) (w : Worker) (ps : List ℕ) (m : List Memory) (ys : List ℕ) → slice_get (map worker xs) j ≡ Some w → slice_get (map places xs) j ≡ Some ps → slice_get (map mems xs) j ≡ Some m → slice_get (map slots xs) j ≡ Some ys
+pub fresh_at : {A : Type 0} (worker : A → Worker) (places : A → List ℕ) (mems : A → List Memory) (slots : A → List ℕ) (racks : List (List ℕ)) (k : ℕ)
+    (xs : List A) → AreFreshBy worker places mems slots racks k xs
+    → (j : ℕ) (w : Worker) (ps : List ℕ) (m : List Memory) (ys : List ℕ) → slice_get (map worker xs) j ≡ Some w → slice_get (map places xs) j ≡ Some ps
+    → slice_get (map mems xs) j ≡ Some m → slice_get (map slots xs) j ≡ Some ys
     → (w ≡ fresh) × ((b : Begun) (p : ℕ) → kinds_of b.racks p ≡ get_or racks (k + j) [] → HandsStandBy b p [] ps m ys)
 fresh_at worker places mems slots racks k [] f j w ps m ys a b c d = absurd (cc)
 fresh_at worker places mems slots racks k (x ∷ xs) (u, v, f) zero w ps m ys a b c d =
@@ -72,7 +77,8 @@ fresh_at worker places mems slots racks k (x ∷ xs) (u, v, f) (suc j) w ps m ys
 
 pub sizes_same : {A B : Type 0} (f : A → List B) (g : B → ℕ) (xs : List A) → map (λ ys. length ys) (map (λ x. map g (f x)) xs) ≡ map (λ x. length (f x)) xs
 sizes_same f g [] = refl
-sizes_same f g (x ∷ xs) = ap (λ (n : ℕ). n ∷ map (λ ys. length ys) (map (λ x. map g (f x)) xs)) (length_map g (f x)) ∙ ap (λ (ns : List ℕ). length (f x) ∷ ns) (sizes_same f g xs)
+sizes_same f g (x ∷ xs) = ap (λ (n : ℕ). n ∷ map (λ ys. length ys) (map (λ x. map g (f x)) xs)) (length_map g (f x))
+    ∙ ap (λ (ns : List ℕ). length (f x) ∷ ns) (sizes_same f g xs)
   where
     length_map : {C : Type 0} (h : C → ℕ) (ys : List C) → length (map h ys) ≡ length ys
     length_map h [] = refl
@@ -83,7 +89,8 @@ sizes_same f g (x ∷ xs) = ap (λ (n : ℕ). n ∷ map (λ ys. length ys) (map 
 one_of : (n k : ℕ) → k < n → (nat_lt 0 (k + 1) && nat_le (k + 1) n) ≡ true
 one_of n k l = grind (arith, nat_tests)
 
-pub opens_stands : (session : Clients) (racks : List (List ℕ)) (f : Option ℕ) (k : ℕ) → k < length session.scripts → ClientStands (begins session racks f) [] (k + 1)
+pub opens_stands : (session : Clients) (racks : List (List ℕ)) (f : Option ℕ) (k : ℕ) → k < length session.scripts
+    → ClientStands (begins session racks f) [] (k + 1)
 opens_stands session racks f k l =
     let o = opens session racks in
     record {
@@ -94,15 +101,21 @@ opens_stands session racks f k l =
       pending = λ e. absurd (cc);
     }
 
-pub seated_fresh : (session : Clients) (racks : List (List ℕ)) (f : Option ℕ) (k : ℕ) (script : Script) (w : Worker) (places : List ℕ) (ms : List Memory) (slots : List ℕ) → k < length session.scripts → slice_get session.scripts k ≡ Some script → w ≡ fresh
-    → ((b : Begun) (p : ℕ) → kinds_of b.racks p ≡ get_or racks (0 + k) [] → HandsStandBy b p [] places ms slots) → Seated (begins session racks f) k (begun session racks) [] script w places ms slots
+pub seated_fresh : (session : Clients) (racks : List (List ℕ)) (f : Option ℕ) (k : ℕ) (script : Script) (w : Worker) (places : List ℕ)
+    (ms : List Memory) (slots : List ℕ) → k < length session.scripts → slice_get session.scripts k ≡ Some script → w ≡ fresh
+    → ((b : Begun) (p : ℕ) → kinds_of b.racks p ≡ get_or racks (0 + k) [] → HandsStandBy b p [] places ms slots)
+    → Seated (begins session racks f) k (begun session racks) [] script w places ms slots
 seated_fresh session racks f k script w places ms slots l e i hands =
     let b = begins session racks f in
     let n : k + 1 - 1 ≡ k = omega arith in
     let steps : steps_of session (k + 1) ≡ script.steps = ap (λ (z : ℕ). steps_in (slice_get session.scripts z)) n ∙ ap steps_in e in
     let W : Worker → Type 0 = λ z. IsWorker (client_at b [] (k + 1)) script.steps z in
     record {
-      is = record { state = refl; stands = opens_stands session racks f k l; worker = subst W (sym i) (record { left = steps; reading = refl; stance = (refl, refl) }) };
+      is = record {
+        state = refl;
+        stands = opens_stands session racks f k l;
+        worker = subst W (sym i) (record { left = steps; reading = refl; stance = (refl, refl) });
+      };
       hands = hands b (k + 1) (ap (λ (z : ℕ). get_or racks z []) (let z : k + 1 - 1 ≡ 0 + k = omega arith in z));
     }
 
@@ -111,13 +124,15 @@ get_below [] k x e = absurd (cc)
 get_below (y ∷ ys) zero x e = omega arith
 get_below (y ∷ ys) (suc k) x e = let l = get_below ys k x e in omega arith
 
-pub all_fresh : {A : Type 0} (worker : A → Worker) (places : A → List ℕ) (mems : A → List Memory) (slots : A → List ℕ) (session : Clients) (racks : List (List ℕ)) (f : Option ℕ) (seats : List A) → AreFreshBy worker places mems slots racks 0 seats
+pub all_fresh : {A : Type 0} (worker : A → Worker) (places : A → List ℕ) (mems : A → List Memory) (slots : A → List ℕ) (session : Clients)
+    (racks : List (List ℕ)) (f : Option ℕ) (seats : List A) → AreFreshBy worker places mems slots racks 0 seats
     → AllStandBy (begins session racks f) (begun session racks) [] session.scripts (map worker seats) (map places seats) (map mems seats) (map slots seats)
 all_fresh worker places mems slots session racks f seats are = λ k script w xs m ys e a b c d.
     let q = fresh_at worker places mems slots racks 0 seats are k w xs m ys a b c d in
     seated_fresh session racks f k script w xs m ys (get_below session.scripts k script e) e q.0 q.1
 
-pub open_link_by : (R : Reading) (More : List R.One → List Entry → Type 0) (before : Option (List ℕ)) (failed : Bool) → More [] [] → LinkBy R More [] (record { ended = false; end = ends.Done }) failed before before 0
+pub open_link_by : (R : Reading) (More : List R.One → List Entry → Type 0) (before : Option (List ℕ)) (failed : Bool) → More [] []
+    → LinkBy R More [] (record { ended = false; end = ends.Done }) failed before before 0
 open_link_by R More before failed more =
     let P : List Frame → Type 0 = λ z. SideStands [] z false false in
     record {
@@ -139,7 +154,8 @@ open_link_by R More before failed more =
 pub open_link : (before : Option (List ℕ)) (failed : Bool) → LinkIs [] (record { ended = false; end = ends.Done }) failed before before 0
 open_link before failed = open_link_by plainly NoMore before failed tt
 
-pub open_canvas : (session : Clients) (racks : List (List ℕ)) (f : Option ℕ) (kept : Kept) (old : Option (List ℕ)) (failed : Bool) → CanvasIs (begins session racks f) [] session.size kept [] [] 0 old old failed
+pub open_canvas : (session : Clients) (racks : List (List ℕ)) (f : Option ℕ) (kept : Kept) (old : Option (List ℕ)) (failed : Bool)
+    → CanvasIs (begins session racks f) [] session.size kept [] [] 0 old old failed
 open_canvas session racks f kept old failed =
     let o = opens session racks in
     let s = begun session racks in
@@ -150,7 +166,8 @@ open_canvas session racks f kept old failed =
         reach = λ t i u l r. record {
           fresh = λ e. (
             let P : Terminal → Type 0 = λ z. IsTerminal s.buffers.w s.buffers.h z in subst P (sym r.0)
-                (let W : ℕ → Type 0 = λ z. IsTerminal z s.buffers.h t in let H : ℕ → Type 0 = λ z. IsTerminal session.size.w z t in subst W (sym o.wide) (subst H (sym o.high) i)),
+                (let W : ℕ → Type 0 = λ z. IsTerminal z s.buffers.h t in let H : ℕ → Type 0 = λ z. IsTerminal session.size.w z t in
+                subst W (sym o.wide) (subst H (sym o.high) i)),
             r.1,
           );
           allowed = λ e. absurd (let z = sym o.fresh ∙ e in cc);
@@ -184,9 +201,11 @@ moment_of s h rs ws places ms slots side taken left kept es end failed written =
 }
 
 -- a session begins
-pub opens_goes : {A : Type 0} (R : Reading) (More : List R.One → List Entry → Type 0) (worker : A → Worker) (places : A → List ℕ) (mems : A → List Memory) (slots : A → List ℕ) (session : Clients) (racks : List (List ℕ)) (f : Option ℕ) (before old : Option (List ℕ)) (seats : List A) (kept : Kept) (s : State)
+pub opens_goes : {A : Type 0} (R : Reading) (More : List R.One → List Entry → Type 0) (worker : A → Worker) (places : A → List ℕ) (mems : A → List Memory)
+    (slots : A → List ℕ) (session : Clients) (racks : List (List ℕ)) (f : Option ℕ) (before old : Option (List ℕ)) (seats : List A) (kept : Kept) (s : State)
     → s ≡ begun session racks → AreFreshBy worker places mems slots racks 0 seats → More [] []
-    → GoesBy R More (begins session racks f) session.scripts before old (moment_of s [] [] (map worker seats) (map places seats) (map mems seats) (map slots seats)
+    → GoesBy R More (begins session racks f) session.scripts before old
+    (moment_of s [] [] (map worker seats) (map places seats) (map mems seats) (map slots seats)
     (record { ended = false; end = ends.Done }) 0 before kept [] 0 false old)
 opens_goes R More worker places mems slots session racks f before old seats kept s e are more =
     let b = begins session racks f in
@@ -210,16 +229,20 @@ opens_goes R More worker places mems slots session racks f before old seats kept
 
 -- ---- what a round needs
 
-pub goes_taken : (R : Reading) (More : List R.One → List Entry → Type 0) (b : Begun) (scripts : List Script) (before old : Option (List ℕ)) (m : Moment) → GoesBy R More b scripts before old m → m.side.ended ≡ false → m.taken ≤ 16777216
+pub goes_taken : (R : Reading) (More : List R.One → List Entry → Type 0) (b : Begun) (scripts : List Script) (before old : Option (List ℕ)) (m : Moment)
+    → GoesBy R More b scripts before old m → m.side.ended ≡ false → m.taken ≤ 16777216
 goes_taken R More b scripts before old m k e = (k.holds.link.place e).3
 
-pub goes_tied : (R : Reading) (More : List R.One → List Entry → Type 0) (b : Begun) (scripts : List Script) (before old : Option (List ℕ)) (m : Moment) → GoesBy R More b scripts before old m → IsTied m.state m.kept
+pub goes_tied : (R : Reading) (More : List R.One → List Entry → Type 0) (b : Begun) (scripts : List Script) (before old : Option (List ℕ)) (m : Moment)
+    → GoesBy R More b scripts before old m → IsTied m.state m.kept
 goes_tied R More b scripts before old m k =
     let i = k.holds.stands.state in
-    let now : is_fresh m.state ≡ false → KeepsView (run b.state m.entries) m.kept = λ e. k.holds.canvas.stands.keeps (ap (λ (z : State). is_fresh z) (sym i) ∙ e) in
+    let now : is_fresh m.state ≡ false → KeepsView (run b.state m.entries) m.kept =
+    λ e. k.holds.canvas.stands.keeps (ap (λ (z : State). is_fresh z) (sym i) ∙ e) in
     record {
       known = λ e. (now e).known;
-      cells = λ e. ap (λ (z : State). option_map (λ v. v.rows) z.painted) i ∙ (ap (λ (o : Option View). option_map (λ v. v.rows) o) (now e).painted' ∙ ap (λ (c : _). Some c) (sym (now e).cells));
+      cells = λ e. ap (λ (z : State). option_map (λ v. v.rows) z.painted) i
+          ∙ (ap (λ (o : Option View). option_map (λ v. v.rows) o) (now e).painted' ∙ ap (λ (c : _). Some c) (sym (now e).cells));
       wide = λ e. (now e).wide ∙ ap (λ (z : State). z.buffers.w) (sym i);
       high = λ e. (now e).high ∙ ap (λ (z : State). z.buffers.h) (sym i);
     }
@@ -236,12 +259,14 @@ get_map f [] k x e = absurd (cc)
 get_map f (y ∷ ys) zero x e = let q : y ≡ x = cc in ap (λ (z : _). Some (f z)) q
 get_map f (y ∷ ys) (suc k) x e = get_map f ys k x e
 
-pub all_follow : {A : Type 0} (worker : A → Worker) (places : A → List ℕ) (mems : A → List Memory) (slots : A → List ℕ) (scripts : List Script) (seats : List A) → length scripts ≡ length seats → (b : Begun) (s : State) (h : List Entry)
+pub all_follow : {A : Type 0} (worker : A → Worker) (places : A → List ℕ) (mems : A → List Memory) (slots : A → List ℕ) (scripts : List Script) (seats : List A)
+    → length scripts ≡ length seats → (b : Begun) (s : State) (h : List Entry)
     → AllStandBy b s h scripts (map worker seats) (map places seats) (map mems seats) (map slots seats) → AllFollow b h (length scripts)
 all_follow worker places mems slots scripts seats e b s h all = λ k l.
     let (script, i) = some_at scripts k l in
     let (x, j) = some_at seats k (omega (arith, e)) in
-    (all k script (worker x) (places x) (mems x) (slots x) i (get_map worker seats k x j) (get_map places seats k x j) (get_map mems seats k x j) (get_map slots seats k x j)).is.stands
+    (all k script (worker x) (places x) (mems x) (slots x) i (get_map worker seats k x j) (get_map places seats k x j) (get_map mems seats k x j)
+    (get_map slots seats k x j)).is.stands
 
 -- ---- racks
 
@@ -249,7 +274,8 @@ pub told_at : {A : Type 0} (f : A → List ℕ) (n : ℕ) (xs : List A) (x : A) 
 told_at f zero [] x rest e = absurd (cc)
 told_at f zero (y ∷ ys) x rest e = let q : x ≡ y = cc in ap f (sym q)
 told_at f (suc n) [] x rest e = absurd (cc)
-told_at f (suc n) (y ∷ ys) x rest e = ap (λ (z : ℕ). get_or (map f (y ∷ ys)) z []) (let q : 0 + suc n ≡ suc n = omega arith in q) ∙ (ap (λ (z : ℕ). get_or (map f ys) z []) (let q : n ≡ 0 + n = omega arith in q) ∙ told_at f n ys x rest e)
+told_at f (suc n) (y ∷ ys) x rest e = ap (λ (z : ℕ). get_or (map f (y ∷ ys)) z []) (let q : 0 + suc n ≡ suc n = omega arith in q)
+    ∙ (ap (λ (z : ℕ). get_or (map f ys) z []) (let q : n ≡ 0 + n = omega arith in q) ∙ told_at f n ys x rest e)
 
 pub rest_at : {A : Type 0} (n : ℕ) (xs : List A) (x : A) (rest : List A) → x ∷ rest ≡ drop n xs → rest ≡ drop (n + 1) xs
 rest_at zero [] x rest e = absurd (cc)
@@ -268,14 +294,20 @@ pushed {A} xs ys zs x e i = let P : List A → Type 0 = λ z. zs ≡ z ++ x ∷ 
 pub pushed_length : {A : Type 0} (xs zs : List A) (x : A) → zs ≡ xs ++ x ∷ [] → length zs ≡ length xs + 1
 pushed_length {A} xs zs x e = ap (λ (z : List A). length z) e ∙ length-append xs (x ∷ [])
 
-pub fresh_pushed : {A : Type 0} (worker : A → Worker) (places : A → List ℕ) (mems : A → List Memory) (slots : A → List ℕ) (racks : List (List ℕ)) (xs zs : List A) (x : A) → zs ≡ xs ++ x ∷ [] → AreFreshBy worker places mems slots racks 0 xs
-    → worker x ≡ fresh → ((b : Begun) (p : ℕ) → kinds_of b.racks p ≡ get_or racks (0 + length xs) [] → HandsStandBy b p [] (places x) (mems x) (slots x)) → AreFreshBy worker places mems slots racks 0 zs
-fresh_pushed {A} worker places mems slots racks xs zs x e f w h = let P : List A → Type 0 = λ z. AreFreshBy worker places mems slots racks 0 z in subst P (sym e) (fresh_more worker places mems slots racks 0 xs x f w h)
+pub fresh_pushed : {A : Type 0} (worker : A → Worker) (places : A → List ℕ) (mems : A → List Memory) (slots : A → List ℕ) (racks : List (List ℕ))
+    (xs zs : List A) (x : A) → zs ≡ xs ++ x ∷ [] → AreFreshBy worker places mems slots racks 0 xs
+    → worker x ≡ fresh → ((b : Begun) (p : ℕ) → kinds_of b.racks p ≡ get_or racks (0 + length xs) [] → HandsStandBy b p [] (places x) (mems x) (slots x))
+    → AreFreshBy worker places mems slots racks 0 zs
+fresh_pushed {A} worker places mems slots racks xs zs x e f w h =
+    let P : List A → Type 0 = λ z. AreFreshBy worker places mems slots racks 0 z in subst P (sym e) (fresh_more worker places mems slots racks 0 xs x f w h)
 
-pub fresh_cut : {A : Type 0} (worker : A → Worker) (places : A → List ℕ) (mems : A → List Memory) (slots : A → List ℕ) (racks : List (List ℕ)) (xs zs : List A) (n : ℕ) → zs ≡ take n xs → AreFreshBy worker places mems slots racks 0 xs → AreFreshBy worker places mems slots racks 0 zs
-fresh_cut {A} worker places mems slots racks xs zs n e f = let P : List A → Type 0 = λ z. AreFreshBy worker places mems slots racks 0 z in subst P (sym e) (fresh_take worker places mems slots racks 0 xs n f)
+pub fresh_cut : {A : Type 0} (worker : A → Worker) (places : A → List ℕ) (mems : A → List Memory) (slots : A → List ℕ) (racks : List (List ℕ))
+    (xs zs : List A) (n : ℕ) → zs ≡ take n xs → AreFreshBy worker places mems slots racks 0 xs → AreFreshBy worker places mems slots racks 0 zs
+fresh_cut {A} worker places mems slots racks xs zs n e f =
+    let P : List A → Type 0 = λ z. AreFreshBy worker places mems slots racks 0 z in subst P (sym e) (fresh_take worker places mems slots racks 0 xs n f)
 
-pub fresh_as : {A : Type 0} (worker : A → Worker) (places : A → List ℕ) (mems : A → List Memory) (slots : A → List ℕ) (racks : List (List ℕ)) (xs zs : List A) → zs ≡ xs → AreFreshBy worker places mems slots racks 0 xs → AreFreshBy worker places mems slots racks 0 zs
+pub fresh_as : {A : Type 0} (worker : A → Worker) (places : A → List ℕ) (mems : A → List Memory) (slots : A → List ℕ) (racks : List (List ℕ)) (xs zs : List A)
+    → zs ≡ xs → AreFreshBy worker places mems slots racks 0 xs → AreFreshBy worker places mems slots racks 0 zs
 fresh_as {A} worker places mems slots racks xs zs e f = let P : List A → Type 0 = λ z. AreFreshBy worker places mems slots racks 0 z in subst P (sym e) f
 
 pub rest_behind : {A : Type 0} (n m : ℕ) (xs : List A) (x : A) (rest : List A) → x ∷ rest ≡ drop n xs → m ≡ n + 1 → rest ≡ drop m xs
@@ -292,24 +324,42 @@ abbrev pub side_first : Side
 side_first = record { ended = false; end = ends.Done }
 
 -- a session begins, as its parts were made
-pub goes_open : {A : Type 0} (R : Reading) (More : List R.One → List Entry → Type 0) (worker : A → Worker) (places : A → List ℕ) (mems : A → List Memory) (slots : A → List ℕ) (session : Clients) (racks : List (List ℕ)) (sizes : List ℕ) (before old : Option (List ℕ)) (seats slice : List A) (kept : Kept) (s : State) (h : List Entry) (rs : List Reply) (side : Side) (taken : ℕ) (es : List ℕ) (end : ℕ) (failed : Bool) (scripts : List Script)
-    → s ≡ opening session sizes → map (λ ys. length ys) racks ≡ sizes → (h ≡ []) × (rs ≡ []) → (side ≡ side_first) × (taken ≡ 0) → (es ≡ []) × (end ≡ 0) × (failed ≡ false) → AreFreshBy worker places mems slots racks 0 seats → slice ≡ seats → scripts ≡ session.scripts → More [] []
-    → (f : Option ℕ) → GoesBy R More (begins session racks f) scripts before old (moment_of s h rs (map worker slice) (map places slice) (map mems slice) (map slots slice) side taken before kept es end failed old)
-goes_open {A} R More worker places mems slots session racks sizes before old seats slice kept s h rs side taken es end failed scripts e z (eh, er) (ed, et) (es', en, ef) are el ec more f =
-    let first = opens_goes R More worker places mems slots session racks f before old slice kept s (e ∙ ap (λ (ns : List ℕ). opening session ns) (sym z)) (fresh_as worker places mems slots racks seats slice el are) more in
-    let P0 : List Entry → Type 0 = λ x. GoesBy R More (begins session racks f) session.scripts before old (moment_of s x [] (map worker slice) (map places slice) (map mems slice) (map slots slice) side_first 0 before kept [] 0 false old) in
-    let P1 : List Reply → Type 0 = λ x. GoesBy R More (begins session racks f) session.scripts before old (moment_of s h x (map worker slice) (map places slice) (map mems slice) (map slots slice) side_first 0 before kept [] 0 false old) in
-    let P2 : Side → Type 0 = λ x. GoesBy R More (begins session racks f) session.scripts before old (moment_of s h rs (map worker slice) (map places slice) (map mems slice) (map slots slice) x 0 before kept [] 0 false old) in
-    let P3 : ℕ → Type 0 = λ x. GoesBy R More (begins session racks f) session.scripts before old (moment_of s h rs (map worker slice) (map places slice) (map mems slice) (map slots slice) side x before kept [] 0 false old) in
-    let P4 : List ℕ → Type 0 = λ x. GoesBy R More (begins session racks f) session.scripts before old (moment_of s h rs (map worker slice) (map places slice) (map mems slice) (map slots slice) side taken before kept x 0 false old) in
-    let P5 : ℕ → Type 0 = λ x. GoesBy R More (begins session racks f) session.scripts before old (moment_of s h rs (map worker slice) (map places slice) (map mems slice) (map slots slice) side taken before kept es x false old) in
-    let P6 : Bool → Type 0 = λ x. GoesBy R More (begins session racks f) session.scripts before old (moment_of s h rs (map worker slice) (map places slice) (map mems slice) (map slots slice) side taken before kept es end x old) in
-    let P7 : List Script → Type 0 = λ x. GoesBy R More (begins session racks f) x before old (moment_of s h rs (map worker slice) (map places slice) (map mems slice) (map slots slice) side taken before kept es end failed old) in
-    subst P7 (sym ec) (subst P6 (sym ef) (subst P5 (sym en) (subst P4 (sym es') (subst P3 (sym et) (subst P2 (sym ed) (subst P1 (sym er) (subst P0 (sym eh) first)))))))
+pub goes_open : {A : Type 0} (R : Reading) (More : List R.One → List Entry → Type 0) (worker : A → Worker) (places : A → List ℕ) (mems : A → List Memory)
+    (slots : A → List ℕ) (session : Clients) (racks : List (List ℕ)) (sizes : List ℕ) (before old : Option (List ℕ)) (seats slice : List A) (kept : Kept)
+    (s : State) (h : List Entry) (rs : List Reply) (side : Side) (taken : ℕ) (es : List ℕ) (end : ℕ) (failed : Bool) (scripts : List Script)
+    → s ≡ opening session sizes → map (λ ys. length ys) racks ≡ sizes → (h ≡ []) × (rs ≡ []) → (side ≡ side_first) × (taken ≡ 0)
+    → (es ≡ []) × (end ≡ 0) × (failed ≡ false) → AreFreshBy worker places mems slots racks 0 seats → slice ≡ seats → scripts ≡ session.scripts → More [] []
+    → (f : Option ℕ) → GoesBy R More (begins session racks f) scripts before old
+    (moment_of s h rs (map worker slice) (map places slice) (map mems slice) (map slots slice) side taken before kept es end failed old)
+goes_open {A} R More worker places mems slots session racks sizes before old seats slice kept s h rs side taken es end failed scripts e z (eh, er)
+    (ed, et) (es', en, ef) are el ec more f =
+    let first = opens_goes R More worker places mems slots session racks f before old slice kept s (e ∙ ap (λ (ns : List ℕ). opening session ns) (sym z))
+    (fresh_as worker places mems slots racks seats slice el are) more in
+    let P0 : List Entry → Type 0 = λ x. GoesBy R More (begins session racks f) session.scripts before old
+    (moment_of s x [] (map worker slice) (map places slice) (map mems slice) (map slots slice) side_first 0 before kept [] 0 false old) in
+    let P1 : List Reply → Type 0 = λ x. GoesBy R More (begins session racks f) session.scripts before old
+    (moment_of s h x (map worker slice) (map places slice) (map mems slice) (map slots slice) side_first 0 before kept [] 0 false old) in
+    let P2 : Side → Type 0 = λ x. GoesBy R More (begins session racks f) session.scripts before old
+    (moment_of s h rs (map worker slice) (map places slice) (map mems slice) (map slots slice) x 0 before kept [] 0 false old) in
+    let P3 : ℕ → Type 0 = λ x. GoesBy R More (begins session racks f) session.scripts before old
+    (moment_of s h rs (map worker slice) (map places slice) (map mems slice) (map slots slice) side x before kept [] 0 false old) in
+    let P4 : List ℕ → Type 0 = λ x. GoesBy R More (begins session racks f) session.scripts before old
+    (moment_of s h rs (map worker slice) (map places slice) (map mems slice) (map slots slice) side taken before kept x 0 false old) in
+    let P5 : ℕ → Type 0 = λ x. GoesBy R More (begins session racks f) session.scripts before old
+    (moment_of s h rs (map worker slice) (map places slice) (map mems slice) (map slots slice) side taken before kept es x false old) in
+    let P6 : Bool → Type 0 = λ x. GoesBy R More (begins session racks f) session.scripts before old
+    (moment_of s h rs (map worker slice) (map places slice) (map mems slice) (map slots slice) side taken before kept es end x old) in
+    let P7 : List Script → Type 0 = λ x. GoesBy R More (begins session racks f) x before old
+    (moment_of s h rs (map worker slice) (map places slice) (map mems slice) (map slots slice) side taken before kept es end failed old) in
+    subst P7 (sym ec)
+    (subst P6 (sym ef) (subst P5 (sym en) (subst P4 (sym es') (subst P3 (sym et) (subst P2 (sym ed) (subst P1 (sym er) (subst P0 (sym eh) first)))))))
 
-pub going_open : (R : Reading) (More : List R.One → List Entry → Type 0) (session : Clients) (racks : List (List ℕ)) (before old : Option (List ℕ)) (scripts : List Script) (m : Moment)
-    → ((f : Option ℕ) → GoesBy R More (begins session racks f) scripts before old m) → (b : Begun) × (x : Option (List ℕ)) × (y : Option (List ℕ)) × ((f : Option ℕ) → FailsBy m.failed f (paints m.entries) → GoesBy R More (fails_at b f) scripts x y m)
+pub going_open : (R : Reading) (More : List R.One → List Entry → Type 0) (session : Clients) (racks : List (List ℕ)) (before old : Option (List ℕ))
+    (scripts : List Script) (m : Moment)
+    → ((f : Option ℕ) → GoesBy R More (begins session racks f) scripts before old m) → (b : Begun) × (x : Option (List ℕ)) × (y : Option (List ℕ))
+    × ((f : Option ℕ) → FailsBy m.failed f (paints m.entries) → GoesBy R More (fails_at b f) scripts x y m)
 going_open R More session racks before old scripts m all = (begins session racks None, before, old, λ f k. all f)
 
-pub count_of : {A B : Type 0} (scripts all : List B) (xs ys zs : List A) → scripts ≡ all → length xs ≡ length all → ys ≡ xs → length zs ≡ length ys → length scripts ≡ length zs
+pub count_of : {A B : Type 0} (scripts all : List B) (xs ys zs : List A)
+    → scripts ≡ all → length xs ≡ length all → ys ≡ xs → length zs ≡ length ys → length scripts ≡ length zs
 count_of {A} {B} scripts all xs ys zs e c v n = ap (λ (z : List B). length z) e ∙ (sym c ∙ (sym (ap (λ (z : List A). length z) v) ∙ sym n))

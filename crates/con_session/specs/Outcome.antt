@@ -32,10 +32,12 @@ IsCutBy R frames sent' = (all_go_on R frames ≡ true) × (sent' ≡ map sent_by
 -- At the end Done the frames are the link, to its end or to its X, and all were sent. Where the link failed, has too many bytes or no frame at a place,
 -- the frames are those before that, and all were sent.
 abbrev pub HasSentBy : (R : Reading) → End → List R.One → List ℕ → Option (List ℕ) → List Event → Type 0
-HasSentBy R ends.Done frames text left sent' = IsLinkBy R frames left × (text ≡ []) × (length (flat_map R.spelling frames) ≤ 16777216) × (sent' ≡ map sent_by (R.plains frames))
+HasSentBy R ends.Done frames text left sent' = IsLinkBy R frames left × (text ≡ []) × (length (flat_map R.spelling frames) ≤ 16777216)
+    × (sent' ≡ map sent_by (R.plains frames))
 HasSentBy R ends.Link frames text left sent' = IsCutBy R frames sent' × R.answers (Err faults.Failed) (length (flat_map R.spelling frames)) text left
 HasSentBy R ends.TooLong frames text left sent' = IsCutBy R frames sent' × R.answers (Err faults.TooLong) (length (flat_map R.spelling frames)) text left
-HasSentBy R (ends.Bad place kind) frames text left sent' = IsCutBy R frames sent' × R.answers (Err (faults.Bad place kind)) (length (flat_map R.spelling frames)) text left
+HasSentBy R (ends.Bad place kind) frames text left sent' =
+    IsCutBy R frames sent' × R.answers (Err (faults.Bad place kind)) (length (flat_map R.spelling frames)) text left
 HasSentBy R ends.Term frames text left sent' = Unit {0}
 HasSentBy R ends.Memory frames text left sent' = Unit {0}
 
@@ -58,7 +60,8 @@ last_end es = end_of 0 es
 -- Of a session and the kinds of its racks' handlers (0 for one that was asked before, or that tells nothing): the history, its answers, the ends of the frames
 -- and the session's end, what the link had left before and after, and what was written to the terminal before and after.
 -- Its link is read in this way, and this is known of its frames besides.
-pub record LeavesBy (R : Reading) (More : List R.One → List Entry → Type 0) (session : Clients) (racks : List (List ℕ)) (h : List Entry) (rs : List Reply) (es : List ℕ) (end : End) (before left old now : Option (List ℕ)) : Type 0 where
+pub record LeavesBy (R : Reading) (More : List R.One → List Entry → Type 0) (session : Clients) (racks : List (List ℕ)) (h : List Entry)
+    (rs : List Reply) (es : List ℕ) (end : End) (before left old now : Option (List ℕ)) : Type 0 where
   -- each event is ready where it stands, and was answered as the one console answers it
   pub legal : is_legal (begun session racks) h ≡ true
   pub replies : rs ≡ map listed (replies_of (begun session racks) h)
@@ -92,13 +95,16 @@ pub record LeavesBy (R : Reading) (More : List R.One → List Entry → Type 0) 
   pub whole : is_lost end ≡ false → IsWhole (begun session racks) h session racks
 
 -- of a session with no second terminal
-abbrev pub Leaves : Clients → List (List ℕ) → List Entry → List Reply → List ℕ → End → Option (List ℕ) → Option (List ℕ) → Option (List ℕ) → Option (List ℕ) → Type 0
+abbrev pub Leaves : Clients → List (List ℕ) → List Entry → List Reply → List ℕ → End → Option (List ℕ) → Option (List ℕ)
+    → Option (List ℕ) → Option (List ℕ) → Type 0
 Leaves session racks h rs es end before left old now = LeavesBy plainly NoMore session racks h rs es end before left old now
 
 -- of a session by turns, besides: its history is rounds of these turns
-pub record IsOutcomeBy (R : Reading) (More : List R.One → List Entry → Type 0) (session : Clients) (racks : List (List ℕ)) (h : List Entry) (rs : List Reply) (es : List ℕ) (end : End) (before left old now : Option (List ℕ)) : Type 0 where
+pub record IsOutcomeBy (R : Reading) (More : List R.One → List Entry → Type 0) (session : Clients) (racks : List (List ℕ)) (h : List Entry)
+    (rs : List Reply) (es : List ℕ) (end : End) (before left old now : Option (List ℕ)) : Type 0 where
   pub leaves : LeavesBy R More session racks h rs es end before left old now
   pub rounds : Rounds (begun session racks) h session racks end
 
-abbrev pub IsOutcome : Clients → List (List ℕ) → List Entry → List Reply → List ℕ → End → Option (List ℕ) → Option (List ℕ) → Option (List ℕ) → Option (List ℕ) → Type 0
+abbrev pub IsOutcome : Clients → List (List ℕ) → List Entry → List Reply → List ℕ → End → Option (List ℕ) → Option (List ℕ)
+    → Option (List ℕ) → Option (List ℕ) → Type 0
 IsOutcome session racks h rs es end before left old now = IsOutcomeBy plainly NoMore session racks h rs es end before left old now

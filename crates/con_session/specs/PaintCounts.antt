@@ -39,7 +39,8 @@ pub no_paint : (s : State) (a : Actor) (e : Event) → is_ready s a e ≡ true �
 no_paint s a e r n = no_paint_of a e (actors_event s a e r) n
 
 pub paints_same : (h g : List Entry) (x : Entry) → g ≡ h ++ x ∷ [] → is_paint x.event ≡ false → paints g ≡ paints h
-paints_same h g x e n = ap paints e ∙ (paints-append h (x ∷ []) ∙ (ap (λ (b : Bool). paints h + ((if b then 1 else 0) + 0)) n ∙ (let z : paints h + (0 + 0) ≡ paints h = omega arith in z)))
+paints_same h g x e n = ap paints e
+    ∙ (paints-append h (x ∷ []) ∙ (ap (λ (b : Bool). paints h + ((if b then 1 else 0) + 0)) n ∙ (let z : paints h + (0 + 0) ≡ paints h = omega arith in z)))
 
 pub paints_next : (h g : List Entry) → g ≡ h ++ entry actors.Painter events.Paint ∷ [] → paints g ≡ paints h + 1
 paints_next h g e = ap paints e ∙ paints-append h (entry actors.Painter events.Paint ∷ [])

@@ -23,11 +23,13 @@ use Rattle.con_session.specs.SenderLaws.{fails_true, fails_false}
 
 -- ---- a picture for the painter
 
-pub row_last : (o : Option View) (v : View) (y : ℕ) (cells : List Glyph) → option_map (λ x. x.rows) o ≡ Some cells → IsSameRow o v y → row_of v.size.w v.rows y ≡ row_of v.size.w cells y
+pub row_last : (o : Option View) (v : View) (y : ℕ) (cells : List Glyph) → option_map (λ x. x.rows) o ≡ Some cells → IsSameRow o v y
+    → row_of v.size.w v.rows y ≡ row_of v.size.w cells y
 row_last None v y cells e k = absurd k
 row_last (Some last) v y cells e k = k ∙ ap (λ (c : List Glyph). row_of v.size.w c y) (let f : last.rows ≡ cells = cc in f)
 
-pub tied_size : (s : State) (kept : Kept) (v : View) (fresh : Bool) → IsTied s kept → Pictures v fresh s → fresh ≡ false → (v.size.w ≡ kept.w) × (v.size.h ≡ kept.h)
+pub tied_size : (s : State) (kept : Kept) (v : View) (fresh : Bool) → IsTied s kept → Pictures v fresh s → fresh ≡ false
+    → (v.size.w ≡ kept.w) × (v.size.h ≡ kept.h)
 tied_size s kept v fresh k p f = let off = sym p.fresh' ∙ f in (p.wide ∙ sym (k.wide off), p.high ∙ sym (k.high off))
 
 pub tied_count : (s : State) (v : View) (marks : List Bool) (fresh : Bool) → Pictures v fresh s → AreMarks s marks → length marks ≡ v.size.h
@@ -59,27 +61,32 @@ rests_by : (f r : Bool) → r ≡ false → None ≡ (if not f && r then Some ev
 rests_by true r e = refl
 rests_by false r e = rw e refl
 
-pub paints_now : (b : Begun) (s : State) (h : List Entry) (failed : Bool) → s ≡ run b.state h → FailsBy failed b.failed (paints h) → failed ≡ false → is_ready s actors.Painter events.Paint ≡ true → IsTurn b h actors.Painter (Some events.Paint)
+pub paints_now : (b : Begun) (s : State) (h : List Entry) (failed : Bool) → s ≡ run b.state h → FailsBy failed b.failed (paints h) → failed ≡ false
+    → is_ready s actors.Painter events.Paint ≡ true → IsTurn b h actors.Painter (Some events.Paint)
 paints_now b s h failed e k f r = let P : State → Type 0 = λ z. is_ready z actors.Painter events.Paint ≡ true in
     acts_by (is_failed b.failed (paints h)) (is_ready (run b.state h) actors.Painter events.Paint) (fails_false failed b.failed (paints h) f k) (subst P e r)
 
 pub failed_rests : (b : Begun) (h : List Entry) (failed : Bool) → FailsBy failed b.failed (paints h) → failed ≡ true → IsTurn b h actors.Painter None
-failed_rests b h failed k f = rests_failed (is_failed b.failed (paints h)) (is_ready (run b.state h) actors.Painter events.Paint) (fails_true failed b.failed (paints h) f k)
+failed_rests b h failed k f =
+    rests_failed (is_failed b.failed (paints h)) (is_ready (run b.state h) actors.Painter events.Paint) (fails_true failed b.failed (paints h) f k)
 
-pub unready_rests : (b : Begun) (s : State) (h : List Entry) → s ≡ run b.state h → is_ready s actors.Painter events.Paint ≡ false → IsTurn b h actors.Painter None
+pub unready_rests : (b : Begun) (s : State) (h : List Entry) → s ≡ run b.state h → is_ready s actors.Painter events.Paint ≡ false
+    → IsTurn b h actors.Painter None
 unready_rests b s h e r = let P : State → Type 0 = λ z. is_ready z actors.Painter events.Paint ≡ false in
     rests_by (is_failed b.failed (paints h)) (is_ready (run b.state h) actors.Painter events.Paint) (subst P e r)
 
 -- ---- a picture is of the console
 
-pub picture_of : (s t : State) (v : View) (fresh : Bool) → t ≡ s → v ≡ view_now t → fresh ≡ is_fresh t → (view_now t).size.w ≡ t.buffers.w → (view_now t).size.h ≡ t.buffers.h → Pictures v fresh s
+pub picture_of : (s t : State) (v : View) (fresh : Bool) → t ≡ s → v ≡ view_now t → fresh ≡ is_fresh t → (view_now t).size.w ≡ t.buffers.w
+    → (view_now t).size.h ≡ t.buffers.h → Pictures v fresh s
 picture_of s t v fresh e p f w h = let P : State → Type 0 = λ z. Pictures v fresh z in
     subst P e (record { view = p; fresh' = f; wide = ap (λ (x : View). x.size.w) p ∙ w; high = ap (λ (x : View). x.size.h) p ∙ h })
 
 pub whole_of : (t : State) (v : View) → v ≡ view_now t → IsWhole (view_now t) → IsWhole v
 whole_of t v e k = let P : View → Type 0 = λ z. IsWhole z in subst P (sym e) k
 
-pub window_of : (t : State) (v : View) → v ≡ view_now t → (view_now t).size.w ≡ t.buffers.w → (view_now t).size.h ≡ t.buffers.h → IsWindow t.buffers.w t.buffers.h → IsWindow v.size.w v.size.h
+pub window_of : (t : State) (v : View) → v ≡ view_now t → (view_now t).size.w ≡ t.buffers.w → (view_now t).size.h ≡ t.buffers.h
+    → IsWindow t.buffers.w t.buffers.h → IsWindow v.size.w v.size.h
 window_of t v e w h k =
     let P : ℕ → Type 0 = λ x. IsWindow x t.buffers.h in let Q : ℕ → Type 0 = λ x. IsWindow v.size.w x in
     subst Q (sym (ap (λ (x : View). x.size.h) e ∙ h)) (subst P (sym (ap (λ (x : View). x.size.w) e ∙ w)) k)

@@ -47,7 +47,8 @@ pub record Reached (s : State) (kept : Kept) (u : Terminal) (l : Option View) : 
 pub record PainterStands (b : Begun) (h : List Entry) (size : Size) (kept : Kept) (ps : List (List ℕ)) : Type 0 where
   pub matched : Matched (sights_of b.state h) ps
   pub each : (t : Terminal) → IsTerminal size.w size.h t → EachPiece Painted t None (sights_of b.state h) ps
-  pub reach : (t : Terminal) → IsTerminal size.w size.h t → (u : Terminal) (l : Option View) → Reaches t None (sights_of b.state h) ps u l → Reached (run b.state h) kept u l
+  pub reach : (t : Terminal) → IsTerminal size.w size.h t → (u : Terminal) (l : Option View) → Reaches t None (sights_of b.state h) ps u l
+      → Reached (run b.state h) kept u l
   pub keeps : is_fresh (run b.state h) ≡ false → KeepsView (run b.state h) kept
 
 -- what was written: a front of the pieces, all of them while nothing failed
@@ -82,7 +83,8 @@ acted (Ok None) = Ok false
 acted (Err e) = Err e
 
 -- the painter with what it wrote
-pub record CanvasIs (b : Begun) (h : List Entry) (size : Size) (kept : Kept) (ps : List (List ℕ)) (ends : List ℕ) (end : ℕ) (before now : Option (List ℕ)) (failed : Bool) : Type 0 where
+pub record CanvasIs (b : Begun) (h : List Entry) (size : Size) (kept : Kept) (ps : List (List ℕ)) (ends : List ℕ) (end : ℕ)
+    (before now : Option (List ℕ)) (failed : Bool) : Type 0 where
   pub stands : PainterStands b h size kept ps
   pub written : Written before now ps failed
   pub ends' : ends ≡ ends_from 0 ps
@@ -98,10 +100,14 @@ pub record CanvasEnds (b : Begun) (h : List Entry) (size : Size) (ends : List �
   pub written : Written before now pieces failed
 
 -- a turn of the painter: false where no Paint is ready or the terminal has failed; where there is no memory a Paint may be entered that has no frame
-abbrev pub PaintTurn : Result Bool OutOfMemory → Begun → State → State → List Entry → List Entry → List Reply → List Reply → Size → Kept → List (List ℕ) → List ℕ → ℕ → Option (List ℕ) → Option (List ℕ) → Bool → Type 0
-PaintTurn (Ok true) b s t h g rs qs size kept ps ends end before now failed = EntersPaint s t h g rs qs × ((p : List ℕ) × CanvasIs b g size kept (ps ++ p ∷ []) ends end before now failed)
-PaintTurn (Ok false) b s t h g rs qs size kept ps ends end before now failed = Rests s t h g rs qs × ((failed ≡ true) ⊎ (is_ready s actors.Painter events.Paint ≡ false)) × CanvasIs b g size kept ps ends end before now failed
-PaintTurn (Err e) b s t h g rs qs size kept ps ends end before now failed = (Rests s t h g rs qs ⊎ EntersPaint s t h g rs qs) × CanvasEnds b g size ends before now
+abbrev pub PaintTurn : Result Bool OutOfMemory → Begun → State → State → List Entry → List Entry → List Reply → List Reply → Size → Kept → List (List ℕ)
+    → List ℕ → ℕ → Option (List ℕ) → Option (List ℕ) → Bool → Type 0
+PaintTurn (Ok true) b s t h g rs qs size kept ps ends end before now failed =
+    EntersPaint s t h g rs qs × ((p : List ℕ) × CanvasIs b g size kept (ps ++ p ∷ []) ends end before now failed)
+PaintTurn (Ok false) b s t h g rs qs size kept ps ends end before now failed =
+    Rests s t h g rs qs × ((failed ≡ true) ⊎ (is_ready s actors.Painter events.Paint ≡ false)) × CanvasIs b g size kept ps ends end before now failed
+PaintTurn (Err e) b s t h g rs qs size kept ps ends end before now failed = (Rests s t h g rs qs ⊎ EntersPaint s t h g rs qs)
+    × CanvasEnds b g size ends before now
 
 -- whether the painter acts is as its turn says
 abbrev pub PainterActs : Result Bool OutOfMemory → Begun → List Entry → Type 0

@@ -60,7 +60,8 @@ pub still_added : (ts : List Turn) (t : Turn) (xs : List ℕ) → list_all (λ i
 still_added ts t [] a = refl
 still_added ts t (x ∷ xs) a =
     let k = apart (has_added x ts) (list_all (λ i. has_added i ts) xs) a in
-    both (has_added x (ts ++ t ∷ [])) (list_all (λ i. has_added i (ts ++ t ∷ [])) xs) (added_one x ts t ∙ or_left (has_added x ts) (adds x t.event t.reply) k.0) (still_added ts t xs k.1)
+    both (has_added x (ts ++ t ∷ [])) (list_all (λ i. has_added i (ts ++ t ∷ [])) xs)
+    (added_one x ts t ∙ or_left (has_added x ts) (adds x t.event t.reply) k.0) (still_added ts t xs k.1)
 
 pub rack_more : (ts : List Turn) (t : Turn) (kinds slots places : List ℕ) → IsRack ts kinds slots places → IsRack (ts ++ t ∷ []) kinds slots places
 rack_more ts t kinds slots places k = record {
@@ -77,7 +78,8 @@ none_among ts i (x ∷ xs) a n =
     by (i == x) refl (none_among ts i xs k.1 n)
   where
     by : (b : Bool) → (i == x) ≡ b → list_any (λ y. i == y) xs ≡ false → (b || list_any (λ y. i == y) xs) ≡ false
-    by true e m = let same : i ≡ x = grind (arith, nat_tests) in let P : ℕ → Type 0 = λ z. has_added z ts ≡ true in let yes = subst P (sym same) (apart (has_added x ts) (list_all (λ j. has_added j ts) xs) a).0 in absurd (cc)
+    by true e m = let same : i ≡ x = grind (arith, nat_tests) in let P : ℕ → Type 0 = λ z. has_added z ts ≡ true in
+        let yes = subst P (sym same) (apart (has_added x ts) (list_all (λ j. has_added j ts) xs) a).0 in absurd (cc)
     by false e m = m
 
 pub any_append : (p : ℕ → Bool) (xs : List ℕ) (y : ℕ) → list_any p (xs ++ y ∷ []) ≡ (list_any p xs || p y)
@@ -98,11 +100,13 @@ once_more (x ∷ xs) i o n =
     (once_more xs i k.1 m.1)
 
 -- a place is added
-pub rack_added : (ts : List Turn) (t : Turn) (kinds slots left places : List ℕ) (i : ℕ) → has_added i ts ≡ false → ((j : ℕ) → adds j t.event t.reply ≡ (i == j)) → ((j : ℕ) → (j == i) ≡ false → get_or left j 0 ≡ get_or slots j 0)
+pub rack_added : (ts : List Turn) (t : Turn) (kinds slots left places : List ℕ) (i : ℕ)
+    → has_added i ts ≡ false → ((j : ℕ) → adds j t.event t.reply ≡ (i == j)) → ((j : ℕ) → (j == i) ≡ false → get_or left j 0 ≡ get_or slots j 0)
     → IsRack ts kinds slots places → IsRack (ts ++ t ∷ []) kinds left (places ++ i ∷ [])
 rack_added ts t kinds slots left places i n a same k = record {
   left = λ j m. let z = not_before j ts t m in same j (flipped j (sym (a j) ∙ z.1)) ∙ k.left j z.0;
-  added = list_all-append (λ j. has_added j (ts ++ t ∷ [])) places (i ∷ []) ∙ both (list_all (λ j. has_added j (ts ++ t ∷ [])) places) (has_added i (ts ++ t ∷ []) && true) (still_added ts t places k.added)
+  added = list_all-append (λ j. has_added j (ts ++ t ∷ [])) places (i ∷ [])
+      ∙ both (list_all (λ j. has_added j (ts ++ t ∷ [])) places) (has_added i (ts ++ t ∷ []) && true) (still_added ts t places k.added)
       (both (has_added i (ts ++ t ∷ [])) true (added_one i ts t ∙ or_right (has_added i ts) (adds i t.event t.reply) (a i ∙ eq-eqb i i refl)) refl);
   once = once_more places i k.once (none_among ts i places k.added n);
 }
@@ -140,21 +144,26 @@ once_without i (x ∷ xs) o =
     let k = apart (not (list_any (λ y. y == x) xs)) (stand_once xs) o in
     by (not (x == i)) (any_without (λ y. y == x) i xs (not_true (list_any (λ y. y == x) xs) k.0)) (once_without i xs k.1)
   where
-    by : (b : Bool) → list_any (λ y. y == x) (without i xs) ≡ false → stand_once (without i xs) ≡ true → stand_once (cond b (x ∷ without i xs) (without i xs)) ≡ true
+    by : (b : Bool) → list_any (λ y. y == x) (without i xs) ≡ false → stand_once (without i xs) ≡ true
+        → stand_once (cond b (x ∷ without i xs) (without i xs)) ≡ true
     by true e m = rw (e, m) refl
     by false e m = m
 
-pub rack_removed : (ts : List Turn) (t : Turn) (kinds slots places : List ℕ) (i : ℕ) → IsRack ts kinds slots places → IsRack (ts ++ t ∷ []) kinds slots (without i places)
+pub rack_removed : (ts : List Turn) (t : Turn) (kinds slots places : List ℕ) (i : ℕ) → IsRack ts kinds slots places
+    → IsRack (ts ++ t ∷ []) kinds slots (without i places)
 rack_removed ts t kinds slots places i k =
-    rack_more ts t kinds slots (without i places) (record { left = k.left; added = all_without (λ j. has_added j ts) i places k.added; once = once_without i places k.once })
+    rack_more ts t kinds slots (without i places)
+    (record { left = k.left; added = all_without (λ j. has_added j ts) i places k.added; once = once_without i places k.once })
 
 -- ---- the same along a history
 
-pub own_turns : (b : Begun) (p : ℕ) (s t : State) (h g : List Entry) (rs qs : List Reply) (e : Event) → Enters s t h g rs qs (actors.Client p) e → turns b.state p g ≡ turns b.state p h ++ turn_of (run b.state h) p (entry (actors.Client p) e) ∷ []
+pub own_turns : (b : Begun) (p : ℕ) (s t : State) (h g : List Entry) (rs qs : List Reply) (e : Event) → Enters s t h g rs qs (actors.Client p) e
+    → turns b.state p g ≡ turns b.state p h ++ turn_of (run b.state h) p (entry (actors.Client p) e) ∷ []
 own_turns b p s t h g rs qs e n = ap (turns b.state p) n.entries ∙ turns-own b.state p h (entry (actors.Client p) e) (eq-eqb p p refl)
 
 -- an entry that leaves the chain alone
-pub hands_keep : (b : Begun) (p : ℕ) (s t : State) (h g : List Entry) (rs qs : List Reply) (e : Event) (places : List ℕ) (ms : List Memory) (slots : List ℕ) → Enters s t h g rs qs (actors.Client p) e
+pub hands_keep : (b : Begun) (p : ℕ) (s t : State) (h g : List Entry) (rs qs : List Reply) (e : Event) (places : List ℕ) (ms : List Memory) (slots : List ℕ)
+    → Enters s t h g rs qs (actors.Client p) e
     → Keeps (client_at b h p) (client_at b g p) → HandsStandBy b p h places ms slots → HandsStandBy b p g places ms slots
 hands_keep b p s t h g rs qs e places ms slots n k a =
     let c = client_at b h p in
@@ -166,11 +175,13 @@ hands_keep b p s t h g rs qs e places ms slots n k a =
     let H : List Handler → Type 0 = λ hs. HandsAreBy hs c.doubtful places ms in
     let D : Bool → Type 0 = λ y. HandsAreBy d.chain y places ms in record {
       chain = subst D (sym k.doubtful) (subst H (sym k.chain) a.chain);
-      rack = subst R (sym k.chain) (subst Q (sym k.kinds) (subst P (sym (own_turns b p s t h g rs qs e n)) (rack_more (turns b.state p h) x c.kinds slots (places_in c.chain) a.rack)));
+      rack = subst R (sym k.chain)
+          (subst Q (sym k.kinds) (subst P (sym (own_turns b p s t h g rs qs e n)) (rack_more (turns b.state p h) x c.kinds slots (places_in c.chain) a.rack)));
     }
 
 -- an entry of another
-pub hands_other : (b : Begun) (p : ℕ) (h : List Entry) (x : Entry) (places : List ℕ) (ms : List Memory) (slots : List ℕ) → is_client p x.actor ≡ false → HandsStandBy b p h places ms slots → HandsStandBy b p (h ++ x ∷ []) places ms slots
+pub hands_other : (b : Begun) (p : ℕ) (h : List Entry) (x : Entry) (places : List ℕ) (ms : List Memory) (slots : List ℕ)
+    → is_client p x.actor ≡ false → HandsStandBy b p h places ms slots → HandsStandBy b p (h ++ x ∷ []) places ms slots
 hands_other b p h x places ms slots n a =
     let e = turns-other b.state p h x n in
     let at : List Turn → Client = λ ts. client_after (steps_of b.session p) (kinds_of b.racks p) ts in
@@ -184,11 +195,14 @@ once_places k [] = refl
 once_places zero (h ∷ hs) = ap (λ (xs : List ℕ). h.place ∷ xs) (once_places zero hs)
 once_places (suc k) (h ∷ hs) = ap (λ (xs : List ℕ). h.place ∷ xs) (once_places k hs)
 
-pub rack_delivered : (b : Begun) (p : ℕ) (s t : State) (h g : List Entry) (rs qs : List Reply) (e : Event) (event : ℕ) (slots : List ℕ) → Enters s t h g rs qs (actors.Client p) e
-    → IsRack (turns b.state p h) (client_at b h p).kinds slots (places_in (client_at b h p).chain) → IsRack (turns b.state p g) (client_at b h p).kinds slots (places_in (delivered_to (client_at b h p).chain event))
+pub rack_delivered : (b : Begun) (p : ℕ) (s t : State) (h g : List Entry) (rs qs : List Reply) (e : Event) (event : ℕ) (slots : List ℕ)
+    → Enters s t h g rs qs (actors.Client p) e
+    → IsRack (turns b.state p h) (client_at b h p).kinds slots (places_in (client_at b h p).chain)
+    → IsRack (turns b.state p g) (client_at b h p).kinds slots (places_in (delivered_to (client_at b h p).chain event))
 rack_delivered b p s t h g rs qs e event slots n k =
     let c = client_at b h p in
     let P : List Turn → Type 0 = λ ts. IsRack ts c.kinds slots (places_in c.chain) in
     let Q : List ℕ → Type 0 = λ xs. IsRack (turns b.state p g) c.kinds slots xs in
     subst Q (sym (once_places (asked_from (answers_to event c.chain)) c.chain))
-    (subst P (sym (own_turns b p s t h g rs qs e n)) (rack_more (turns b.state p h) (turn_of (run b.state h) p (entry (actors.Client p) e)) c.kinds slots (places_in c.chain) k))
+    (subst P (sym (own_turns b p s t h g rs qs e n))
+    (rack_more (turns b.state p h) (turn_of (run b.state h) p (entry (actors.Client p) e)) c.kinds slots (places_in c.chain) k))

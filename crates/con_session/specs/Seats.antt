@@ -14,14 +14,16 @@ use Rattle.con_session.specs.Worker.{ClientIs, HandsStandBy}
 use Rattle.con_session.specs.declared.worker.Worker.{Worker}
 
 -- client k + 1 in its seat
-pub record Seated (b : Begun) (k : ℕ) (s : State) (h : List Entry) (script : Script) (w : Worker) (places : List ℕ) (ms : List Memory) (slots : List ℕ) : Type 0 where
+pub record Seated (b : Begun) (k : ℕ) (s : State) (h : List Entry) (script : Script) (w : Worker) (places : List ℕ)
+    (ms : List Memory) (slots : List ℕ) : Type 0 where
   pub is : ClientIs b (k + 1) s h script.steps w
   pub hands : HandsStandBy b (k + 1) h places ms slots
 
 -- every client in its seat
 abbrev pub AllStandBy : Begun → State → List Entry → List Script → List Worker → List (List ℕ) → List (List Memory) → List (List ℕ) → Type 0
 AllStandBy b s h scripts ws places ms slots = (k : ℕ) (script : Script) (w : Worker) (xs : List ℕ) (m : List Memory) (ys : List ℕ)
-    → slice_get scripts k ≡ Some script → slice_get ws k ≡ Some w → slice_get places k ≡ Some xs → slice_get ms k ≡ Some m → slice_get slots k ≡ Some ys → Seated b k s h script w xs m ys
+    → slice_get scripts k ≡ Some script → slice_get ws k ≡ Some w → slice_get places k ≡ Some xs → slice_get ms k ≡ Some m → slice_get slots k ≡ Some ys
+    → Seated b k s h script w xs m ys
 
 -- the first n clients had their turns in a round, one after another; where it may break off, the last of them may have had none
 pub record HaveTurns (broken : Bool) (b : Begun) (s t : State) (h g : List Entry) (rs qs : List Reply) (n : ℕ) : Type 0 where
@@ -35,6 +37,8 @@ abbrev pub AllFollow : Begun → List Entry → ℕ → Type 0
 AllFollow b h n = (k : ℕ) → k < n → ClientStands b h (k + 1)
 
 -- the turns of n clients: whether one of them acted; where there is no memory they may break off
-abbrev pub ClientsTurnBy : Result Bool OutOfMemory → Begun → State → State → List Entry → List Entry → List Reply → List Reply → ℕ → List Script → List Worker → List (List ℕ) → List (List Memory) → List (List ℕ) → Type 0
-ClientsTurnBy (Ok acted) b s t h g rs qs n scripts ws places ms slots = (had : HaveTurns false b s t h g rs qs n) × (is_nobody had.turns ≡ not acted) × AllStandBy b t g scripts ws places ms slots
+abbrev pub ClientsTurnBy : Result Bool OutOfMemory → Begun → State → State → List Entry → List Entry → List Reply → List Reply → ℕ → List Script
+    → List Worker → List (List ℕ) → List (List Memory) → List (List ℕ) → Type 0
+ClientsTurnBy (Ok acted) b s t h g rs qs n scripts ws places ms slots = (had : HaveTurns false b s t h g rs qs n) × (is_nobody had.turns ≡ not acted)
+    × AllStandBy b t g scripts ws places ms slots
 ClientsTurnBy (Err e) b s t h g rs qs n scripts ws places ms slots = HaveTurns true b s t h g rs qs n × AllFollow b g n

@@ -46,7 +46,8 @@ pub record PiecesStand (ss : List Sight) (kept : Option Kept) (ps : List (List �
   pub reach : (k : Kept) → kept ≡ Some k → (t u : Terminal) (l : Option View) → Reaches t None ss ps u l → Shown k u l
 
 -- The second terminal with its mirror, behind a history whose terminal's side sent the events of these frames.
-pub record SecondIs (s : State) (ended : Bool) (kept : Option Kept) (ps : List (List ℕ)) (es : List ℕ) (end : ℕ) (before now : Option (List ℕ)) (failed : Bool) (frames : List MirrorFrame) (h : List Entry) : Type 0 where
+pub record SecondIs (s : State) (ended : Bool) (kept : Option Kept) (ps : List (List ℕ)) (es : List ℕ) (end : ℕ) (before now : Option (List ℕ))
+    (failed : Bool) (frames : List MirrorFrame) (h : List Entry) : Type 0 where
   pub sights : List Sight
   pub flags : List Bool
   pub seconds : (more : List MirrorFrame) → seconds_of (watch (frames ++ more)) s h ≡ sights
@@ -78,7 +79,8 @@ Seconded s ended kept es end before now failed frames h = (ps : List (List ℕ))
 
 -- What a session's end has of it: the stream that was built, of which a front was written, and what it shows in every run. Its sink may have failed, or there
 -- was no memory.
-pub record Mirrors (s : State) (frames : List MirrorFrame) (size : Size) (es : List ℕ) (before now : Option (List ℕ)) (failed memory : Bool) (h : List Entry) : Type 0 where
+pub record Mirrors (s : State) (frames : List MirrorFrame) (size : Size) (es : List ℕ) (before now : Option (List ℕ))
+    (failed memory : Bool) (h : List Entry) : Type 0 where
   pub built : List ℕ
   -- as many bytes as the last end says, of which a front was written, and all unless the sink failed or there was no memory
   pub long : length built ≡ last_end es
@@ -88,7 +90,8 @@ pub record Mirrors (s : State) (frames : List MirrorFrame) (size : Size) (es : L
   pub ends' : memory ≡ false → length es ≡ paints h
   pub but_last : (length es ≡ paints h) ⊎ (length es + 1 ≡ paints h)
   pub rests : Stays 0 (flags_of (watch frames) h) es
-  -- in every run that begins at an A with any terminal of its size each mirrored Paint shows its part and prints no more than it has to, as far as bytes were written
+  -- in every run that begins at an A with any terminal of its size each mirrored Paint shows its part and prints no more than it has to,
+  -- as far as bytes were written
   pub shows : (n : ℕ) → EachRun ShowsView size (take n built) (seconds_of (watch frames) s h) (picked (flags_of (watch frames) h) es)
   pub few : (n : ℕ) → EachRun PrintsFew size (take n built) (seconds_of (watch frames) s h) (picked (flags_of (watch frames) h) es)
 
@@ -104,15 +107,19 @@ Wrote false true bytes now later = WroteFront bytes now later
 Wrote false false bytes now later = later ≡ then_written now bytes
 
 -- the second terminal behind a Paint
-abbrev pub SecondTurn : Result (Unit {0}) OutOfMemory → State → Bool → Option Kept → List ℕ → ℕ → Option (List ℕ) → Option (List ℕ) → Bool → List MirrorFrame → List Entry → Type 0
+abbrev pub SecondTurn : Result (Unit {0}) OutOfMemory → State → Bool → Option Kept → List ℕ → ℕ → Option (List ℕ)
+    → Option (List ℕ) → Bool → List MirrorFrame → List Entry → Type 0
 SecondTurn (Ok u) s ended kept es end before now failed frames h = Seconded s ended kept es end before now failed frames h
 SecondTurn (Err e) s ended kept es end before now failed frames h = (size : Size) → Mirrors s frames size es before now failed true h
 
 -- the same behind a turn of the painter, in which this was painted
-abbrev pub FollowTurn : Result Bool OutOfMemory → Option Picture → State → Bool → Option Kept → List ℕ → ℕ → Option (List ℕ) → Option (List ℕ) → Bool → List MirrorFrame → List Entry → Type 0
-FollowTurn (Ok a) (Some p) s ended kept es end before now failed frames h = Seconded s ended kept es end before now failed frames (h ++ entry actors.Painter events.Paint ∷ [])
+abbrev pub FollowTurn : Result Bool OutOfMemory → Option Picture → State → Bool → Option Kept → List ℕ → ℕ → Option (List ℕ)
+    → Option (List ℕ) → Bool → List MirrorFrame → List Entry → Type 0
+FollowTurn (Ok a) (Some p) s ended kept es end before now failed frames h =
+    Seconded s ended kept es end before now failed frames (h ++ entry actors.Painter events.Paint ∷ [])
 FollowTurn (Ok a) None s ended kept es end before now failed frames h = Seconded s ended kept es end before now failed frames h
-FollowTurn (Err e) o s ended kept es end before now failed frames h = (size : Size) → Mirrors s frames size es before now failed true (h ++ entry actors.Painter events.Paint ∷ [])
+FollowTurn (Err e) o s ended kept es end before now failed frames h = (size : Size)
+    → Mirrors s frames size es before now failed true (h ++ entry actors.Painter events.Paint ∷ [])
 
 -- ---- the view that was given last
 
@@ -140,10 +147,14 @@ IsFollowed s given = (last : View) → given ≡ Some last → IsTied s (kept_as
 -- ---- the link, and the outcome
 
 -- what was read of a link with a second terminal, and that terminal behind its frames
-abbrev pub MirrorLinkIs : State → Option Kept → List ℕ → ℕ → Option (List ℕ) → Option (List ℕ) → Bool → List Entry → Side → Bool → Option (List ℕ) → Option (List ℕ) → ℕ → Type 0
-MirrorLinkIs s kept es end written now lost h side failed before left taken = LinkBy mirrored (Seconded s side.ended kept es end written now lost) h side failed before left taken
+abbrev pub MirrorLinkIs : State → Option Kept → List ℕ → ℕ → Option (List ℕ)
+    → Option (List ℕ) → Bool → List Entry → Side → Bool → Option (List ℕ) → Option (List ℕ) → ℕ → Type 0
+MirrorLinkIs s kept es end written now lost h side failed before left taken =
+    LinkBy mirrored (Seconded s side.ended kept es end written now lost) h side failed before left taken
 
--- Of a session by turns with a second terminal: all that is promised of one without, where A and D count as Ask; and the second terminal's stream, with its ends, whether its
--- sink failed, and what was written to it before and after.
-abbrev pub IsMirrorOutcome : Clients → List (List ℕ) → List Entry → List Reply → List ℕ → End → List ℕ → Bool → Option (List ℕ) → Option (List ℕ) → Option (List ℕ) → Option (List ℕ) → Option (List ℕ) → Option (List ℕ) → Type 0
-IsMirrorOutcome session racks h rs es end seconds lost before left old now was written = IsOutcomeBy mirrored (λ frames g. Mirrors (begun session racks) frames session.size seconds was written lost (is_memory end) g) session racks h rs es end before left old now
+-- Of a session by turns with a second terminal: all that is promised of one without, where A and D count as Ask; and the second terminal's stream,
+-- with its ends, whether its sink failed, and what was written to it before and after.
+abbrev pub IsMirrorOutcome : Clients → List (List ℕ) → List Entry → List Reply → List ℕ → End → List ℕ → Bool → Option (List ℕ) → Option (List ℕ)
+    → Option (List ℕ) → Option (List ℕ) → Option (List ℕ) → Option (List ℕ) → Type 0
+IsMirrorOutcome session racks h rs es end seconds lost before left old now was written = IsOutcomeBy mirrored
+    (λ frames g. Mirrors (begun session racks) frames session.size seconds was written lost (is_memory end) g) session racks h rs es end before left old now

@@ -44,7 +44,8 @@ use Rattle.con_session.specs.Second.{Shown, PiecesStand, SecondIs, Mirrors, Fram
 -- ---- sights and pieces
 
 -- A begins anew
-pub pieces_attach : (ss : List Sight) (kept : Option Kept) (ps : List (List ℕ)) (z : Size) → PiecesStand ss kept ps → PiecesStand (ss ++ sights.Resize z ∷ []) (Some (unpainted z.w z.h)) ps
+pub pieces_attach : (ss : List Sight) (kept : Option Kept) (ps : List (List ℕ)) (z : Size) → PiecesStand ss kept ps
+    → PiecesStand (ss ++ sights.Resize z ∷ []) (Some (unpainted z.w z.h)) ps
 pieces_attach ss kept ps z k = record {
   matched = matched_resize ss ps z k.matched;
   each = λ t. piece_resize Painted t None ss ps z k.matched (k.each t);
@@ -70,7 +71,8 @@ pub pieces_still : (ss : List Sight) (kept : Option Kept) (ps : List (List ℕ))
 pieces_still ss kept ps k = let P : List Sight → Type 0 = λ x. PiecesStand x kept ps in subst P (sym (append_none ss)) k
 
 -- what a frame of the mirror does
-prints_few : (k after : Kept) (v : View) (bytes : List ℕ) (u : Terminal) (l : Option View) → Shown k u l → ((t : Terminal) → Allows k t → Paints k after v bytes t) → (known : Bool) → k.known ≡ known → Painted l v bytes u × Allows after (play u bytes)
+prints_few : (k after : Kept) (v : View) (bytes : List ℕ) (u : Terminal) (l : Option View) → Shown k u l
+    → ((t : Terminal) → Allows k t → Paints k after v bytes t) → (known : Bool) → k.known ≡ known → Painted l v bytes u × Allows after (play u bytes)
 prints_few k after v bytes u l r paints false e =
     let p = paints u r.allowed in
     let P : Option View → Type 0 = λ o. Painted o v bytes u in
@@ -84,10 +86,13 @@ prints_few k after v bytes u l r paints true e =
     (subst P (sym is) (record { shows = p.shows; few = subst D (sym cells) (p.few e); new_rows = subst L (sym cells) (p.lifted e) }), p.allows)
 
 -- a mirrored Paint
-pub pieces_paint : (ss : List Sight) (k after : Kept) (ps : List (List ℕ)) (v : View) (bytes : List ℕ) → ((t : Terminal) → Allows k t → Paints k after v bytes t) → IsShown after v → PiecesStand ss (Some k) ps → PiecesStand (ss ++ sights.Paint v ∷ []) (Some after) (ps ++ bytes ∷ [])
+pub pieces_paint : (ss : List Sight) (k after : Kept) (ps : List (List ℕ)) (v : View) (bytes : List ℕ)
+    → ((t : Terminal) → Allows k t → Paints k after v bytes t) → IsShown after v → PiecesStand ss (Some k) ps
+    → PiecesStand (ss ++ sights.Paint v ∷ []) (Some after) (ps ++ bytes ∷ [])
 pieces_paint ss k after ps v bytes paints shown st = record {
   matched = matched_paint ss ps v bytes st.matched;
-  each = λ t. piece_paint Painted t None ss ps v bytes st.matched (st.each t) (λ u l r. (prints_few k after v bytes u l (st.reach k refl t u l r) paints k.known refl).0);
+  each = λ t. piece_paint Painted t None ss ps v bytes st.matched (st.each t)
+      (λ u l r. (prints_few k after v bytes u l (st.reach k refl t u l r) paints k.known refl).0);
   reach = λ q e t u l r. let (x, y, was, is, last) = reach_paint t None ss ps v bytes u l st.matched r in
       let a = (prints_few k after v bytes x y (st.reach k refl t x y was) paints k.known refl).1 in
       let A : Terminal → Type 0 = λ z. Allows after z in
@@ -112,11 +117,17 @@ abbrev now_at : List MirrorFrame → List Entry → Watch
 now_at frames h = after watched (watch frames) h
 
 -- what an entry of another one, which is no Paint, changes: nothing
-other_at : (w : Watch) (s : State) (x : Entry) (b : Bool) → is_terminal x.actor ≡ b → b ≡ false → is_paint x.event ≡ false → (seconds_at w s x ≡ []) × (watched w x ≡ w)
+other_at : (w : Watch) (s : State) (x : Entry) (b : Bool) → is_terminal x.actor ≡ b → b ≡ false → is_paint x.event ≡ false
+    → (seconds_at w s x ≡ []) × (watched w x ≡ w)
 other_at w s x true e n p = absurd (let z = n in cc)
-other_at w s x false e n p = (ap (λ (c : Bool). if c then begun_at w x.event else painted_at w s x.event) e ∙ no_sight w s x.event p, ap (λ (c : Bool). if c then watched_at w x.event else w) e)
+other_at w s x false e n p = (
+  ap (λ (c : Bool). if c then begun_at w x.event else painted_at w s x.event) e
+      ∙ no_sight w s x.event p,
+  ap (λ (c : Bool). if c then watched_at w x.event else w) e,
+)
 
-pub second_other : (s : State) (ended : Bool) (kept : Option Kept) (ps : List (List ℕ)) (es : List ℕ) (end : ℕ) (before now : Option (List ℕ)) (failed : Bool) (fs : List MirrorFrame) (h g : List Entry) (x : Entry) → g ≡ h ++ x ∷ [] → is_terminal x.actor ≡ false → is_paint x.event ≡ false
+pub second_other : (s : State) (ended : Bool) (kept : Option Kept) (ps : List (List ℕ)) (es : List ℕ) (end : ℕ) (before now : Option (List ℕ))
+    (failed : Bool) (fs : List MirrorFrame) (h g : List Entry) (x : Entry) → g ≡ h ++ x ∷ [] → is_terminal x.actor ≡ false → is_paint x.event ≡ false
     → SecondIs s ended kept ps es end before now failed fs h → SecondIs s ended kept ps es end before now failed fs g
 second_other s ended kept ps es end before now failed fs h g x e n p k =
     let G : List Entry → Type 0 = λ z. SecondIs s ended kept ps es end before now failed fs z in
@@ -126,8 +137,10 @@ second_other s ended kept ps es end before now failed fs h g x e n p k =
     subst G (sym e) (record {
       sights = k.sights;
       flags = k.flags;
-      seconds = λ more. seconds-one (watch (fs ++ more)) s h x ∙ (ap (λ (ss : List Sight). seconds_of (watch (fs ++ more)) s h ++ ss) (o more).0 ∙ (append_none (seconds_of (watch (fs ++ more)) s h) ∙ k.seconds more));
-      flagged = λ more. flags-one (watch (fs ++ more)) h x ∙ (ap (λ (bs : List Bool). flags_of (watch (fs ++ more)) h ++ bs) (no_flag (now_at (fs ++ more) h) x.event p) ∙ (append_none (flags_of (watch (fs ++ more)) h) ∙ k.flagged more));
+      seconds = λ more. seconds-one (watch (fs ++ more)) s h x ∙ (ap (λ (ss : List Sight). seconds_of (watch (fs ++ more)) s h ++ ss) (o more).0
+          ∙ (append_none (seconds_of (watch (fs ++ more)) s h) ∙ k.seconds more));
+      flagged = λ more. flags-one (watch (fs ++ more)) h x ∙ (ap (λ (bs : List Bool). flags_of (watch (fs ++ more)) h ++ bs)
+          (no_flag (now_at (fs ++ more) h) x.event p) ∙ (append_none (flags_of (watch (fs ++ more)) h) ∙ k.flagged more));
       at = λ more. ap (λ (w : Watch). w.at) (W more) ∙ k.at more;
       coming = λ i more. ap (λ (w : Watch). w.coming) (W more) ∙ k.coming i more;
       stands = k.stands;
@@ -146,7 +159,8 @@ at_by kept (Plain frame) = refl
 at_by kept (Attach z) = refl
 at_by kept Detach = refl
 
-pieces_by : (ss : List Sight) (kept : Option Kept) (ps : List (List ℕ)) (f : MirrorFrame) → PiecesStand ss kept ps → PiecesStand (ss ++ begins_by (Some f)) (kept_by kept f) ps
+pieces_by : (ss : List Sight) (kept : Option Kept) (ps : List (List ℕ)) (f : MirrorFrame) → PiecesStand ss kept ps
+    → PiecesStand (ss ++ begins_by (Some f)) (kept_by kept f) ps
 pieces_by ss kept ps (Plain frame) k = pieces_still ss kept ps k
 pieces_by ss kept ps (Attach z) k = pieces_attach ss kept ps z k
 pieces_by ss kept ps Detach k = pieces_detach ss kept ps k
@@ -164,24 +178,29 @@ no_paint_sent (Plain frames.End) = refl
 no_paint_sent (Attach z) = refl
 no_paint_sent Detach = refl
 
-pub second_frame : (s : State) (later : Bool) (kept : Option Kept) (ps : List (List ℕ)) (es : List ℕ) (end : ℕ) (before now : Option (List ℕ)) (failed : Bool) (fs : List MirrorFrame) (h g : List Entry) (f : MirrorFrame) → g ≡ h ++ entry actors.Terminal (sent_by (as_plain f)) ∷ []
+pub second_frame : (s : State) (later : Bool) (kept : Option Kept) (ps : List (List ℕ)) (es : List ℕ) (end : ℕ) (before now : Option (List ℕ))
+    (failed : Bool) (fs : List MirrorFrame) (h g : List Entry) (f : MirrorFrame) → g ≡ h ++ entry actors.Terminal (sent_by (as_plain f)) ∷ []
     → SecondIs s false kept ps es end before now failed fs h → SecondIs s later (kept_by kept f) ps es end before now failed (fs ++ f ∷ []) g
 second_frame s later kept ps es end before now failed fs h g f e k =
     let x = entry actors.Terminal (sent_by (as_plain f)) in
     let G : List Entry → Type 0 = λ z. SecondIs s later (kept_by kept f) ps es end before now failed (fs ++ f ∷ []) z in
     let c : (more : List MirrorFrame) → (now_at (fs ++ f ∷ more) h).coming ≡ f ∷ more = λ more. k.coming refl (f ∷ more) in
-    let W : (more : List MirrorFrame) → now_at (fs ++ f ∷ more) (h ++ x ∷ []) ≡ watched_at (now_at (fs ++ f ∷ more) h) (sent_by (as_plain f)) = λ more. watched-one (watch (fs ++ f ∷ more)) h x in
+    let W : (more : List MirrorFrame) → now_at (fs ++ f ∷ more) (h ++ x ∷ []) ≡ watched_at (now_at (fs ++ f ∷ more) h) (sent_by (as_plain f)) =
+    λ more. watched-one (watch (fs ++ f ∷ more)) h x in
     subst G (sym e) (record {
       sights = k.sights ++ begins_by (Some f);
       flags = k.flags;
       seconds = λ more. ap (λ (z : List MirrorFrame). seconds_of (watch z) s (h ++ x ∷ [])) (one_more fs f more)
-          ∙ (seconds-one (watch (fs ++ f ∷ more)) s h x ∙ (ap (λ (ss : List Sight). ss ++ begun_at (now_at (fs ++ f ∷ more) h) (sent_by (as_plain f))) (k.seconds (f ∷ more))
+          ∙ (seconds-one (watch (fs ++ f ∷ more)) s h x
+          ∙ (ap (λ (ss : List Sight). ss ++ begun_at (now_at (fs ++ f ∷ more) h) (sent_by (as_plain f))) (k.seconds (f ∷ more))
           ∙ ap (λ (ss : List Sight). k.sights ++ ss) (frame_begins (now_at (fs ++ f ∷ more) h) f more (c more))));
       flagged = λ more. ap (λ (z : List MirrorFrame). flags_of (watch z) (h ++ x ∷ [])) (one_more fs f more)
-          ∙ (flags-one (watch (fs ++ f ∷ more)) h x ∙ (ap (λ (bs : List Bool). flags_of (watch (fs ++ f ∷ more)) h ++ bs) (no_flag (now_at (fs ++ f ∷ more) h) (sent_by (as_plain f)) (no_paint_sent f))
+          ∙ (flags-one (watch (fs ++ f ∷ more)) h x ∙ (ap (λ (bs : List Bool). flags_of (watch (fs ++ f ∷ more)) h ++ bs)
+          (no_flag (now_at (fs ++ f ∷ more) h) (sent_by (as_plain f)) (no_paint_sent f))
           ∙ (append_none (flags_of (watch (fs ++ f ∷ more)) h) ∙ k.flagged (f ∷ more))));
       at = λ more. ap (λ (z : List MirrorFrame). (now_at z (h ++ x ∷ [])).at) (one_more fs f more)
-          ∙ (ap (λ (w : Watch). w.at) (W more) ∙ (frame_at (now_at (fs ++ f ∷ more) h) f more (c more) ∙ (ap (λ (o : Option Size). attached_by o (Some f)) (k.at (f ∷ more)) ∙ at_by kept f)));
+          ∙ (ap (λ (w : Watch). w.at) (W more)
+          ∙ (frame_at (now_at (fs ++ f ∷ more) h) f more (c more) ∙ (ap (λ (o : Option Size). attached_by o (Some f)) (k.at (f ∷ more)) ∙ at_by kept f)));
       coming = λ i more. ap (λ (z : List MirrorFrame). (now_at z (h ++ x ∷ [])).coming) (one_more fs f more)
           ∙ (ap (λ (w : Watch). w.coming) (W more) ∙ frame_coming (now_at (fs ++ f ∷ more) h) f more (c more));
       stands = pieces_by k.sights kept ps f k.stands;
@@ -194,7 +213,8 @@ second_frame s later kept ps es end before now failed fs h g f e k =
     })
 
 -- a Hangup that is no frame
-pub second_hung : (s : State) (kept : Option Kept) (ps : List (List ℕ)) (es : List ℕ) (end : ℕ) (before now : Option (List ℕ)) (failed : Bool) (fs : List MirrorFrame) (h g : List Entry) (ended : Bool) → g ≡ h ++ entry actors.Terminal events.Hangup ∷ []
+pub second_hung : (s : State) (kept : Option Kept) (ps : List (List ℕ)) (es : List ℕ) (end : ℕ) (before now : Option (List ℕ)) (failed : Bool)
+    (fs : List MirrorFrame) (h g : List Entry) (ended : Bool) → g ≡ h ++ entry actors.Terminal events.Hangup ∷ []
     → SecondIs s ended kept ps es end before now failed fs h → SecondIs s true kept ps es end before now failed fs g
 second_hung s kept ps es end before now failed fs h g ended e k =
     let x = entry actors.Terminal events.Hangup in
@@ -227,13 +247,17 @@ pub record Painted' (s : State) (fs : List MirrorFrame) (h g : List Entry) (ss :
   pub flagged : (more : List MirrorFrame) → flags_of (watch (fs ++ more)) g ≡ bs ++ is_some kept ∷ []
   pub watch' : (more : List MirrorFrame) → now_at (fs ++ more) g ≡ now_at (fs ++ more) h
 
-paint_goes : (s : State) (ended : Bool) (kept : Option Kept) (ps : List (List ℕ)) (es : List ℕ) (end : ℕ) (before now : Option (List ℕ)) (failed : Bool) (fs : List MirrorFrame) (h : List Entry)
+paint_goes : (s : State) (ended : Bool) (kept : Option Kept) (ps : List (List ℕ)) (es : List ℕ) (end : ℕ) (before now : Option (List ℕ)) (failed : Bool)
+    (fs : List MirrorFrame) (h : List Entry)
     → (k : SecondIs s ended kept ps es end before now failed fs h) → Painted' s fs h (h ++ entry actors.Painter events.Paint ∷ []) k.sights k.flags kept
 paint_goes s ended kept ps es end before now failed fs h k =
     let x = entry actors.Painter events.Paint in
     record {
-      seconds = λ more. seconds-one (watch (fs ++ more)) s h x ∙ (ap (λ (o : Option Size). seconds_of (watch (fs ++ more)) s h ++ mirrored_to o (view_now (run s h))) (k.at more) ∙ ap (λ (ss : List Sight). ss ++ mirrored_to (at_size kept) (view_now (run s h))) (k.seconds more));
-      flagged = λ more. flags-one (watch (fs ++ more)) h x ∙ (ap (λ (b : Bool). flags_of (watch (fs ++ more)) h ++ b ∷ []) (flag_now (now_at (fs ++ more) h).at kept (k.at more)) ∙ ap (λ (bs : List Bool). bs ++ is_some kept ∷ []) (k.flagged more));
+      seconds = λ more. seconds-one (watch (fs ++ more)) s h x
+          ∙ (ap (λ (o : Option Size). seconds_of (watch (fs ++ more)) s h ++ mirrored_to o (view_now (run s h))) (k.at more)
+          ∙ ap (λ (ss : List Sight). ss ++ mirrored_to (at_size kept) (view_now (run s h))) (k.seconds more));
+      flagged = λ more. flags-one (watch (fs ++ more)) h x ∙ (ap (λ (b : Bool). flags_of (watch (fs ++ more)) h ++ b ∷ [])
+          (flag_now (now_at (fs ++ more) h).at kept (k.at more)) ∙ ap (λ (bs : List Bool). bs ++ is_some kept ∷ []) (k.flagged more));
       watch' = λ more. watched-one (watch (fs ++ more)) h x;
     }
 
@@ -241,15 +265,19 @@ count_more : (bs : List Bool) (es : List ℕ) (b : Bool) (e : ℕ) → length bs
 count_more bs es b e n = omega (arith, n, length-append bs (b ∷ []), length-append es (e ∷ []))
 
 -- one that is mirrored
-pub second_paint : (s : State) (ended : Bool) (k after' : Kept) (v : View) (bytes : List ℕ) (ps : List (List ℕ)) (es more : List ℕ) (end upto : ℕ) (before now later : Option (List ℕ)) (was failed : Bool) (fs : List MirrorFrame) (h g : List Entry) → g ≡ h ++ entry actors.Painter events.Paint ∷ []
-    → v ≡ view_now (run s h) → ((t : Terminal) → Allows k t → Paints k after' (part v (size_in k)) bytes t) → IsShown after' (part v (size_in k)) → after'.w ≡ k.w → after'.h ≡ k.h
+pub second_paint : (s : State) (ended : Bool) (k after' : Kept) (v : View) (bytes : List ℕ) (ps : List (List ℕ)) (es more : List ℕ) (end upto : ℕ)
+    (before now later : Option (List ℕ)) (was failed : Bool) (fs : List MirrorFrame) (h g : List Entry) → g ≡ h ++ entry actors.Painter events.Paint ∷ []
+    → v ≡ view_now (run s h) → ((t : Terminal) → Allows k t → Paints k after' (part v (size_in k)) bytes t)
+    → IsShown after' (part v (size_in k)) → after'.w ≡ k.w → after'.h ≡ k.h
     → Written before later (ps ++ bytes ∷ []) failed → upto ≡ end + length bytes → more ≡ es ++ upto ∷ []
     → SecondIs s ended (Some k) ps es end before now was fs h → SecondIs s ended (Some after') (ps ++ bytes ∷ []) more upto before later failed fs g
 second_paint s ended k after' v bytes ps es more end upto before now later was failed fs h g e i paints shown wide high w u m st =
     let p = paint_goes s ended (Some k) ps es end before now was fs h st in
     let G : List Entry → Type 0 = λ z. SecondIs s ended (Some after') (ps ++ bytes ∷ []) more upto before later failed fs z in
-    let E : List ℕ → Type 0 = λ z. SecondIs s ended (Some after') (ps ++ bytes ∷ []) z upto before later failed fs (h ++ entry actors.Painter events.Paint ∷ []) in
-    let same : at_size (Some k) ≡ at_size (Some after') = ap (λ (a : ℕ). Some (let z : Size = record { w = a; h = k.h } in z)) (sym wide) ∙ ap (λ (a : ℕ). Some (let z : Size = record { w = after'.w; h = a } in z)) (sym high) in
+    let E : List ℕ → Type 0 =
+    λ z. SecondIs s ended (Some after') (ps ++ bytes ∷ []) z upto before later failed fs (h ++ entry actors.Painter events.Paint ∷ []) in
+    let same : at_size (Some k) ≡ at_size (Some after') = ap (λ (a : ℕ). Some (let z : Size = record { w = a; h = k.h } in z)) (sym wide)
+    ∙ ap (λ (a : ℕ). Some (let z : Size = record { w = after'.w; h = a } in z)) (sym high) in
     let j = joined_more ps bytes in
     let total : upto ≡ length (joined (ps ++ bytes ∷ [])) = omega (arith, u, st.end', ap (λ (x : List ℕ). length x) j, length-append (joined ps) bytes) in
     subst G (sym e) (subst E (sym m) (record {
@@ -262,14 +290,16 @@ second_paint s ended k after' v bytes ps es more end upto before now later was f
       stands = pieces_paint st.sights k after' ps (part v (size_in k)) bytes paints shown st.stands;
       written = w;
       count = count_more st.flags es true upto st.count;
-      ends' = picked-more st.flags es upto st.count ∙ (ap (λ (x : List ℕ). x ++ upto ∷ []) st.ends' ∙ (ap (λ (z : ℕ). ends_from 0 ps ++ z ∷ []) (let q : upto ≡ 0 + length (joined ps) + length bytes = omega (arith, u, st.end') in q) ∙ sym (ends_more 0 ps bytes)));
+      ends' = picked-more st.flags es upto st.count ∙ (ap (λ (x : List ℕ). x ++ upto ∷ []) st.ends' ∙ (ap (λ (z : ℕ). ends_from 0 ps ++ z ∷ [])
+          (let q : upto ≡ 0 + length (joined ps) + length bytes = omega (arith, u, st.end') in q) ∙ sym (ends_more 0 ps bytes)));
       rests = rests-more 0 st.flags es true upto st.count st.rests (λ x. absurd (cc));
       last = last-more 0 es upto;
       end' = total;
     }))
 
 -- one that is not: the stream does not grow
-pub second_passed : (s : State) (ended : Bool) (ps : List (List ℕ)) (es more : List ℕ) (end : ℕ) (before now : Option (List ℕ)) (failed : Bool) (fs : List MirrorFrame) (h g : List Entry) → g ≡ h ++ entry actors.Painter events.Paint ∷ [] → more ≡ es ++ end ∷ []
+pub second_passed : (s : State) (ended : Bool) (ps : List (List ℕ)) (es more : List ℕ) (end : ℕ) (before now : Option (List ℕ)) (failed : Bool)
+    (fs : List MirrorFrame) (h g : List Entry) → g ≡ h ++ entry actors.Painter events.Paint ∷ [] → more ≡ es ++ end ∷ []
     → SecondIs s ended None ps es end before now failed fs h → SecondIs s ended None ps more end before now failed fs g
 second_passed s ended ps es more end before now failed fs h g e m st =
     let p = paint_goes s ended None ps es end before now failed fs h st in
@@ -298,7 +328,8 @@ written_failed before now ps p w =
     record {
       count = w.count;
       most = omega (arith, w.most, ap (λ (x : List ℕ). length x) j, length-append (joined ps) p);
-      front = w.front ∙ ap (λ (x : List ℕ). then_written before x) (sym (take-append-le w.count (joined ps) p w.most) ∙ ap (λ (x : List ℕ). take w.count x) (sym j));
+      front = w.front
+          ∙ ap (λ (x : List ℕ). then_written before x) (sym (take-append-le w.count (joined ps) p w.most) ∙ ap (λ (x : List ℕ). take w.count x) (sym j));
       whole = λ x. absurd (cc);
     }
 
@@ -324,11 +355,15 @@ second_begins s before = record {
     none_is : (a : Kept) → None ≡ Some a → ⊥
     none_is a e = cc
 
-runs : (claim : Option View → View → List ℕ → Terminal → Type 0) → ((l : Option View) (v : View) (p : List ℕ) (t : Terminal) → Painted l v p t → claim l v p t) → (size : Size) (ss zs : List Sight) (ps : List (List ℕ)) (es : List ℕ) (n : ℕ) → ss ≡ zs → es ≡ ends_from 0 ps → ((t : Terminal) → EachPiece Painted t None zs ps)
+runs : (claim : Option View → View → List ℕ → Terminal → Type 0) → ((l : Option View) (v : View) (p : List ℕ) (t : Terminal) → Painted l v p t → claim l v p t)
+    → (size : Size) (ss zs : List Sight) (ps : List (List ℕ)) (es : List ℕ) (n : ℕ) → ss ≡ zs → es ≡ ends_from 0 ps
+    → ((t : Terminal) → EachPiece Painted t None zs ps)
     → EachRun claim size (take n (joined ps)) ss es
-runs claim f size ss zs ps es n e i k = let P : List Sight → Type 0 = λ z. EachRun claim size (take n (joined ps)) z es in subst P (sym e) (stream_run claim f size zs ps n es i (λ t j. k t))
+runs claim f size ss zs ps es n e i k =
+    let P : List Sight → Type 0 = λ z. EachRun claim size (take n (joined ps)) z es in subst P (sym e) (stream_run claim f size zs ps n es i (λ t j. k t))
 
-pub second_ends : (s : State) (ended : Bool) (kept : Option Kept) (ps : List (List ℕ)) (es : List ℕ) (end : ℕ) (before now : Option (List ℕ)) (failed failed' memory : Bool) (size : Size) (fs : List MirrorFrame) (h : List Entry) → (failed' ≡ false → memory ≡ false → failed ≡ false)
+pub second_ends : (s : State) (ended : Bool) (kept : Option Kept) (ps : List (List ℕ)) (es : List ℕ) (end : ℕ) (before now : Option (List ℕ))
+    (failed failed' memory : Bool) (size : Size) (fs : List MirrorFrame) (h : List Entry) → (failed' ≡ false → memory ≡ false → failed ≡ false)
     → SecondIs s ended kept ps es end before now failed fs h → Mirrors s fs size es before now failed' memory h
 second_ends s ended kept ps es end before now failed failed' memory size fs h fine k =
     let ss : seconds_of (watch fs) s h ≡ k.sights = ap (λ (z : List MirrorFrame). seconds_of (watch z) s h) (sym (append_none fs)) ∙ k.seconds [] in
@@ -339,25 +374,32 @@ second_ends s ended kept ps es end before now failed failed' memory size fs h fi
       built = joined ps;
       long = sym (k.last ∙ k.end');
       front = (k.written.count, k.written.most, k.written.front);
-      all' = λ n m. k.written.front ∙ ap (λ (x : List ℕ). then_written before x) (ap (λ (c : ℕ). take c (joined ps)) (k.written.whole (fine n m)) ∙ take_all (joined ps));
+      all' = λ n m. k.written.front
+          ∙ ap (λ (x : List ℕ). then_written before x) (ap (λ (c : ℕ). take c (joined ps)) (k.written.whole (fine n m)) ∙ take_all (joined ps));
       ends' = λ m. sym k.count ∙ (ap length (sym bs) ∙ flags-count (watch fs) h);
       but_last = inl (sym k.count ∙ (ap length (sym bs) ∙ flags-count (watch fs) h));
       rests = subst R (sym bs) k.rests;
-      shows = λ n. runs ShowsView (λ l v p t x. x.shows) size (seconds_of (watch fs) s h) k.sights ps (picked (flags_of (watch fs) h) es) n ss es' k.stands.each;
+      shows =
+          λ n. runs ShowsView (λ l v p t x. x.shows) size (seconds_of (watch fs) s h) k.sights ps (picked (flags_of (watch fs) h) es) n ss es' k.stands.each;
       few = λ n. runs PrintsFew (λ l v p t x. x.few) size (seconds_of (watch fs) s h) k.sights ps (picked (flags_of (watch fs) h) es) n ss es' k.stands.each;
     }
 
 -- a Paint was entered that has no end, for want of memory
-pub second_past : (s : State) (ended : Bool) (kept : Option Kept) (ps : List (List ℕ)) (es : List ℕ) (end : ℕ) (before now : Option (List ℕ)) (failed failed' : Bool) (size : Size) (fs : List MirrorFrame) (h g : List Entry) → g ≡ h ++ entry actors.Painter events.Paint ∷ []
+pub second_past : (s : State) (ended : Bool) (kept : Option Kept) (ps : List (List ℕ)) (es : List ℕ) (end : ℕ) (before now : Option (List ℕ))
+    (failed failed' : Bool) (size : Size) (fs : List MirrorFrame) (h g : List Entry) → g ≡ h ++ entry actors.Painter events.Paint ∷ []
     → SecondIs s ended kept ps es end before now failed fs h → Mirrors s fs size es before now failed' true g
 second_past s ended kept ps es end before now failed failed' size fs h g e k =
     let x = entry actors.Painter events.Paint in
     let G : List Entry → Type 0 = λ z. Mirrors s fs size es before now failed' true z in
     let p = paint_goes s ended kept ps es end before now failed fs h k in
-    let ss : seconds_of (watch fs) s (h ++ x ∷ []) ≡ k.sights ++ mirrored_to (at_size kept) (view_now (run s h)) = ap (λ (z : List MirrorFrame). seconds_of (watch z) s (h ++ x ∷ [])) (sym (append_none fs)) ∙ p.seconds [] in
-    let bs : flags_of (watch fs) (h ++ x ∷ []) ≡ k.flags ++ is_some kept ∷ [] = ap (λ (z : List MirrorFrame). flags_of (watch z) (h ++ x ∷ [])) (sym (append_none fs)) ∙ p.flagged [] in
-    let es' : picked (flags_of (watch fs) (h ++ x ∷ [])) es ≡ ends_from 0 ps = ap (λ (z : List Bool). picked z es) bs ∙ (picked-past k.flags (is_some kept) es k.count ∙ k.ends') in
-    let each : (t : Terminal) → EachPiece Painted t None (k.sights ++ mirrored_to (at_size kept) (view_now (run s h))) ps = λ t. past kept k.sights ps t (view_now (run s h)) k.stands in
+    let ss : seconds_of (watch fs) s (h ++ x ∷ []) ≡ k.sights ++ mirrored_to (at_size kept) (view_now (run s h)) =
+    ap (λ (z : List MirrorFrame). seconds_of (watch z) s (h ++ x ∷ [])) (sym (append_none fs)) ∙ p.seconds [] in
+    let bs : flags_of (watch fs) (h ++ x ∷ []) ≡ k.flags ++ is_some kept ∷ [] =
+    ap (λ (z : List MirrorFrame). flags_of (watch z) (h ++ x ∷ [])) (sym (append_none fs)) ∙ p.flagged [] in
+    let es' : picked (flags_of (watch fs) (h ++ x ∷ [])) es ≡ ends_from 0 ps = ap (λ (z : List Bool). picked z es) bs
+    ∙ (picked-past k.flags (is_some kept) es k.count ∙ k.ends') in
+    let each : (t : Terminal) → EachPiece Painted t None (k.sights ++ mirrored_to (at_size kept) (view_now (run s h))) ps =
+    λ t. past kept k.sights ps t (view_now (run s h)) k.stands in
     let R : List Bool → Type 0 = λ z. Stays 0 z es in
     subst G (sym e) (record {
       built = joined ps;
@@ -365,39 +407,47 @@ second_past s ended kept ps es end before now failed failed' size fs h g e k =
       front = (k.written.count, k.written.most, k.written.front);
       all' = λ n m. absurd (cc);
       ends' = λ m. absurd (cc);
-      but_last = inr (omega (arith, k.count, length-append k.flags (is_some kept ∷ []), ap (λ (z : List Bool). length z) bs, flags-count (watch fs) (h ++ x ∷ [])));
+      but_last =
+          inr (omega (arith, k.count, length-append k.flags (is_some kept ∷ []), ap (λ (z : List Bool). length z) bs, flags-count (watch fs) (h ++ x ∷ [])));
       rests = subst R (sym bs) (rests-past 0 k.flags (is_some kept) es k.count k.rests);
-      shows = λ n. runs ShowsView (λ l v q t y. y.shows) size (seconds_of (watch fs) s (h ++ x ∷ [])) (k.sights ++ mirrored_to (at_size kept) (view_now (run s h))) ps (picked (flags_of (watch fs) (h ++ x ∷ [])) es) n ss es' each;
-      few = λ n. runs PrintsFew (λ l v q t y. y.few) size (seconds_of (watch fs) s (h ++ x ∷ [])) (k.sights ++ mirrored_to (at_size kept) (view_now (run s h))) ps (picked (flags_of (watch fs) (h ++ x ∷ [])) es) n ss es' each;
+      shows = λ n. runs ShowsView (λ l v q t y. y.shows) size (seconds_of (watch fs) s (h ++ x ∷ []))
+          (k.sights ++ mirrored_to (at_size kept) (view_now (run s h))) ps (picked (flags_of (watch fs) (h ++ x ∷ [])) es) n ss es' each;
+      few = λ n. runs PrintsFew (λ l v q t y. y.few) size (seconds_of (watch fs) s (h ++ x ∷ []))
+          (k.sights ++ mirrored_to (at_size kept) (view_now (run s h))) ps (picked (flags_of (watch fs) (h ++ x ∷ [])) es) n ss es' each;
     })
   where
-    past : (o : Option Kept) (zs : List Sight) (qs : List (List ℕ)) (t : Terminal) (v : View) → PiecesStand zs o qs → EachPiece Painted t None (zs ++ mirrored_to (at_size o) v) qs
+    past : (o : Option Kept) (zs : List Sight) (qs : List (List ℕ)) (t : Terminal) (v : View) → PiecesStand zs o qs
+        → EachPiece Painted t None (zs ++ mirrored_to (at_size o) v) qs
     past None zs qs t v st = let P : List Sight → Type 0 = λ y. EachPiece Painted t None y qs in subst P (sym (append_none zs)) (st.each t)
     past (Some q) zs qs t v st = piece_none Painted t None zs qs (part v (size_in q)) st.matched (st.each t)
 
 -- ---- a turn
 
 -- what was written behind one more frame
-wrote_more : (before now later : Option (List ℕ)) (ps : List (List ℕ)) (bytes : List ℕ) (was failed : Bool) → Written before now ps was → Wrote was failed bytes now later → Written before later (ps ++ bytes ∷ []) failed
+wrote_more : (before now later : Option (List ℕ)) (ps : List (List ℕ)) (bytes : List ℕ) (was failed : Bool)
+    → Written before now ps was → Wrote was failed bytes now later → Written before later (ps ++ bytes ∷ []) failed
 wrote_more before now later ps bytes true failed w (f, e) =
     let P : Option (List ℕ) → Type 0 = λ z. Written before z (ps ++ bytes ∷ []) failed in
     let Q : Bool → Type 0 = λ b. Written before now (ps ++ bytes ∷ []) b in
     subst P (sym e) (subst Q (sym f) (written_failed before now ps bytes w))
 wrote_more before now later ps bytes false true w (n, l, e) = written_more before now later ps bytes n true w l e (λ x. absurd (cc))
-wrote_more before now later ps bytes false false w e = written_more before now later ps bytes (length bytes) false w (omega arith) (e ∙ ap (λ (x : List ℕ). then_written now x) (sym (take_all bytes))) (λ x. refl)
+wrote_more before now later ps bytes false false w e =
+    written_more before now later ps bytes (length bytes) false w (omega arith) (e ∙ ap (λ (x : List ℕ). then_written now x) (sym (take_all bytes))) (λ x. refl)
 
 none_of : (n : ℕ) → take n (let z : List ℕ = [] in z) ≡ []
 none_of zero = refl
 none_of (suc n) = refl
 
 -- and behind none
-wrote_none : (before now later : Option (List ℕ)) (ps : List (List ℕ)) (bytes : List ℕ) (was failed : Bool) → bytes ≡ [] → Written before now ps was → Wrote was failed bytes now later → Written before later ps failed
+wrote_none : (before now later : Option (List ℕ)) (ps : List (List ℕ)) (bytes : List ℕ) (was failed : Bool)
+    → bytes ≡ [] → Written before now ps was → Wrote was failed bytes now later → Written before later ps failed
 wrote_none before now later ps bytes true failed i w (f, e) =
     let P : Option (List ℕ) → Type 0 = λ z. Written before z ps failed in
     let Q : Bool → Type 0 = λ b. Written before now ps b in
     subst P (sym e) (subst Q (sym f) w)
 wrote_none before now later ps bytes false true i w (n, l, e) =
-    let same : later ≡ now = e ∙ (ap (λ (x : List ℕ). then_written now (take n x)) i ∙ (ap (λ (x : List ℕ). then_written now x) (none_of n) ∙ sym (then_written-none now))) in
+    let same : later ≡ now =
+    e ∙ (ap (λ (x : List ℕ). then_written now (take n x)) i ∙ (ap (λ (x : List ℕ). then_written now x) (none_of n) ∙ sym (then_written-none now))) in
     let P : Option (List ℕ) → Type 0 = λ z. Written before z ps true in
     subst P (sym same) (record { count = w.count; most = w.most; front = w.front; whole = λ x. absurd (cc) })
 wrote_none before now later ps bytes false false i w e =
@@ -406,46 +456,75 @@ wrote_none before now later ps bytes false false i w e =
     subst P (sym same) w
 
 -- a Paint, whether it is mirrored or not
-pub second_follows : (s : State) (ended : Bool) (old new : Option Kept) (v : View) (bytes : List ℕ) (ps : List (List ℕ)) (es more : List ℕ) (end upto : ℕ) (before now later : Option (List ℕ)) (was failed : Bool) (fs : List MirrorFrame) (h : List Entry)
+pub second_follows : (s : State) (ended : Bool) (old new : Option Kept) (v : View) (bytes : List ℕ) (ps : List (List ℕ)) (es more : List ℕ)
+    (end upto : ℕ) (before now later : Option (List ℕ)) (was failed : Bool) (fs : List MirrorFrame) (h : List Entry)
     → v ≡ view_now (run s h) → FrameOf old new v bytes → Wrote was failed bytes now later → upto ≡ end + length bytes → more ≡ es ++ upto ∷ []
-    → SecondIs s ended old ps es end before now was fs h → (qs : List (List ℕ)) × SecondIs s ended new qs more upto before later failed fs (h ++ entry actors.Painter events.Paint ∷ [])
+    → SecondIs s ended old ps es end before now was fs h
+    → (qs : List (List ℕ)) × SecondIs s ended new qs more upto before later failed fs (h ++ entry actors.Painter events.Paint ∷ [])
 second_follows s ended None new v bytes ps es more end upto before now later was failed fs h i (n, none) w u m st =
     let g = h ++ entry actors.Painter events.Paint ∷ [] in
     let same : upto ≡ end = u ∙ (ap (λ (x : List ℕ). end + length x) none ∙ (let z : end + 0 ≡ end = omega arith in z)) in
     let N : Option Kept → Type 0 = λ z. (qs : List (List ℕ)) × SecondIs s ended z qs more upto before later failed fs g in
     let U : ℕ → Type 0 = λ z. (qs : List (List ℕ)) × SecondIs s ended None qs more z before later failed fs g in
     let wrote = wrote_none before now later ps bytes was failed none st.written w in
-    let base : SecondIs s ended None ps es end before later failed fs h = record { sights = st.sights; flags = st.flags; seconds = st.seconds; flagged = st.flagged; at = st.at; coming = st.coming; stands = st.stands; written = wrote; count = st.count; ends' = st.ends'; rests = st.rests; last = st.last; end' = st.end' } in
+    let base : SecondIs s ended None ps es end before later failed fs h = record {
+      sights = st.sights;
+      flags = st.flags;
+      seconds = st.seconds;
+      flagged = st.flagged;
+      at = st.at;
+      coming = st.coming;
+      stands = st.stands;
+      written = wrote;
+      count = st.count;
+      ends' = st.ends';
+      rests = st.rests;
+      last = st.last;
+      end' = st.end';
+    } in
     subst N (sym n) (subst U (sym same) (ps, second_passed s ended ps es more end before later failed fs h g refl (m ∙ ap (λ (z : ℕ). es ++ z ∷ []) same) base))
 second_follows s ended (Some k) new v bytes ps es more end upto before now later was failed fs h i (after', is, f) w u m st =
     let g = h ++ entry actors.Painter events.Paint ∷ [] in
     let N : Option Kept → Type 0 = λ z. (qs : List (List ℕ)) × SecondIs s ended z qs more upto before later failed fs g in
-    subst N (sym is) (ps ++ bytes ∷ [], second_paint s ended k after' v bytes ps es more end upto before now later was failed fs h g refl i f.paints f.shown f.wide f.high (wrote_more before now later ps bytes was failed st.written w) u m st)
+    subst N (sym is) (
+      ps ++ bytes ∷ [],
+      second_paint s ended k after' v bytes ps es more end upto before now later was failed fs h g refl i f.paints
+          f.shown f.wide f.high (wrote_more before now later ps bytes was failed st.written w) u m st,
+    )
 
 -- a Paint without an end of its own
-pub second_err : (s : State) (ended : Bool) (old new : Option Kept) (ps : List (List ℕ)) (es xs : List ℕ) (end last : ℕ) (before now : Option (List ℕ)) (was failed : Bool) (fs : List MirrorFrame) (h : List Entry) (result : Result (Unit {0}) OutOfMemory) → IsErr result → xs ≡ es
-    → SecondIs s ended old ps es end before now was fs h → SecondTurn result s ended new xs last before now failed fs (h ++ entry actors.Painter events.Paint ∷ [])
+pub second_err : (s : State) (ended : Bool) (old new : Option Kept) (ps : List (List ℕ)) (es xs : List ℕ) (end last : ℕ) (before now : Option (List ℕ))
+    (was failed : Bool) (fs : List MirrorFrame) (h : List Entry) (result : Result (Unit {0}) OutOfMemory) → IsErr result → xs ≡ es
+    → SecondIs s ended old ps es end before now was fs h
+    → SecondTurn result s ended new xs last before now failed fs (h ++ entry actors.Painter events.Paint ∷ [])
 second_err s ended old new ps es xs end last before now was failed fs h (Ok u) i e st = absurd (cc)
 second_err s ended old new ps es xs end last before now was failed fs h (Err x) i e st = λ size.
     let P : List ℕ → Type 0 = λ z. Mirrors s fs size z before now failed true (h ++ entry actors.Painter events.Paint ∷ []) in
     subst P (sym e) (second_past s ended old ps es end before now was failed size fs h (h ++ entry actors.Painter events.Paint ∷ []) refl st)
 
 -- the same, by what is known of the flags and of the bytes that were handed on
-pub second_went : (s : State) (ended : Bool) (old new : Option Kept) (v : View) (bytes handed : List ℕ) (ps : List (List ℕ)) (es xs more : List ℕ) (end upto n : ℕ) (before now later : Option (List ℕ)) (was failed w f : Bool) (fs : List MirrorFrame) (h : List Entry)
-    → v ≡ view_now (run s h) → FrameOf old new v bytes → was ≡ w → failed ≡ f → handed ≡ bytes → Wrote w f handed now later → upto ≡ end + n → n ≡ length bytes → xs ≡ es → more ≡ xs ++ upto ∷ []
-    → SecondIs s ended old ps es end before now was fs h → (qs : List (List ℕ)) × SecondIs s ended new qs more upto before later failed fs (h ++ entry actors.Painter events.Paint ∷ [])
+pub second_went : (s : State) (ended : Bool) (old new : Option Kept) (v : View) (bytes handed : List ℕ) (ps : List (List ℕ)) (es xs more : List ℕ)
+    (end upto n : ℕ) (before now later : Option (List ℕ)) (was failed w f : Bool) (fs : List MirrorFrame) (h : List Entry)
+    → v ≡ view_now (run s h) → FrameOf old new v bytes → was ≡ w → failed ≡ f → handed ≡ bytes → Wrote w f handed now later → upto ≡ end + n
+    → n ≡ length bytes → xs ≡ es → more ≡ xs ++ upto ∷ []
+    → SecondIs s ended old ps es end before now was fs h
+    → (qs : List (List ℕ)) × SecondIs s ended new qs more upto before later failed fs (h ++ entry actors.Painter events.Paint ∷ [])
 second_went s ended old new v bytes handed ps es xs more end upto n before now later was failed w f fs h i frame ew ef eb wrote u l ex m st =
     let P : Bool → Type 0 = λ b. Wrote b failed bytes now later in
     let Q : Bool → Type 0 = λ b. Wrote w b bytes now later in
     let R : List ℕ → Type 0 = λ b. Wrote w f b now later in
-    second_follows s ended old new v bytes ps es more end upto before now later was failed fs h i frame (subst P (sym ew) (subst Q (sym ef) (subst R eb wrote))) (u ∙ ap (λ (z : ℕ). end + z) l) (m ∙ ap (λ (z : List ℕ). z ++ upto ∷ []) ex) st
+    second_follows s ended old new v bytes ps es more end upto before now later was failed fs h i frame
+    (subst P (sym ew) (subst Q (sym ef) (subst R eb wrote))) (u ∙ ap (λ (z : ℕ). end + z) l) (m ∙ ap (λ (z : List ℕ). z ++ upto ∷ []) ex) st
 
-pub second_lost : (s : State) (ended : Bool) (old : Option Kept) (ps : List (List ℕ)) (es xs : List ℕ) (end : ℕ) (before now : Option (List ℕ)) (was failed : Bool) (fs : List MirrorFrame) (h : List Entry) (size : Size) → xs ≡ es
+pub second_lost : (s : State) (ended : Bool) (old : Option Kept) (ps : List (List ℕ)) (es xs : List ℕ) (end : ℕ) (before now : Option (List ℕ))
+    (was failed : Bool) (fs : List MirrorFrame) (h : List Entry) (size : Size) → xs ≡ es
     → SecondIs s ended old ps es end before now was fs h → Mirrors s fs size xs before now failed true (h ++ entry actors.Painter events.Paint ∷ [])
 second_lost s ended old ps es xs end before now was failed fs h size e st =
     let P : List ℕ → Type 0 = λ z. Mirrors s fs size z before now failed true (h ++ entry actors.Painter events.Paint ∷ []) in
     subst P (sym e) (second_past s ended old ps es end before now was failed size fs h (h ++ entry actors.Painter events.Paint ∷ []) refl st)
 
-pub second_cut : (s : State) (ended : Bool) (new : Option Kept) (more : List ℕ) (upto : ℕ) (before later : Option (List ℕ)) (failed : Bool) (fs : List MirrorFrame) (h : List Entry) (size : Size)
+pub second_cut : (s : State) (ended : Bool) (new : Option Kept) (more : List ℕ) (upto : ℕ) (before later : Option (List ℕ)) (failed : Bool)
+    (fs : List MirrorFrame) (h : List Entry) (size : Size)
     → ((qs : List (List ℕ)) × SecondIs s ended new qs more upto before later true fs h) → Mirrors s fs size more before later failed true h
-second_cut s ended new more upto before later failed fs h size (qs, k) = second_ends s ended new qs more upto before later true failed true size fs h (λ e f. absurd (cc)) k
+second_cut s ended new more upto before later failed fs h size (qs, k) =
+    second_ends s ended new qs more upto before later true failed true size fs h (λ e f. absurd (cc)) k

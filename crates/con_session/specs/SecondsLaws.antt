@@ -24,8 +24,10 @@ seconds-append w s (x ∷ xs) g =
     ap (λ (ss : List Sight). seconds_at w s x ++ ss) (seconds-append (watched w x) (moved s x) xs g)
     ∙ sym (append_assoc (seconds_at w s x) (seconds_of (watched w x) (moved s x) xs) (seconds_of (after watched (watched w x) xs) (run (moved s x) xs) g))
 
-pub seconds-one : (w : Watch) (s : State) (h : List Entry) (x : Entry) → seconds_of w s (h ++ x ∷ []) ≡ seconds_of w s h ++ seconds_at (after watched w h) (run s h) x
-seconds-one w s h x = seconds-append w s h (x ∷ []) ∙ ap (λ (ss : List Sight). seconds_of w s h ++ ss) (append_none (seconds_at (after watched w h) (run s h) x))
+pub seconds-one : (w : Watch) (s : State) (h : List Entry) (x : Entry)
+    → seconds_of w s (h ++ x ∷ []) ≡ seconds_of w s h ++ seconds_at (after watched w h) (run s h) x
+seconds-one w s h x =
+    seconds-append w s h (x ∷ []) ∙ ap (λ (ss : List Sight). seconds_of w s h ++ ss) (append_none (seconds_at (after watched w h) (run s h) x))
 
 flags-append : (w : Watch) (h g : List Entry) → flags_of w (h ++ g) ≡ flags_of w h ++ flags_of (after watched w h) g
 flags-append w [] g = refl
@@ -66,7 +68,8 @@ picked-past (c ∷ bs) b [] n = absurd (omega arith)
 picked-past (true ∷ bs) b (x ∷ xs) n = ap (λ (ys : List ℕ). x ∷ ys) (picked-past bs b xs (omega arith))
 picked-past (false ∷ bs) b (x ∷ xs) n = picked-past bs b xs (omega arith)
 
-pub rests-more : (from : ℕ) (bs : List Bool) (es : List ℕ) (b : Bool) (e : ℕ) → length bs ≡ length es → Stays from bs es → (b ≡ false → e ≡ end_of from es) → Stays from (bs ++ b ∷ []) (es ++ e ∷ [])
+pub rests-more : (from : ℕ) (bs : List Bool) (es : List ℕ) (b : Bool) (e : ℕ) → length bs ≡ length es → Stays from bs es → (b ≡ false → e ≡ end_of from es)
+    → Stays from (bs ++ b ∷ []) (es ++ e ∷ [])
 rests-more from [] [] true e n r k = tt
 rests-more from [] [] false e n r k = (k refl, tt)
 rests-more from [] (x ∷ xs) b e n r k = absurd (omega arith)
@@ -91,7 +94,8 @@ last-more from (x ∷ xs) e = last-more x xs e
 
 pub flags-count : (w : Watch) (h : List Entry) → length (flags_of w h) ≡ paints h
 flags-count w [] = refl
-flags-count w (x ∷ xs) = length-append (flag_at w x.event) (flags_of (watched w x) xs) ∙ (ap (λ (n : ℕ). length (flag_at w x.event) + n) (flags-count (watched w x) xs) ∙ ap (λ (n : ℕ). n + paints xs) (one w x.event))
+flags-count w (x ∷ xs) = length-append (flag_at w x.event) (flags_of (watched w x) xs)
+    ∙ (ap (λ (n : ℕ). length (flag_at w x.event) + n) (flags-count (watched w x) xs) ∙ ap (λ (n : ℕ). n + paints xs) (one w x.event))
   where
     one : (v : Watch) (e : Event) → length (flag_at v e) ≡ (if is_paint e then 1 else 0)
     one v events.Paint = refl
@@ -147,7 +151,8 @@ frame_begins w (Plain frames.End) more e = refl
 frame_begins w (Attach z) more e = ap (λ (c : List MirrorFrame). begins_by (first_of c)) e
 frame_begins w Detach more e = ap (λ (c : List MirrorFrame). begins_by (first_of c)) e
 
-pub frame_at : (w : Watch) (f : MirrorFrame) (more : List MirrorFrame) → w.coming ≡ f ∷ more → (watched_at w (sent_by (as_plain f))).at ≡ attached_by w.at (Some f)
+pub frame_at : (w : Watch) (f : MirrorFrame) (more : List MirrorFrame) → w.coming ≡ f ∷ more
+    → (watched_at w (sent_by (as_plain f))).at ≡ attached_by w.at (Some f)
 frame_at w (Plain (frames.Bytes bytes)) more e = refl
 frame_at w (Plain frames.Quiet) more e = refl
 frame_at w (Plain (frames.Resize z)) more e = refl

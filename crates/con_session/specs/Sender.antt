@@ -44,7 +44,8 @@ hung true = events.Hangup ∷ []
 -- the terminal's side sent these frames, whatever comes behind them; and perhaps a Hangup that is none
 pub record SideStands (h : List Entry) (coming : List Frame) (cut ended : Bool) : Type 0 where
   pub follows : (c : Bool) → (cut ≡ true → c ≡ true) → (more : List Frame) → FollowsLink c (coming ++ more) (sent h)
-  pub after' : ended ≡ false → (more : List Frame) → after sent_one (record { coming = coming ++ more; ended = false }) (sent h) ≡ record { coming = more; ended = false }
+  pub after' : ended ≡ false → (more : List Frame)
+      → after sent_one (record { coming = coming ++ more; ended = false }) (sent h) ≡ record { coming = more; ended = false }
   pub ended' : has_ended false (sent h) ≡ ended
   pub all' : sent h ≡ map sent_by coming ++ hung cut
 
@@ -55,15 +56,18 @@ all_go_on R fs = list_all (λ f. goes_on (R.plain f)) fs
 
 -- frames of which the last one, and it alone, ends the link, of which this is left
 abbrev pub IsLinkBy : (R : Reading) → List R.One → Option (List ℕ) → Type 0
-IsLinkBy R frames left = (front : List R.One) × (last : R.One) × (frames ≡ front ++ last ∷ []) × (all_go_on R front ≡ true) × (ends_link (R.plain last) ≡ true) × IsEnd (R.plain last) left
+IsLinkBy R frames left = (front : List R.One) × (last : R.One) × (frames ≡ front ++ last ∷ []) × (all_go_on R front ≡ true)
+    × (ends_link (R.plain last) ≡ true) × IsEnd (R.plain last) left
 
 -- Behind the frames nothing was taken of the link, or no more than one reading takes: a frame, of which no event came, a front of one, or the bytes to the
 -- one that shows a fault. Behind a frame that ends the link it is nothing.
 abbrev pub TakesBehind : (R : Reading) → List R.One → List ℕ → Option (List ℕ) → Type 0
-TakesBehind R frames text left = (text ≡ []) ⊎ ((all_go_on R frames ≡ true) × (r : Result R.One LinkFault) × R.answers r (length (flat_map R.spelling frames)) text left)
+TakesBehind R frames text left =
+    (text ≡ []) ⊎ ((all_go_on R frames ≡ true) × (r : Result R.One LinkFault) × R.answers r (length (flat_map R.spelling frames)) text left)
 
 -- what was read of the link, and why no more is; and what more is known of the frames that were read
-pub record LinkBy (R : Reading) (More : List R.One → List Entry → Type 0) (h : List Entry) (side : Side) (failed : Bool) (before now : Option (List ℕ)) (taken : ℕ) : Type 0 where
+pub record LinkBy (R : Reading) (More : List R.One → List Entry → Type 0) (h : List Entry) (side : Side) (failed : Bool)
+    (before now : Option (List ℕ)) (taken : ℕ) : Type 0 where
   pub frames : List R.One
   pub extra : List ℕ
   pub cut : Bool
@@ -74,7 +78,8 @@ pub record LinkBy (R : Reading) (More : List R.One → List Entry → Type 0) (h
   pub place : side.ended ≡ false → (extra ≡ []) × (taken ≡ length (flat_map R.spelling frames)) × (cut ≡ false) × (taken ≤ 16777216) × (is_cut side.end ≡ false)
   pub why : cut ≡ true → (all_go_on R frames ≡ true) × ((failed ≡ true) ⊎ (is_cut side.end ≡ true))
   -- a fault that shows behind the frames
-  pub fault : is_cut side.end ≡ true → (f : LinkFault) × (cut ≡ true) × (side.end ≡ end_for f) × R.answers (Err f) (length (flat_map R.spelling frames)) extra now
+  pub fault : is_cut side.end ≡ true
+      → (f : LinkFault) × (cut ≡ true) × (side.end ≡ end_for f) × R.answers (Err f) (length (flat_map R.spelling frames)) extra now
   -- the last frame ends the link
   pub whole : cut ≡ false → side.ended ≡ true → IsLinkBy R frames now × (extra ≡ []) × (length (flat_map R.spelling frames) ≤ 16777216)
   pub behind : TakesBehind R frames extra now
@@ -104,7 +109,8 @@ abbrev pub LinkEnds : List Entry → Option (List ℕ) → Option (List ℕ) →
 LinkEnds h before now = LinkEndsBy plainly NoMore h before now
 
 -- what a turn of the terminal's side leaves of the link
-abbrev pub LinkTurnBy : (R : Reading) (More Then : List R.One → List Entry → Type 0) → Result Bool OutOfMemory → List Entry → Side → Bool → Option (List ℕ) → Option (List ℕ) → ℕ → Type 0
+abbrev pub LinkTurnBy : (R : Reading) (More Then : List R.One → List Entry → Type 0)
+    → Result Bool OutOfMemory → List Entry → Side → Bool → Option (List ℕ) → Option (List ℕ) → ℕ → Type 0
 LinkTurnBy R More Then (Ok acted) h side failed before now taken = LinkBy R More h side failed before now taken
 LinkTurnBy R More Then (Err e) h side failed before now taken = LinkEndsBy R Then h before now
 
@@ -118,8 +124,10 @@ plain_of R (Err e) = Err e
 
 -- what the terminal's side enters for what was read of the link: the event of a frame, or a hangup where no frame was read; where there is no memory nothing
 abbrev pub Hears : Result Bool OutOfMemory → Result Frame LinkFault → Side → Side → State → State → List Entry → List Entry → List Reply → List Reply → Type 0
-Hears (Ok acted) (Ok frame) was side s t h g rs qs = (acted ≡ true) × Enters s t h g rs qs actors.Terminal (sent_by frame) × (side ≡ record { ended = ends_link frame; end = was.end })
-Hears (Ok acted) (Err fault) was side s t h g rs qs = (acted ≡ true) × Enters s t h g rs qs actors.Terminal events.Hangup × (side ≡ record { ended = true; end = end_for fault })
+Hears (Ok acted) (Ok frame) was side s t h g rs qs = (acted ≡ true) × Enters s t h g rs qs actors.Terminal (sent_by frame)
+    × (side ≡ record { ended = ends_link frame; end = was.end })
+Hears (Ok acted) (Err fault) was side s t h g rs qs = (acted ≡ true) × Enters s t h g rs qs actors.Terminal events.Hangup
+    × (side ≡ record { ended = true; end = end_for fault })
 Hears (Err e) read was side s t h g rs qs = Rests s t h g rs qs × (side ≡ was)
 
 -- an event of the terminal's side was entered

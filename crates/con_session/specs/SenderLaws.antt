@@ -31,7 +31,8 @@ ends_same frames.End = refl
 
 pub record SideStandsOf (es : List Event) (coming : List Frame) (cut ended : Bool) : Type 0 where
   pub follows : (c : Bool) → (cut ≡ true → c ≡ true) → (more : List Frame) → FollowsLink c (coming ++ more) es
-  pub after' : ended ≡ false → (more : List Frame) → after sent_one (record { coming = coming ++ more; ended = false }) es ≡ record { coming = more; ended = false }
+  pub after' : ended ≡ false → (more : List Frame)
+      → after sent_one (record { coming = coming ++ more; ended = false }) es ≡ record { coming = more; ended = false }
   pub ended' : has_ended false es ≡ ended
   pub all' : es ≡ map sent_by coming ++ hung cut
 
@@ -39,10 +40,12 @@ pub to_side : (h : List Entry) (coming : List Frame) (cut ended : Bool) → Side
 to_side h coming cut ended k = record { follows = k.follows; after' = k.after'; ended' = k.ended'; all' = k.all' }
 
 -- another's entry
-pub side_other : (h : List Entry) (x : Entry) (coming : List Frame) (cut ended : Bool) → is_terminal x.actor ≡ false → SideStands h coming cut ended → SideStands (h ++ x ∷ []) coming cut ended
+pub side_other : (h : List Entry) (x : Entry) (coming : List Frame) (cut ended : Bool) → is_terminal x.actor ≡ false → SideStands h coming cut ended
+    → SideStands (h ++ x ∷ []) coming cut ended
 side_other h x coming cut ended n k =
     let P : List Event → Type 0 = λ es. SideStandsOf es coming cut ended in
-    to_side (h ++ x ∷ []) coming cut ended (subst P (sym (sent-other h x n)) (record { follows = k.follows; after' = k.after'; ended' = k.ended'; all' = k.all' }))
+    to_side (h ++ x ∷ []) coming cut ended
+    (subst P (sym (sent-other h x n)) (record { follows = k.follows; after' = k.after'; ended' = k.ended'; all' = k.all' }))
 
 -- a frame's event
 pub one_more : (coming : List Frame) (f : Frame) (more : List Frame) → (coming ++ f ∷ []) ++ more ≡ coming ++ f ∷ more
@@ -59,42 +62,51 @@ mapped_more (x ∷ xs) f = ap (λ (es : List Event). sent_by x ∷ es) (mapped_m
 abbrev pub sender : List Frame → Bool → Sender
 sender coming ended = record { coming = coming; ended = ended }
 
-pub frame_follows : (es : List Event) (coming : List Frame) (f : Frame) → SideStandsOf es coming false false → SideStandsOf (es ++ sent_by f ∷ []) (coming ++ f ∷ []) false (is_last_sent (sent_by f))
+pub frame_follows : (es : List Event) (coming : List Frame) (f : Frame) → SideStandsOf es coming false false
+    → SideStandsOf (es ++ sent_by f ∷ []) (coming ++ f ∷ []) false (is_last_sent (sent_by f))
 frame_follows es coming f k = record {
   follows = λ c i more. let begun : Sender = record { coming = coming ++ f ∷ more; ended = false } in
       let P : List Frame → Type 0 = λ fs. Along (MaySend c) sent_one (record { coming = fs; ended = false }) (es ++ sent_by f ∷ []) in
       let Q : Sender → Type 0 = λ s. MaySend c s (sent_by f) in
-      subst P (sym (one_more coming f more)) (along-one (MaySend c) sent_one begun es (sent_by f) (k.follows c i (f ∷ more)) (subst Q (sym (k.after' refl (f ∷ more))) (refl, inl refl)));
+      subst P (sym (one_more coming f more))
+      (along-one (MaySend c) sent_one begun es (sent_by f) (k.follows c i (f ∷ more)) (subst Q (sym (k.after' refl (f ∷ more))) (refl, inl refl)));
   after' = λ n more. let begun : Sender = record { coming = coming ++ f ∷ more; ended = false } in
       ap (λ (fs : List Frame). after sent_one (record { coming = fs; ended = false }) (es ++ sent_by f ∷ [])) (one_more coming f more)
-      ∙ (after-append sent_one begun es (sent_by f ∷ []) ∙ (ap (λ (s : Sender). sent_one s (sent_by f)) (k.after' refl (f ∷ more)) ∙ ap (λ (b : Bool). sender more b) n));
+      ∙ (after-append sent_one begun es (sent_by f ∷ [])
+      ∙ (ap (λ (s : Sender). sent_one s (sent_by f)) (k.after' refl (f ∷ more)) ∙ ap (λ (b : Bool). sender more b) n));
   ended' = has_ended-one false es (sent_by f);
-  all' = ap (λ (x : List Event). x ++ sent_by f ∷ []) (k.all' ∙ append_none (map sent_by coming)) ∙ (sym (mapped_more coming f) ∙ sym (append_none (map sent_by (coming ++ f ∷ []))));
+  all' = ap (λ (x : List Event). x ++ sent_by f ∷ []) (k.all' ∙ append_none (map sent_by coming))
+      ∙ (sym (mapped_more coming f) ∙ sym (append_none (map sent_by (coming ++ f ∷ []))));
 }
 
-pub side_frame : (h : List Entry) (coming : List Frame) (f : Frame) → SideStands h coming false false → SideStands (h ++ entry actors.Terminal (sent_by f) ∷ []) (coming ++ f ∷ []) false (ends_link f)
+pub side_frame : (h : List Entry) (coming : List Frame) (f : Frame) → SideStands h coming false false
+    → SideStands (h ++ entry actors.Terminal (sent_by f) ∷ []) (coming ++ f ∷ []) false (ends_link f)
 side_frame h coming f k =
     let x = entry actors.Terminal (sent_by f) in
     let P : List Event → Type 0 = λ es. SideStandsOf es (coming ++ f ∷ []) false (is_last_sent (sent_by f)) in
     let Q : Bool → Type 0 = λ b. SideStands (h ++ x ∷ []) (coming ++ f ∷ []) false b in
-    subst Q (ends_same f) (to_side (h ++ x ∷ []) (coming ++ f ∷ []) false (is_last_sent (sent_by f)) (subst P (sym (sent-own h x refl)) (frame_follows (sent h) coming f (record { follows = k.follows; after' = k.after'; ended' = k.ended'; all' = k.all' }))))
+    subst Q (ends_same f) (to_side (h ++ x ∷ []) (coming ++ f ∷ []) false (is_last_sent (sent_by f)) (subst P (sym (sent-own h x refl))
+    (frame_follows (sent h) coming f (record { follows = k.follows; after' = k.after'; ended' = k.ended'; all' = k.all' }))))
 
 -- a Hangup that is no frame
 pub hang_follows : (es : List Event) (coming : List Frame) → SideStandsOf es coming false false → SideStandsOf (es ++ events.Hangup ∷ []) coming true true
 hang_follows es coming k = record {
   follows = λ c i more. let begun : Sender = record { coming = coming ++ more; ended = false } in
       let Q : Sender → Type 0 = λ s. MaySend c s events.Hangup in
-      along-one (MaySend c) sent_one begun es events.Hangup (k.follows c (λ e. absurd (cc)) more) (subst Q (sym (k.after' refl more)) (refl, inr (i refl, refl)));
+      along-one (MaySend c) sent_one begun es events.Hangup (k.follows c (λ e. absurd (cc)) more)
+      (subst Q (sym (k.after' refl more)) (refl, inr (i refl, refl)));
   after' = λ n more. absurd (cc);
   ended' = has_ended-one false es events.Hangup;
   all' = ap (λ (x : List Event). x ++ events.Hangup ∷ []) (k.all' ∙ append_none (map sent_by coming));
 }
 
-pub side_hung : (h : List Entry) (coming : List Frame) → SideStands h coming false false → SideStands (h ++ entry actors.Terminal events.Hangup ∷ []) coming true true
+pub side_hung : (h : List Entry) (coming : List Frame) → SideStands h coming false false
+    → SideStands (h ++ entry actors.Terminal events.Hangup ∷ []) coming true true
 side_hung h coming k =
     let x = entry actors.Terminal events.Hangup in
     let P : List Event → Type 0 = λ es. SideStandsOf es coming true true in
-    to_side (h ++ x ∷ []) coming true true (subst P (sym (sent-own h x refl)) (hang_follows (sent h) coming (record { follows = k.follows; after' = k.after'; ended' = k.ended'; all' = k.all' })))
+    to_side (h ++ x ∷ []) coming true true
+    (subst P (sym (sent-own h x refl)) (hang_follows (sent h) coming (record { follows = k.follows; after' = k.after'; ended' = k.ended'; all' = k.all' })))
 
 -- ---- the turn of the terminal's side
 
@@ -143,10 +155,12 @@ fails_false true f n e k = absurd (cc)
 pub ended_idles : (b : Begun) (h : List Entry) (ended : Bool) → has_ended false (sent h) ≡ ended → ended ≡ true → IsTurn b h actors.Terminal None
 ended_idles b h ended e i = ended_turn (has_ended false (sent h)) (is_failed b.failed (paints h)) (e ∙ i)
 
-pub hangs : (b : Begun) (h : List Entry) (ended failed : Bool) → has_ended false (sent h) ≡ ended → ended ≡ false → failed ≡ true → FailsBy failed b.failed (paints h) → IsTurn b h actors.Terminal (Some events.Hangup)
+pub hangs : (b : Begun) (h : List Entry) (ended failed : Bool) → has_ended false (sent h) ≡ ended → ended ≡ false → failed ≡ true
+    → FailsBy failed b.failed (paints h) → IsTurn b h actors.Terminal (Some events.Hangup)
 hangs b h ended failed e i f k = hung_turn (has_ended false (sent h)) (is_failed b.failed (paints h)) (e ∙ i) (fails_true failed b.failed (paints h) f k)
 
-pub sends : (b : Begun) (h : List Entry) (ended failed : Bool) (ev : Event) → has_ended false (sent h) ≡ ended → ended ≡ false → failed ≡ false → FailsBy failed b.failed (paints h) → IsTurn b h actors.Terminal (Some ev)
+pub sends : (b : Begun) (h : List Entry) (ended failed : Bool) (ev : Event)
+    → has_ended false (sent h) ≡ ended → ended ≡ false → failed ≡ false → FailsBy failed b.failed (paints h) → IsTurn b h actors.Terminal (Some ev)
 sends b h ended failed ev e i f k = sent_turn (has_ended false (sent h)) (is_failed b.failed (paints h)) ev (e ∙ i) (fails_false failed b.failed (paints h) f k)
 
 pub none_asked : (a f : Bool) → (a ≡ false) ⊎ (f ≡ true) → f ≡ false → a ≡ false
@@ -156,7 +170,8 @@ none_asked a false (inr e) n = absurd (cc)
 
 -- a frame that was read
 pub read_ready : (s : State) (f : Frame) (ev : Event) (failed : Bool) (old now : Option (List ℕ)) (taken later : ℕ) → ev ≡ sent_by f
-    → ((text : List ℕ) × (old ≡ then_left text now) × (later ≡ taken + length text) × Answers (Ok f) taken text now) → (s.asked ≡ false) ⊎ (failed ≡ true) → failed ≡ false → is_ready s actors.Terminal ev ≡ true
+    → ((text : List ℕ) × (old ≡ then_left text now) × (later ≡ taken + length text) × Answers (Ok f) taken text now)
+    → (s.asked ≡ false) ⊎ (failed ≡ true) → failed ≡ false → is_ready s actors.Terminal ev ≡ true
 read_ready s f ev failed old now taken later e (text, l, c, a) o n =
     let P : Event → Type 0 = λ x. is_ready s actors.Terminal x ≡ true in
     subst P (sym e) (frame_ready s f a.1 (none_asked s.asked failed o n))

@@ -49,7 +49,8 @@ pub record AsksStand (b : Begun) (h : List Entry) (lost : Bool) : Type 0 where
   pub asked' : after asks false h ≡ (run b.state h).asked
 
 -- what holds between two turns; of the link this was left at the beginning, and to the terminal this was written
-pub record HoldsBy (R : Reading) (More : List R.One → List Entry → Type 0) (b : Begun) (scripts : List Script) (before old : Option (List ℕ)) (m : Moment) : Type 0 where
+pub record HoldsBy (R : Reading) (More : List R.One → List Entry → Type 0) (b : Begun) (scripts : List Script)
+    (before old : Option (List ℕ)) (m : Moment) : Type 0 where
   pub scripts' : scripts ≡ b.session.scripts
   pub stands : Stands b.state m.state m.entries m.replies
   pub numbered : are_of_session (length b.session.scripts) m.entries ≡ true
@@ -76,7 +77,8 @@ abbrev pub HasRounds : Begun → List Entry → Type 0
 HasRounds b h = (rounds : List (List (Option Event))) × AreRounds b [] rounds × (h ≡ all_entries (all_order b) rounds)
 
 -- what holds between two rounds: besides, no Ask is out
-pub record GoesBy (R : Reading) (More : List R.One → List Entry → Type 0) (b : Begun) (scripts : List Script) (before old : Option (List ℕ)) (m : Moment) : Type 0 where
+pub record GoesBy (R : Reading) (More : List R.One → List Entry → Type 0) (b : Begun) (scripts : List Script)
+    (before old : Option (List ℕ)) (m : Moment) : Type 0 where
   pub holds : HoldsBy R More b scripts before old m
   pub served : (m.state.asked ≡ false) ⊎ (m.failed ≡ true)
   pub rounds : HasRounds b m.entries
@@ -90,11 +92,13 @@ AllIdle b h = (last : List (Option Event)) × AreTurns false b h (all_order b) l
 
 -- whole rounds, and one that breaks off
 abbrev pub BreaksOff : Begun → List Entry → Type 0
-BreaksOff b h = (rounds : List (List (Option Event))) × (last : List (Option Event)) × AreRounds b [] rounds × AreTurns true b (all_entries (all_order b) rounds) (all_order b) last
+BreaksOff b h = (rounds : List (List (Option Event))) × (last : List (Option Event)) × AreRounds b [] rounds
+    × AreTurns true b (all_entries (all_order b) rounds) (all_order b) last
     × (h ≡ all_entries (all_order b) rounds ++ entries_of (all_order b) last)
 
 -- what holds where there was no memory
-pub record StopsBy (R : Reading) (More : List R.One → List Entry → Type 0) (b : Begun) (before old : Option (List ℕ)) (h : List Entry) (rs : List Reply) (ends : List ℕ) (left written : Option (List ℕ)) (failed : Bool) : Type 0 where
+pub record StopsBy (R : Reading) (More : List R.One → List Entry → Type 0) (b : Begun) (before old : Option (List ℕ)) (h : List Entry) (rs : List Reply)
+    (ends : List ℕ) (left written : Option (List ℕ)) (failed : Bool) : Type 0 where
   pub legal : is_legal b.state h ≡ true
   pub replies : rs ≡ map listed (replies_of b.state h)
   pub numbered : are_of_session (length b.session.scripts) h ≡ true
@@ -108,7 +112,8 @@ abbrev pub Stops : Begun → Option (List ℕ) → Option (List ℕ) → List En
 Stops b before old h rs es left written failed = StopsBy plainly NoMore b before old h rs es left written failed
 
 -- a round after a history: false where nobody had anything to do
-abbrev pub RoundTurnBy : (R : Reading) (More Then : List R.One → List Entry → Type 0) → Result Bool OutOfMemory → Begun → List Script → Option (List ℕ) → Option (List ℕ) → List Entry → Moment → Type 0
+abbrev pub RoundTurnBy : (R : Reading) (More Then : List R.One → List Entry → Type 0)
+    → Result Bool OutOfMemory → Begun → List Script → Option (List ℕ) → Option (List ℕ) → List Entry → Moment → Type 0
 RoundTurnBy R More Then (Ok true) b scripts before old h m = GoesBy R More b scripts before old m × (length h < length m.entries)
 RoundTurnBy R More Then (Ok false) b scripts before old h m = GoesBy R More b scripts before old m × AllIdle b m.entries
 RoundTurnBy R More Then (Err e) b scripts before old h m = StopsBy R Then b before old m.entries m.replies m.ends m.left m.written m.failed
@@ -117,7 +122,8 @@ abbrev pub RoundTurn : Result Bool OutOfMemory → Begun → List Script → Opt
 RoundTurn result b scripts before old h m = RoundTurnBy plainly NoMore NoMore result b scripts before old h m
 
 -- rounds until nobody has anything to do
-abbrev pub RoundsTurnBy : (R : Reading) (More Then : List R.One → List Entry → Type 0) → Result (Unit {0}) OutOfMemory → Begun → List Script → Option (List ℕ) → Option (List ℕ) → Moment → Type 0
+abbrev pub RoundsTurnBy : (R : Reading) (More Then : List R.One → List Entry → Type 0)
+    → Result (Unit {0}) OutOfMemory → Begun → List Script → Option (List ℕ) → Option (List ℕ) → Moment → Type 0
 RoundsTurnBy R More Then (Ok done) b scripts before old m = GoesBy R More b scripts before old m × AllIdle b m.entries
 RoundsTurnBy R More Then (Err e) b scripts before old m = StopsBy R Then b before old m.entries m.replies m.ends m.left m.written m.failed
 

@@ -41,9 +41,11 @@ stands_other b h x p n c =
     let r = run_one b.state h x in
     let e = client_other b h x p n in
     record {
-      follows = let P : List Turn → Type 0 = λ ts. FollowsScript (steps_of b.session p) (kinds_of b.racks p) ts in subst P (sym (turns-other b.state p h x n)) c.follows;
+      follows = let P : List Turn → Type 0 = λ ts. FollowsScript (steps_of b.session p) (kinds_of b.racks p) ts in
+          subst P (sym (turns-other b.state p h x n)) c.follows;
       here = ap (λ (t : State). is_attached t.procs p) r ∙ (k.attached ∙ (c.here ∙ ap (λ (d : Client). is_here d.stance) (sym e)));
-      reading = λ a. ap (λ (t : State). is_open t.reads p) r ∙ (k.reading ∙ (c.reading (sym k.attached ∙ (ap (λ (t : State). is_attached t.procs p) (sym r) ∙ a)) ∙ ap (λ (d : Client). d.reading) (sym e)));
+      reading = λ a. ap (λ (t : State). is_open t.reads p) r
+          ∙ (k.reading ∙ (c.reading (sym k.attached ∙ (ap (λ (t : State). is_attached t.procs p) (sym r) ∙ a)) ∙ ap (λ (d : Client). d.reading) (sym e)));
       single = let P : State → Type 0 = λ t. IsSingle t p in subst P (sym r) (single_step s x.actor x.event p c.single);
       pending = λ a. ap (λ (t : State). is_pending t p) r ∙ k.pending (c.pending (ap (λ (d : Client). d.pending) (sym e) ∙ a));
     }
@@ -185,7 +187,8 @@ read_after c events.Paint r m a = refl
 
 -- ---- its own entry
 
-pub stands_own : (b : Begun) (h : List Entry) (p : ℕ) (e : Event) → ClientStands b h p → is_attached (run b.state h).procs p ≡ true → MayBy (client_at b h p).stance (client_at b h p) e
+pub stands_own : (b : Begun) (h : List Entry) (p : ℕ) (e : Event) → ClientStands b h p → is_attached (run b.state h).procs p ≡ true
+    → MayBy (client_at b h p).stance (client_at b h p) e
     → ClientStands b (h ++ record { actor = actors.Client p; event = e } ∷ []) p
 stands_own b h p e c a m =
     let x : Entry = record { actor = actors.Client p; event = e } in
@@ -198,8 +201,10 @@ stands_own b h p e c a m =
     let reply = (step s (actors.Client p) e).reply in
     record {
       follows = let P : List Turn → Type 0 = λ ts. Along May moved_on (starting (steps_of b.session p) (kinds_of b.racks p)) ts in
-          subst P (sym (turns-own b.state p h x n)) (along-one May moved_on (starting (steps_of b.session p) (kinds_of b.racks p)) (turns b.state p h) (turn_of s p x) c.follows m);
-      here = ap (λ (t : State). is_attached t.procs p) r ∙ (k.attached ∙ (here_after d e reply (sym c.here ∙ a) ∙ ap (λ (y : Client). is_here y.stance) (sym f)));
+          subst P (sym (turns-own b.state p h x n))
+          (along-one May moved_on (starting (steps_of b.session p) (kinds_of b.racks p)) (turns b.state p h) (turn_of s p x) c.follows m);
+      here = ap (λ (t : State). is_attached t.procs p) r
+          ∙ (k.attached ∙ (here_after d e reply (sym c.here ∙ a) ∙ ap (λ (y : Client). is_here y.stance) (sym f)));
       reading = λ g. ap (λ (t : State). is_open t.reads p) r ∙ (k.reading ∙ (ap (λ (y : Bool). reads_by y e (is_fail reply)) (c.reading a)
           ∙ (read_after d e reply m (sym k.attached ∙ (ap (λ (t : State). is_attached t.procs p) (sym r) ∙ g)) ∙ ap (λ (y : Client). y.reading) (sym f))));
       single = let P : State → Type 0 = λ t. IsSingle t p in subst P (sym r) (single_step s (actors.Client p) e p c.single);

@@ -24,7 +24,8 @@ use Rattle.con_session.specs.Desk.{Enters, Ran, is_painter}
 use Rattle.con_session.specs.Painting.{IsTied, Pictures}
 use Rattle.con_session.specs.PaintCounts.{no_paint}
 
-pub same_tied : (s t : State) (kept : Kept) → t.resized ≡ s.resized → t.painted ≡ s.painted → t.buffers.w ≡ s.buffers.w → t.buffers.h ≡ s.buffers.h → IsTied s kept → IsTied t kept
+pub same_tied : (s t : State) (kept : Kept) → t.resized ≡ s.resized → t.painted ≡ s.painted → t.buffers.w ≡ s.buffers.w
+    → t.buffers.h ≡ s.buffers.h → IsTied s kept → IsTied t kept
 same_tied s t kept r p w h k =
     let f : is_fresh t ≡ is_fresh s = ap (λ (b : Bool). b || is_none t.painted) r ∙ ap (λ (o : Option View). s.resized || is_none o) p in
     record {
@@ -42,8 +43,10 @@ fresh_tied t kept f = record {
   high = λ e. absurd (let z = sym f ∙ e in cc);
 }
 
-pub plain_tied : (s : State) (a : Actor) (e : Event) (kept : Kept) → resizes_by s.resized e ≡ s.resized → painted_by s e ≡ s.painted → width_by s.buffers.w e ≡ s.buffers.w → height_by s.buffers.h e ≡ s.buffers.h → IsTied s kept → IsTied (step s a e).after kept
-plain_tied s a e kept r p w h k = let m = step_moves s a e in let z = step_keeps_size s a e in same_tied s ((step s a e).after) kept (m.sizes ∙ r) (m.paints ∙ p) (z.wide ∙ w) (z.high ∙ h) k
+pub plain_tied : (s : State) (a : Actor) (e : Event) (kept : Kept) → resizes_by s.resized e ≡ s.resized → painted_by s e ≡ s.painted
+    → width_by s.buffers.w e ≡ s.buffers.w → height_by s.buffers.h e ≡ s.buffers.h → IsTied s kept → IsTied (step s a e).after kept
+plain_tied s a e kept r p w h k =
+    let m = step_moves s a e in let z = step_keeps_size s a e in same_tied s ((step s a e).after) kept (m.sizes ∙ r) (m.paints ∙ p) (z.wide ∙ w) (z.high ∙ h) k
 
 pub tied_step : (s : State) (a : Actor) (e : Event) (kept : Kept) → is_paint e ≡ false → IsTied s kept → IsTied (step s a e).after kept
 tied_step s a (events.Call c) kept n k = plain_tied s a (events.Call c) kept refl refl refl refl k
@@ -65,7 +68,8 @@ no_painter (actors.Client p) n e = cc
 no_painter actors.Terminal n e = cc
 no_painter actors.Painter n e = cc
 
-pub tied_run : (s : State) (r : List Entry) (kept : Kept) → is_legal s r ≡ true → list_all (λ x. not (is_painter x.actor)) r ≡ true → IsTied s kept → IsTied (run s r) kept
+pub tied_run : (s : State) (r : List Entry) (kept : Kept) → is_legal s r ≡ true → list_all (λ x. not (is_painter x.actor)) r ≡ true → IsTied s kept
+    → IsTied (run s r) kept
 tied_run s [] kept l o k = k
 tied_run s (x ∷ xs) kept l o k =
     let p = and_parts (is_ready s x.actor x.event) (is_legal (moved s x) xs) l in
@@ -77,7 +81,9 @@ pub tied_ran : (s t : State) (h g : List Entry) (kept : Kept) → Ran s t h g �
 tied_ran s t h g kept r k = let P : State → Type 0 = λ z. IsTied z kept in subst P (sym r.state) (tied_run s r.entries kept r.legal r.others k)
 
 -- behind a Paint, of whatever keeps the view's cells
-pub tied_cells : (s t : State) (h g : List Entry) (rs qs : List Reply) (v : View) (fresh : Bool) (kept : Kept) → Enters s t h g rs qs actors.Painter events.Paint → Pictures v fresh s → kept.known ≡ true → v.rows ≡ kept.cells → (kept.w ≡ v.size.w) × (kept.h ≡ v.size.h) → IsTied t kept
+pub tied_cells : (s t : State) (h g : List Entry) (rs qs : List Reply) (v : View) (fresh : Bool) (kept : Kept)
+    → Enters s t h g rs qs actors.Painter events.Paint → Pictures v fresh s → kept.known ≡ true → v.rows ≡ kept.cells
+    → (kept.w ≡ v.size.w) × (kept.h ≡ v.size.h) → IsTied t kept
 tied_cells s t h g rs qs v fresh kept n p known cells sizes =
     let u = (step s actors.Painter events.Paint).after in
     let m = step_moves s actors.Painter events.Paint in let z = step_keeps_size s actors.Painter events.Paint in
@@ -90,7 +96,8 @@ tied_cells s t h g rs qs v fresh kept n p known cells sizes =
     })
 
 -- of the painter
-pub tied_paint : (s t : State) (h g : List Entry) (rs qs : List Reply) (v : View) (fresh : Bool) (kept : Kept) → Enters s t h g rs qs actors.Painter events.Paint → Pictures v fresh s → IsShown kept v → (kept.w ≡ v.size.w) × (kept.h ≡ v.size.h) → IsTied t kept
+pub tied_paint : (s t : State) (h g : List Entry) (rs qs : List Reply) (v : View) (fresh : Bool) (kept : Kept)
+    → Enters s t h g rs qs actors.Painter events.Paint → Pictures v fresh s → IsShown kept v → (kept.w ≡ v.size.w) × (kept.h ≡ v.size.h) → IsTied t kept
 tied_paint s t h g rs qs v fresh kept n p shown sizes = tied_cells s t h g rs qs v fresh kept n p shown.known shown.cells sizes
 
 -- ---- no Ask is out

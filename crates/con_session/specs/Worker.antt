@@ -102,7 +102,10 @@ pub record Acts (b : Begun) (p : ℕ) (s t : State) (h g : List Entry) (rs qs : 
   pub turn : IsTurn b h (actors.Client p) (Some event)
 
 -- a turn of a client with its handlers: false where it has nothing to do; where there is no memory, it may have entered its event
-abbrev pub HandsTurnBy : Result Bool OutOfMemory → Begun → ℕ → State → State → List Entry → List Entry → List Reply → List Reply → List Step → Worker → List ℕ → List Memory → List ℕ → Type 0
-HandsTurnBy (Ok true) b p s t h g rs qs steps w places ms slots = Acts b p s t h g rs qs × IsWorker (client_at b g p) steps w × HandsStandBy b p g places ms slots
-HandsTurnBy (Ok false) b p s t h g rs qs steps w places ms slots = Rests s t h g rs qs × IsTurn b h (actors.Client p) None × IsWorker (client_at b h p) steps w × HandsStandBy b p h places ms slots
+abbrev pub HandsTurnBy : Result Bool OutOfMemory → Begun → ℕ → State → State → List Entry → List Entry → List Reply → List Reply → List Step → Worker
+    → List ℕ → List Memory → List ℕ → Type 0
+HandsTurnBy (Ok true) b p s t h g rs qs steps w places ms slots = Acts b p s t h g rs qs × IsWorker (client_at b g p) steps w
+    × HandsStandBy b p g places ms slots
+HandsTurnBy (Ok false) b p s t h g rs qs steps w places ms slots = Rests s t h g rs qs × IsTurn b h (actors.Client p) None
+    × IsWorker (client_at b h p) steps w × HandsStandBy b p h places ms slots
 HandsTurnBy (Err e) b p s t h g rs qs steps w places ms slots = Rests s t h g rs qs ⊎ Acts b p s t h g rs qs

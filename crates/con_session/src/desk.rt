@@ -68,9 +68,11 @@ impl Desk {
         requires ready { is_ready self.old.console.state actor event ≡ true }
         requires other { is_painter actor ≡ false }
         ensures ran { Ran self.old.console.state self.new.console.state self.old.entries.items self.new.entries.items }
-        ensures entered { IfOk result (λ brief. Enters self.old.console.state self.new.console.state self.old.entries.items self.new.entries.items self.old.replies.items self.new.replies.items actor event) }
+        ensures entered { IfOk result (λ brief. Enters self.old.console.state self.new.console.state self.old.entries.items self.new.entries.items
+            self.old.replies.items self.new.replies.items actor event) }
         ensures brief { IfOk result (λ brief. brief ≡ brief_of (step self.old.console.state actor event).reply) }
-        ensures same { OnErr result (Rests self.old.console.state self.new.console.state self.old.entries.items self.new.entries.items self.old.replies.items self.new.replies.items) }
+        ensures same { OnErr result
+            (Rests self.old.console.state self.new.console.state self.old.entries.items self.new.entries.items self.old.replies.items self.new.replies.items) }
     {
         if self.entries.reserve(1).is_err() {
             return Err(OutOfMemory);
@@ -89,12 +91,14 @@ impl Desk {
     /// Enters a Paint. Where there is no memory nothing was entered.
     pub fn paint(&mut self) -> Result<Picture, OutOfMemory>
         requires { is_ready self.old.console.state Actor.Painter Event.Paint ≡ true }
-        ensures entered { IfOk result (λ picture. Enters self.old.console.state self.new.console.state self.old.entries.items self.new.entries.items self.old.replies.items self.new.replies.items Actor.Painter Event.Paint) }
+        ensures entered { IfOk result (λ picture. Enters self.old.console.state self.new.console.state self.old.entries.items self.new.entries.items
+            self.old.replies.items self.new.replies.items Actor.Painter Event.Paint) }
         ensures pictures { IfOk result (λ picture. Pictures picture.view picture.fresh self.old.console.state) }
         ensures whole { IfOk result (λ picture. IsWhole picture.view) }
         ensures window { IfOk result (λ picture. IsWindow picture.view.size.w picture.view.size.h) }
         ensures marks { IfOk result (λ picture. AreMarks self.old.console.state picture.marks) }
-        ensures same { OnErr result (Rests self.old.console.state self.new.console.state self.old.entries.items self.new.entries.items self.old.replies.items self.new.replies.items) }
+        ensures same { OnErr result
+            (Rests self.old.console.state self.new.console.state self.old.entries.items self.new.entries.items self.old.replies.items self.new.replies.items) }
     {
         if self.entries.reserve(1).is_err() {
             return Err(OutOfMemory);

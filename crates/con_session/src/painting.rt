@@ -49,9 +49,12 @@ pub fn draw(painter: &mut Painter, out: &mut Vec<u8>, picture: &Picture) -> Resu
     requires window { IsWindow picture.now.view.size.w picture.now.view.size.h }
     requires marks { length picture.now.marks ≡ picture.now.view.size.h }
     requires size { picture.now.fresh ≡ false → (picture.now.view.size.w ≡ painter.old.w) × (picture.now.view.size.h ≡ painter.old.h) }
-    requires marked { picture.now.fresh ≡ false → (y : ℕ) → y < painter.old.h → slice_index_or picture.now.marks y false ≡ false → row_of painter.old.w picture.now.view.rows y ≡ row_of painter.old.w painter.old.cells y }
-    ensures paints { IfOk result (λ _. (t : Terminal) → Allows (if picture.now.fresh then unpainted picture.now.view.size.w picture.now.view.size.h else painter.old) t
-        → Paints (if picture.now.fresh then unpainted picture.now.view.size.w picture.now.view.size.h else painter.old) painter.new picture.now.view out.new.items t) }
+    requires marked { picture.now.fresh ≡ false → (y : ℕ) → y < painter.old.h → slice_index_or picture.now.marks y false ≡ false
+        → row_of painter.old.w picture.now.view.rows y ≡ row_of painter.old.w painter.old.cells y }
+    ensures paints { IfOk result
+        (λ _. (t : Terminal) → Allows (if picture.now.fresh then unpainted picture.now.view.size.w picture.now.view.size.h else painter.old) t
+        → Paints (if picture.now.fresh then unpainted picture.now.view.size.w picture.now.view.size.h else painter.old)
+        painter.new picture.now.view out.new.items t) }
     ensures shown { IfOk result (λ _. IsShown painter.new picture.now.view) }
     ensures size { IfOk result (λ _. (painter.new.w ≡ picture.now.view.size.w) × (painter.new.h ≡ picture.now.view.size.h)) }
 {
@@ -90,9 +93,11 @@ pub fn painted<O: Sink>(
     term: &mut O,
 ) -> Result<Option<Picture>, OutOfMemory>
     requires { IsTied desk.old.console.state canvas.old.painter }
-    ensures pictured { Pictured result desk.old.console.state desk.new.console.state desk.old.entries.items desk.new.entries.items desk.old.replies.items desk.new.replies.items }
+    ensures pictured { Pictured result desk.old.console.state desk.new.console.state desk.old.entries.items desk.new.entries.items
+        desk.old.replies.items desk.new.replies.items }
     ensures marks { IfOk result (λ o. IfSome o (λ p. AreMarks desk.old.console.state p.marks)) }
-    ensures acts { (b : Begun) → desk.old.console.state ≡ run b.state desk.old.entries.items → FailsBy canvas.old.failed b.failed (paints desk.old.entries.items) → PainterActs (acted result) b desk.old.entries.items }
+    ensures acts { (b : Begun) → desk.old.console.state ≡ run b.state desk.old.entries.items
+        → FailsBy canvas.old.failed b.failed (paints desk.old.entries.items) → PainterActs (acted result) b desk.old.entries.items }
     ensures served { IfOk result (λ _. (desk.new.console.state.asked ≡ false) ⊎ (canvas.new.failed ≡ true)) }
     ensures tied { IfOk result (λ _. IsTied desk.new.console.state canvas.new.painter) }
     ensures fails { PainterFails (acted result) canvas.old.failed canvas.new.failed }
@@ -101,7 +106,8 @@ pub fn painted<O: Sink>(
     ensures never_falls { O.faults term.old ≤ O.faults term.new }
     ensures turn { (b : Begun) (size : Size) (before : Option (List ℕ)) (ps : List (List ℕ)) → desk.old.console.state ≡ run b.state desk.old.entries.items
         → CanvasIs b desk.old.entries.items size canvas.old.painter ps canvas.old.ends.items canvas.old.end before (O.written term.old) canvas.old.failed
-        → PaintTurn (acted result) b desk.old.console.state desk.new.console.state desk.old.entries.items desk.new.entries.items desk.old.replies.items desk.new.replies.items size canvas.new.painter ps canvas.new.ends.items canvas.new.end before (O.written term.new) canvas.new.failed }
+        → PaintTurn (acted result) b desk.old.console.state desk.new.console.state desk.old.entries.items desk.new.entries.items desk.old.replies.items
+        desk.new.replies.items size canvas.new.painter ps canvas.new.ends.items canvas.new.end before (O.written term.new) canvas.new.failed }
 {
     if canvas.failed {
         return Ok(None);
@@ -145,7 +151,8 @@ pub fn painter_turn<O: Sink>(
     term: &mut O,
 ) -> Result<bool, OutOfMemory>
     requires { IsTied desk.old.console.state canvas.old.painter }
-    ensures acts { (b : Begun) → desk.old.console.state ≡ run b.state desk.old.entries.items → FailsBy canvas.old.failed b.failed (paints desk.old.entries.items) → PainterActs result b desk.old.entries.items }
+    ensures acts { (b : Begun) → desk.old.console.state ≡ run b.state desk.old.entries.items
+        → FailsBy canvas.old.failed b.failed (paints desk.old.entries.items) → PainterActs result b desk.old.entries.items }
     ensures served { IfOk result (λ _. (desk.new.console.state.asked ≡ false) ⊎ (canvas.new.failed ≡ true)) }
     ensures tied { IfOk result (λ _. IsTied desk.new.console.state canvas.new.painter) }
     ensures fails { PainterFails result canvas.old.failed canvas.new.failed }
@@ -154,7 +161,8 @@ pub fn painter_turn<O: Sink>(
     ensures never_falls { O.faults term.old ≤ O.faults term.new }
     ensures turn { (b : Begun) (size : Size) (before : Option (List ℕ)) (ps : List (List ℕ)) → desk.old.console.state ≡ run b.state desk.old.entries.items
         → CanvasIs b desk.old.entries.items size canvas.old.painter ps canvas.old.ends.items canvas.old.end before (O.written term.old) canvas.old.failed
-        → PaintTurn result b desk.old.console.state desk.new.console.state desk.old.entries.items desk.new.entries.items desk.old.replies.items desk.new.replies.items size canvas.new.painter ps canvas.new.ends.items canvas.new.end before (O.written term.new) canvas.new.failed }
+        → PaintTurn result b desk.old.console.state desk.new.console.state desk.old.entries.items desk.new.entries.items desk.old.replies.items
+        desk.new.replies.items size canvas.new.painter ps canvas.new.ends.items canvas.new.end before (O.written term.new) canvas.new.failed }
 {
     has_painted(painted(desk, canvas, term))
 }

@@ -94,10 +94,12 @@ pub fn mirrored_turn<I: Source>(
     requires answered { (desk.old.console.state.asked ≡ false) ⊎ (failed ≡ true) }
     ensures ran { Ran desk.old.console.state desk.new.console.state desk.old.entries.items desk.new.entries.items }
     ensures turn { (b : Begun) → FailsBy failed b.failed (paints desk.old.entries.items) → has_ended false (sent desk.old.entries.items) ≡ side.old.ended
-        → SenderTurn result b desk.old.console.state desk.new.console.state desk.old.entries.items desk.new.entries.items desk.old.replies.items desk.new.replies.items }
+        → SenderTurn result b desk.old.console.state desk.new.console.state desk.old.entries.items desk.new.entries.items
+        desk.old.replies.items desk.new.replies.items }
     ensures link { (s : State) (size : Size) (ends : List ℕ) (end : ℕ) (was now : Option (List ℕ)) (lost : Bool) (before : Option (List ℕ))
         → MirrorLinkIs s mirror.old.kept ends end was now lost desk.old.entries.items side.old failed before (I.left link.old) reader.old
-        → LinkTurnBy mirrored (Seconded s side.new.ended mirror.new.kept ends end was now lost) (λ frames h. Mirrors s frames size ends was now lost true h) result desk.new.entries.items side.new failed before (I.left link.new) reader.new }
+        → LinkTurnBy mirrored (Seconded s side.new.ended mirror.new.kept ends end was now lost)
+        (λ frames h. Mirrors s frames size ends was now lost true h) result desk.new.entries.items side.new failed before (I.left link.new) reader.new }
     ensures given { StaysGiven mirror.old.given mirror.new.given }
     ensures few { IfOk result (λ _. side.new.ended ≡ false → reader.new ≤ 16777216) }
     ensures failed { side.new.end ≡ End.Link → (side.old.end ≡ End.Link) ⊎ Rose (I.faults link.old) (I.faults link.new) }
@@ -150,9 +152,11 @@ pub fn follow<N: Sink>(
 ) -> Result<(), OutOfMemory>
     requires view { IsWhole view.now }
     requires marks { AreSince second.old.mirror.given view.now marks.now }
-    ensures turn { (s : State) (ended : Bool) (ps : List (List ℕ)) (before : Option (List ℕ)) (frames : List MirrorFrame) (h : List Entry) → view.now ≡ view_now (run s h)
+    ensures turn { (s : State) (ended : Bool) (ps : List (List ℕ)) (before : Option (List ℕ)) (frames : List MirrorFrame) (h : List Entry)
+        → view.now ≡ view_now (run s h)
         → SecondIs s ended second.old.mirror.kept ps second.old.ends.items second.old.end before (N.written sink.old) second.old.failed frames h
-        → SecondTurn result s ended second.new.mirror.kept second.new.ends.items second.new.end before (N.written sink.new) second.new.failed frames (h ++ entry actors.Painter events.Paint ∷ []) }
+        → SecondTurn result s ended second.new.mirror.kept second.new.ends.items second.new.end before (N.written sink.new) second.new.failed frames
+        (h ++ entry actors.Painter events.Paint ∷ []) }
     ensures given { IfOk result (λ _. IsGiven view.now second.new.mirror.given) }
     ensures still { second.old.failed ≡ true → sink.new ≡ sink.old }
     ensures failed { second.new.failed ≡ true → (second.old.failed ≡ true) ⊎ Rose (N.faults sink.old) (N.faults sink.new) }
@@ -188,7 +192,8 @@ pub fn followed<N: Sink>(
     requires marks { IfSome shown (λ p. AreSince second.old.mirror.given p.view p.marks) }
     ensures told { IfOk result (λ acted. acted ≡ is_some shown) }
     ensures lack { OnErr result (is_some shown ≡ true) }
-    ensures turn { (s : State) (ended : Bool) (ps : List (List ℕ)) (before : Option (List ℕ)) (frames : List MirrorFrame) (h : List Entry) → IfSome shown (λ p. p.view ≡ view_now (run s h))
+    ensures turn { (s : State) (ended : Bool) (ps : List (List ℕ)) (before : Option (List ℕ)) (frames : List MirrorFrame) (h : List Entry)
+        → IfSome shown (λ p. p.view ≡ view_now (run s h))
         → SecondIs s ended second.old.mirror.kept ps second.old.ends.items second.old.end before (N.written sink.old) second.old.failed frames h
         → FollowTurn result shown s ended second.new.mirror.kept second.new.ends.items second.new.end before (N.written sink.new) second.new.failed frames h }
     ensures given { IfOk result (λ _. GivenBehind shown second.old.mirror.given second.new.mirror.given) }

@@ -64,7 +64,8 @@ pub fn heard(
     requires frame { IfOk read (λ frame. is_frame frame ≡ true) }
     requires answered { desk.old.console.state.asked ≡ false }
     ensures ran { Ran desk.old.console.state desk.new.console.state desk.old.entries.items desk.new.entries.items }
-    ensures hears { Hears result read side.old side.new desk.old.console.state desk.new.console.state desk.old.entries.items desk.new.entries.items desk.old.replies.items desk.new.replies.items }
+    ensures hears { Hears result read side.old side.new desk.old.console.state desk.new.console.state desk.old.entries.items desk.new.entries.items
+        desk.old.replies.items desk.new.replies.items }
 {
     match read {
         Ok(frame) => {
@@ -96,8 +97,10 @@ pub fn terminal_turn<I: Source>(
     requires answered { (desk.old.console.state.asked ≡ false) ⊎ (failed ≡ true) }
     ensures ran { Ran desk.old.console.state desk.new.console.state desk.old.entries.items desk.new.entries.items }
     ensures turn { (b : Begun) → FailsBy failed b.failed (paints desk.old.entries.items) → has_ended false (sent desk.old.entries.items) ≡ side.old.ended
-        → SenderTurn result b desk.old.console.state desk.new.console.state desk.old.entries.items desk.new.entries.items desk.old.replies.items desk.new.replies.items }
-    ensures link { (before : Option (List ℕ)) → LinkIs desk.old.entries.items side.old failed before (I.left link.old) reader.old → LinkTurn result desk.new.entries.items side.new failed before (I.left link.new) reader.new }
+        → SenderTurn result b desk.old.console.state desk.new.console.state desk.old.entries.items desk.new.entries.items
+        desk.old.replies.items desk.new.replies.items }
+    ensures link { (before : Option (List ℕ)) → LinkIs desk.old.entries.items side.old failed before (I.left link.old) reader.old
+        → LinkTurn result desk.new.entries.items side.new failed before (I.left link.new) reader.new }
     ensures few { IfOk result (λ _. side.new.ended ≡ false → reader.new ≤ 16777216) }
     ensures failed { side.new.end ≡ End.Link → (side.old.end ≡ End.Link) ⊎ Rose (I.faults link.old) (I.faults link.new) }
     ensures never_falls { I.faults link.old ≤ I.faults link.new }

@@ -19,8 +19,17 @@ invariant-loop g l = record {
   served : (l.stage.desk.console.state.asked ≡ false) ⊎ (l.stage.canvas.failed ≡ true);
   tied : IsTied l.stage.desk.console.state l.stage.canvas.painter;
   followed : IsFollowed l.stage.desk.console.state l.second.mirror.given;
-  going : (b : Begun) × (before : Option (List ℕ)) × (old : Option (List ℕ)) × (was : Option (List ℕ)) × ((f : Option ℕ) → FailsBy l.stage.canvas.failed f (paints l.stage.desk.entries.items) → GoesBy mirrored (Seconded b.state l.stage.side.ended l.second.mirror.kept l.second.ends.items l.second.end was (g.N.Sink.written l.sink) l.second.failed) (fails_at b f) l.scripts before old (moment (λ x. (goal.CtrlHandler-dyn g (x.vtable, x.value)).memory x.value) l.stage l.seats (g.I.Source.left l.link) (g.O.Sink.written l.term)));
-  turn : (b : Begun) (before old was : Option (List ℕ)) → ((f : Option ℕ) → FailsBy l.initial.stage.canvas.failed f (paints l.initial.stage.desk.entries.items) → GoesBy mirrored (Seconded b.state l.initial.stage.side.ended l.initial.second.mirror.kept l.initial.second.ends.items l.initial.second.end was (g.N.Sink.written l.initial.sink) l.initial.second.failed) (fails_at b f) l.scripts before old (moment (λ x. (goal.CtrlHandler-dyn g (x.vtable, x.value)).memory x.value) l.initial.stage l.initial.seats (g.I.Source.left l.initial.link) (g.O.Sink.written l.initial.term))) → ((f : Option ℕ) → FailsBy l.stage.canvas.failed f (paints l.stage.desk.entries.items) → GoesBy mirrored (Seconded b.state l.stage.side.ended l.second.mirror.kept l.second.ends.items l.second.end was (g.N.Sink.written l.sink) l.second.failed) (fails_at b f) l.scripts before old (moment (λ x. (goal.CtrlHandler-dyn g (x.vtable, x.value)).memory x.value) l.stage l.seats (g.I.Source.left l.link) (g.O.Sink.written l.term)));
+  going : (b : Begun) × (before : Option (List ℕ)) × (old : Option (List ℕ)) × (was : Option (List ℕ))
+      × ((f : Option ℕ) → FailsBy l.stage.canvas.failed f (paints l.stage.desk.entries.items) → GoesBy mirrored (Seconded b.state l.stage.side.ended
+      l.second.mirror.kept l.second.ends.items l.second.end was (g.N.Sink.written l.sink) l.second.failed) (fails_at b f) l.scripts before old
+      (moment (λ x. (goal.CtrlHandler-dyn g (x.vtable, x.value)).memory x.value) l.stage l.seats (g.I.Source.left l.link) (g.O.Sink.written l.term)));
+  turn : (b : Begun) (before old was : Option (List ℕ)) → ((f : Option ℕ) → FailsBy l.initial.stage.canvas.failed f (paints l.initial.stage.desk.entries.items)
+      → GoesBy mirrored (Seconded b.state l.initial.stage.side.ended l.initial.second.mirror.kept l.initial.second.ends.items l.initial.second.end was
+      (g.N.Sink.written l.initial.sink) l.initial.second.failed) (fails_at b f) l.scripts before old (moment (λ x. (goal.CtrlHandler-dyn g
+      (x.vtable, x.value)).memory x.value) l.initial.stage l.initial.seats (g.I.Source.left l.initial.link) (g.O.Sink.written l.initial.term)))
+      → ((f : Option ℕ) → FailsBy l.stage.canvas.failed f (paints l.stage.desk.entries.items) → GoesBy mirrored (Seconded b.state l.stage.side.ended
+      l.second.mirror.kept l.second.ends.items l.second.end was (g.N.Sink.written l.sink) l.second.failed) (fails_at b f) l.scripts before old
+      (moment (λ x. (goal.CtrlHandler-dyn g (x.vtable, x.value)).memory x.value) l.stage l.seats (g.I.Source.left l.link) (g.O.Sink.written l.term)));
   link : l.stage.side.end ≡ ends.Link → (l.initial.stage.side.end ≡ ends.Link) ⊎ Rose (g.I.Source.faults l.initial.link) (g.I.Source.faults l.link);
   term : l.stage.canvas.failed ≡ true → (l.initial.stage.canvas.failed ≡ true) ⊎ Rose (g.O.Sink.faults l.initial.term) (g.O.Sink.faults l.term);
   link_never_falls : g.I.Source.faults l.initial.link ≤ g.I.Source.faults l.link;

@@ -11,37 +11,63 @@ use Rattle.con_session.specs.OpeningLaws.{all_follow, count_of, goes_open, sizes
 use Rattle.con_session.proofs.mirrored.run_mirrored.Goals as goal
 
 pub returns-in_default-clause-outcome : goal.returns-in_default-clause-outcome
-returns-in_default-clause-outcome g c = mirror_none _ _ _ _ _ _ _ _ _ _ _ c.left_with.ensures.outcome c.nothing_left.ensures.entries c.nothing_left.ensures.replies c.nothing_left.ensures.ends c.nothing_left.ensures.end
+returns-in_default-clause-outcome g c = mirror_none _ _ _ _ _ _ _ _ _ _ _ c.left_with.ensures.outcome c.nothing_left.ensures.entries
+    c.nothing_left.ensures.replies c.nothing_left.ensures.ends c.nothing_left.ensures.end
     c.left_with.ensures.ends c.none_attached-beside.ensures.ends.0 c.left_with.ensures.failed c.none_attached-beside.ensures.failed
 
 pub mirror_rounds-requires-clause-followed : goal.mirror_rounds-requires-clause-followed
 mirror_rounds-requires-clause-followed g c = followed_none _ _ c.none_attached-beside.ensures.given
 
 pub mirror_rounds-requires-clause-going : goal.mirror_rounds-requires-clause-going
-mirror_rounds-requires-clause-going g c = (begins c.args.session.now _ None, _, _, _, λ f k. (goes_open mirrored _ _ _ _ _ c.args.session.now _ _ _ _ c.in-Ok.seats.items c.as_mut_slice.result.now _ _ _ _ _ _ _ _ _ _ c.in-Ok.ensures.state (sizes_same _ _ c.args.racks.items) c.in-Ok.ensures.entries c.in-Ok.ensures.side c.in-Ok.ensures.canvas c.in-Ok.ensures.fresh c.as_mut_slice.ensures.value c.scripts.ensures.value (open_second _ _ _ _ _ _ _ (ap (λ (z : Side). z.ended) c.in-Ok.ensures.side.0) c.none_attached-beside.ensures.mirror c.none_attached-beside.ensures.ends c.none_attached-beside.ensures.failed) f))
+mirror_rounds-requires-clause-going g c = (
+  begins c.args.session.now _ None,
+  _,
+  _,
+  _,
+  λ f k. (goes_open mirrored _ _ _ _ _ c.args.session.now _ _ _ _ c.in-Ok.seats.items c.as_mut_slice.result.now
+      _ _ _ _ _ _ _ _ _ _ c.in-Ok.ensures.state (sizes_same _ _ c.args.racks.items) c.in-Ok.ensures.entries c.in-Ok.ensures.side c.in-Ok.ensures.canvas
+      c.in-Ok.ensures.fresh c.as_mut_slice.ensures.value c.scripts.ensures.value (open_second _ _ _ _ _ _ _ (ap (λ (z : Side). z.ended) c.in-Ok.ensures.side.0)
+      c.none_attached-beside.ensures.mirror c.none_attached-beside.ensures.ends c.none_attached-beside.ensures.failed) f),
+)
 
 pub returns-in-Ok-mirror_rounds-clause-outcome : goal.returns-in-Ok-mirror_rounds-clause-outcome
 returns-in-Ok-mirror_rounds-clause-outcome g c = mirror_whole _ _ _ _ _ _ _ _ _ _ _ _ _ _ _ _ _ _
-    (c.in-Ok-mirror_rounds.ensures.turn (begins c.args.session.now _ None) _ _ _ (λ f k. (goes_open mirrored _ _ _ _ _ c.args.session.now _ _ _ _ c.in-Ok.seats.items c.as_mut_slice.result.now _ _ _ _ _ _ _ _ _ _ c.in-Ok.ensures.state (sizes_same _ _ c.args.racks.items) c.in-Ok.ensures.entries c.in-Ok.ensures.side c.in-Ok.ensures.canvas c.in-Ok.ensures.fresh c.as_mut_slice.ensures.value c.scripts.ensures.value (open_second _ _ _ _ _ _ _ (ap (λ (z : Side). z.ended) c.in-Ok.ensures.side.0) c.none_attached-beside.ensures.mirror c.none_attached-beside.ensures.ends c.none_attached-beside.ensures.failed) f)))
-    c.left_with-in-Ok-mirror_rounds.ensures.outcome c.left_by.ensures.entries c.left_by.ensures.replies c.left_by.ensures.ends c.left_by.ensures.end c.end_of-end.ensures
-    (λ b s h. all_follow _ _ _ _ _ c.mirror_rounds.new.seats (count_of _ _ _ _ _ c.scripts.ensures.value c.in-Ok.ensures.count c.as_mut_slice.ensures.value c.mirror_rounds.auto.seats) b s h)
+    (c.in-Ok-mirror_rounds.ensures.turn (begins c.args.session.now _ None) _ _ _
+    (λ f k. (goes_open mirrored _ _ _ _ _ c.args.session.now _ _ _ _ c.in-Ok.seats.items c.as_mut_slice.result.now _ _ _ _ _ _ _ _ _ _
+    c.in-Ok.ensures.state (sizes_same _ _ c.args.racks.items) c.in-Ok.ensures.entries c.in-Ok.ensures.side c.in-Ok.ensures.canvas c.in-Ok.ensures.fresh
+    c.as_mut_slice.ensures.value c.scripts.ensures.value (open_second _ _ _ _ _ _ _ (ap (λ (z : Side). z.ended) c.in-Ok.ensures.side.0)
+    c.none_attached-beside.ensures.mirror c.none_attached-beside.ensures.ends c.none_attached-beside.ensures.failed) f)))
+    c.left_with-in-Ok-mirror_rounds.ensures.outcome c.left_by.ensures.entries c.left_by.ensures.replies c.left_by.ensures.ends
+    c.left_by.ensures.end c.end_of-end.ensures
+    (λ b s h. all_follow _ _ _ _ _ c.mirror_rounds.new.seats
+    (count_of _ _ _ _ _ c.scripts.ensures.value c.in-Ok.ensures.count c.as_mut_slice.ensures.value c.mirror_rounds.auto.seats) b s h)
     c.left_with-in-Ok-mirror_rounds.ensures.ends c.left_with-in-Ok-mirror_rounds.ensures.failed
 
 pub returns-in-Ok-mirror_rounds-clause-term : goal.returns-in-Ok-mirror_rounds-clause-term
 returns-in-Ok-mirror_rounds-clause-term g c = term_by mirrored _ _ _ _ _ _ _ _ _ _ _
-    (c.in-Ok-mirror_rounds.ensures.turn (begins c.args.session.now _ None) _ _ _ (λ f k. (goes_open mirrored _ _ _ _ _ c.args.session.now _ _ _ _ c.in-Ok.seats.items c.as_mut_slice.result.now _ _ _ _ _ _ _ _ _ _ c.in-Ok.ensures.state (sizes_same _ _ c.args.racks.items) c.in-Ok.ensures.entries c.in-Ok.ensures.side c.in-Ok.ensures.canvas c.in-Ok.ensures.fresh c.as_mut_slice.ensures.value c.scripts.ensures.value (open_second _ _ _ _ _ _ _ (ap (λ (z : Side). z.ended) c.in-Ok.ensures.side.0) c.none_attached-beside.ensures.mirror c.none_attached-beside.ensures.ends c.none_attached-beside.ensures.failed) f)))
-    c.in-Ok.ensures.canvas.2 c.in-Ok-mirror_rounds.ensures.term (ap (λ (o : Outcome). o.end) c.left_with-in-Ok-mirror_rounds.ensures.outcome ∙ c.left_by.ensures.end) c.end_of-end.ensures
+    (c.in-Ok-mirror_rounds.ensures.turn (begins c.args.session.now _ None) _ _ _
+    (λ f k. (goes_open mirrored _ _ _ _ _ c.args.session.now _ _ _ _ c.in-Ok.seats.items c.as_mut_slice.result.now _ _ _ _ _ _ _ _ _ _
+    c.in-Ok.ensures.state (sizes_same _ _ c.args.racks.items) c.in-Ok.ensures.entries c.in-Ok.ensures.side c.in-Ok.ensures.canvas c.in-Ok.ensures.fresh
+    c.as_mut_slice.ensures.value c.scripts.ensures.value (open_second _ _ _ _ _ _ _ (ap (λ (z : Side). z.ended) c.in-Ok.ensures.side.0)
+    c.none_attached-beside.ensures.mirror c.none_attached-beside.ensures.ends c.none_attached-beside.ensures.failed) f)))
+    c.in-Ok.ensures.canvas.2 c.in-Ok-mirror_rounds.ensures.term
+    (ap (λ (o : Outcome). o.end) c.left_with-in-Ok-mirror_rounds.ensures.outcome ∙ c.left_by.ensures.end) c.end_of-end.ensures
 
 pub returns-in-Ok-mirror_rounds-clause-second : goal.returns-in-Ok-mirror_rounds-clause-second
-returns-in-Ok-mirror_rounds-clause-second g c = cause_now _ _ _ _ c.none_attached-beside.ensures.failed c.in-Ok-mirror_rounds.ensures.second c.left_with-in-Ok-mirror_rounds.ensures.failed
+returns-in-Ok-mirror_rounds-clause-second g c =
+    cause_now _ _ _ _ c.none_attached-beside.ensures.failed c.in-Ok-mirror_rounds.ensures.second c.left_with-in-Ok-mirror_rounds.ensures.failed
 
 pub returns-clause-second : goal.returns-clause-second
 returns-clause-second g c = cause_now _ _ _ _ c.none_attached-beside.ensures.failed c.in-Err.ensures.second c.left_with-in-Err.ensures.failed
 
 pub returns-clause-outcome : goal.returns-clause-outcome
 returns-clause-outcome g c = mirror_stopped _ _ _ _ _ _ _ _ _ _ _ _ _ _ _ _ _ _
-    (c.in-Err.ensures.turn (begins c.args.session.now _ None) _ _ _ (λ f k. (goes_open mirrored _ _ _ _ _ c.args.session.now _ _ _ _ c.in-Ok.seats.items c.as_mut_slice.result.now _ _ _ _ _ _ _ _ _ _ c.in-Ok.ensures.state (sizes_same _ _ c.args.racks.items) c.in-Ok.ensures.entries c.in-Ok.ensures.side c.in-Ok.ensures.canvas c.in-Ok.ensures.fresh c.as_mut_slice.ensures.value c.scripts.ensures.value (open_second _ _ _ _ _ _ _ (ap (λ (z : Side). z.ended) c.in-Ok.ensures.side.0) c.none_attached-beside.ensures.mirror c.none_attached-beside.ensures.ends c.none_attached-beside.ensures.failed) f)))
-    c.left_with-in-Err.ensures.outcome c.left_by-in-Err.ensures.entries c.left_by-in-Err.ensures.replies c.left_by-in-Err.ensures.ends c.left_by-in-Err.ensures.end c.left_with-in-Err.ensures.ends c.left_with-in-Err.ensures.failed
+    (c.in-Err.ensures.turn (begins c.args.session.now _ None) _ _ _ (λ f k. (goes_open mirrored _ _ _ _ _ c.args.session.now _ _ _ _ c.in-Ok.seats.items
+    c.as_mut_slice.result.now _ _ _ _ _ _ _ _ _ _ c.in-Ok.ensures.state (sizes_same _ _ c.args.racks.items) c.in-Ok.ensures.entries c.in-Ok.ensures.side
+    c.in-Ok.ensures.canvas c.in-Ok.ensures.fresh c.as_mut_slice.ensures.value c.scripts.ensures.value (open_second _ _ _ _ _ _ _ (ap (λ (z : Side). z.ended)
+    c.in-Ok.ensures.side.0) c.none_attached-beside.ensures.mirror c.none_attached-beside.ensures.ends c.none_attached-beside.ensures.failed) f)))
+    c.left_with-in-Err.ensures.outcome c.left_by-in-Err.ensures.entries c.left_by-in-Err.ensures.replies c.left_by-in-Err.ensures.ends
+    c.left_by-in-Err.ensures.end c.left_with-in-Err.ensures.ends c.left_with-in-Err.ensures.failed
 
 pub returns-in_default-clause-link : goal.returns-in_default-clause-link
 returns-in_default-clause-link g c = no_link _ _ (ap (λ (o : Outcome). o.end) c.left_with.ensures.outcome ∙ c.nothing_left.ensures.end)
@@ -53,7 +79,8 @@ pub returns-in_default-clause-second : goal.returns-in_default-clause-second
 returns-in_default-clause-second g c = none_failed _ _ _ c.left_with.ensures.failed c.none_attached-beside.ensures.failed
 
 pub returns-in-Ok-mirror_rounds-clause-link : goal.returns-in-Ok-mirror_rounds-clause-link
-returns-in-Ok-mirror_rounds-clause-link g c = link_cause _ _ _ _ _ _ (ap (λ (z : Side). z.end) c.in-Ok.ensures.side.0) c.in-Ok-mirror_rounds.ensures.link (ap (λ (o : Outcome). o.end) c.left_with-in-Ok-mirror_rounds.ensures.outcome ∙ c.left_by.ensures.end) c.end_of-end.ensures
+returns-in-Ok-mirror_rounds-clause-link g c = link_cause _ _ _ _ _ _ (ap (λ (z : Side). z.end) c.in-Ok.ensures.side.0) c.in-Ok-mirror_rounds.ensures.link
+    (ap (λ (o : Outcome). o.end) c.left_with-in-Ok-mirror_rounds.ensures.outcome ∙ c.left_by.ensures.end) c.end_of-end.ensures
 
 pub returns-clause-link : goal.returns-clause-link
 returns-clause-link g c = no_link _ _ (ap (λ (o : Outcome). o.end) c.left_with-in-Err.ensures.outcome ∙ c.left_by-in-Err.ensures.end)

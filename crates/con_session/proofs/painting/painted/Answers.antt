@@ -22,18 +22,25 @@ returns-then-not-ready-clause-acts g c = λ b i f. unready_rests b _ _ i (sym c.
 
 pub returns-in_err-draw-clause-turn : goal.returns-in_err-draw-clause-turn
 returns-in_err-draw-clause-turn g c = λ b size before ps i k. paint_lacks b _ _ _ _ _ _ _ _ _ _ _ _ _ _ _ c.from_residual-in_err-draw.ensures.0
-    (inr (record { enters = c.in_ok-picture.ensures.entered; ready = sym c.if-not-ready.ensures })) _ c.reserve.ensures.items (canvas_none b _ _ _ _ _ _ _ _ _ _ c.in_ok-picture.ensures.entered.entries k)
+    (inr (record { enters = c.in_ok-picture.ensures.entered; ready = sym c.if-not-ready.ensures })) _ c.reserve.ensures.items
+    (canvas_none b _ _ _ _ _ _ _ _ _ _ c.in_ok-picture.ensures.entered.entries k)
 
 pub returns-in_err-end-clause-turn : goal.returns-in_err-end-clause-turn
 returns-in_err-end-clause-turn g c = λ b size before ps i k. paint_lacks b _ _ _ _ _ _ _ _ _ _ _ _ _ _ _ c.from_residual-in_err-end.ensures.0
-    (inr (record { enters = c.in_ok-picture.ensures.entered; ready = sym c.if-not-ready.ensures })) _ c.reserve.ensures.items (canvas_none b _ _ _ _ _ _ _ _ _ _ c.in_ok-picture.ensures.entered.entries k)
+    (inr (record { enters = c.in_ok-picture.ensures.entered; ready = sym c.if-not-ready.ensures })) _ c.reserve.ensures.items
+    (canvas_none b _ _ _ _ _ _ _ _ _ _ c.in_ok-picture.ensures.entered.entries k)
 
 pub returns-in-Ok : goal.returns-in-Ok
 returns-in-Ok g c = record {
-  pictured = (c.in_ok-picture.ensures.pictures, c.in_ok-picture.ensures.whole, record { enters = c.in_ok-picture.ensures.entered; ready = sym c.if-not-ready.ensures });
+  pictured = (
+    c.in_ok-picture.ensures.pictures,
+    c.in_ok-picture.ensures.whole,
+    record { enters = c.in_ok-picture.ensures.entered; ready = sym c.if-not-ready.ensures },
+  );
   marks = c.in_ok-picture.ensures.marks;
   served = inl (served_paint _ _ _ _ _ _ c.in_ok-picture.ensures.entered);
-  tied = tied_paint _ _ _ _ _ _ c.in_ok-picture.picture.view c.in_ok-picture.picture.fresh _ c.in_ok-picture.ensures.entered c.in_ok-picture.ensures.pictures c.in_ok-draw.ensures.shown c.in_ok-draw.ensures.size;
+  tied = tied_paint _ _ _ _ _ _ c.in_ok-picture.picture.view c.in_ok-picture.picture.fresh _ c.in_ok-picture.ensures.entered
+      c.in_ok-picture.ensures.pictures c.in_ok-draw.ensures.shown c.in_ok-draw.ensures.size;
   fails = c.if-canvas.false;
   still = λ e. absurd (let z : false ≡ true = sym c.if-canvas.false ∙ e in cc);
   failed = λ e. inl e;
@@ -43,8 +50,10 @@ returns-in-Ok g c = record {
     record { enters = c.in_ok-picture.ensures.entered; ready = sym c.if-not-ready.ensures },
     (
       c.draw.new.out.items,
-      canvas_ok b size before _ _ _ _ ps _ _ _ c.in_ok-picture.picture.view c.in_ok-picture.picture.fresh _ c.draw.new.out.items _ _ _ _ _ c.if-canvas.false i c.in_ok-picture.ensures.entered.entries c.in_ok-picture.ensures.pictures
-          c.in_ok-draw.ensures.paints c.in_ok-draw.ensures.shown c.in_ok-draw.ensures.size c.as_slice.ensures.value c.in-Ok.ensures.whole (c.in_ok-end.ensures ∙ ap (λ (n : ℕ). c.args.canvas.now.end + n) c.frame_length.ensures) k
+      canvas_ok b size before _ _ _ _ ps _ _ _ c.in_ok-picture.picture.view c.in_ok-picture.picture.fresh _ c.draw.new.out.items _ _ _ _ _
+          c.if-canvas.false i c.in_ok-picture.ensures.entered.entries c.in_ok-picture.ensures.pictures
+          c.in_ok-draw.ensures.paints c.in_ok-draw.ensures.shown c.in_ok-draw.ensures.size c.as_slice.ensures.value c.in-Ok.ensures.whole
+          (c.in_ok-end.ensures ∙ ap (λ (n : ℕ). c.args.canvas.now.end + n) c.frame_length.ensures) k
           (c.push_reserved.ensures.items ∙ ap (λ (x : List ℕ). x ++ c.in_ok-end.end ∷ []) c.reserve.ensures.items),
     ),
   );
@@ -52,10 +61,15 @@ returns-in-Ok g c = record {
 
 pub returns-in-Err-Failed : goal.returns-in-Err-Failed
 returns-in-Err-Failed g c = record {
-  pictured = (c.in_ok-picture.ensures.pictures, c.in_ok-picture.ensures.whole, record { enters = c.in_ok-picture.ensures.entered; ready = sym c.if-not-ready.ensures });
+  pictured = (
+    c.in_ok-picture.ensures.pictures,
+    c.in_ok-picture.ensures.whole,
+    record { enters = c.in_ok-picture.ensures.entered; ready = sym c.if-not-ready.ensures },
+  );
   marks = c.in_ok-picture.ensures.marks;
   served = inl (served_paint _ _ _ _ _ _ c.in_ok-picture.ensures.entered);
-  tied = tied_paint _ _ _ _ _ _ c.in_ok-picture.picture.view c.in_ok-picture.picture.fresh _ c.in_ok-picture.ensures.entered c.in_ok-picture.ensures.pictures c.in_ok-draw.ensures.shown c.in_ok-draw.ensures.size;
+  tied = tied_paint _ _ _ _ _ _ c.in_ok-picture.picture.view c.in_ok-picture.picture.fresh _ c.in_ok-picture.ensures.entered
+      c.in_ok-picture.ensures.pictures c.in_ok-draw.ensures.shown c.in_ok-draw.ensures.size;
   fails = c.if-canvas.false;
   still = λ e. absurd (let z : false ≡ true = sym c.if-canvas.false ∙ e in cc);
   failed = λ e. inr (let q = c.in-Err-Failed.field-0-is in c.in-Err-Failed.ensures.failed cc);
@@ -65,8 +79,10 @@ returns-in-Err-Failed g c = record {
     record { enters = c.in_ok-picture.ensures.entered; ready = sym c.if-not-ready.ensures },
     (
       c.draw.new.out.items,
-      canvas_failed b size before _ _ _ _ ps _ _ _ c.in_ok-picture.picture.view c.in_ok-picture.picture.fresh _ c.draw.new.out.items _ _ _ _ _ c.if-canvas.false i c.in_ok-picture.ensures.entered.entries c.in_ok-picture.ensures.pictures
-          c.in_ok-draw.ensures.paints c.in_ok-draw.ensures.shown c.in_ok-draw.ensures.size c.as_slice.ensures.value c.write_whole.ensures.front (c.in_ok-end.ensures ∙ ap (λ (n : ℕ). c.args.canvas.now.end + n) c.frame_length.ensures) k
+      canvas_failed b size before _ _ _ _ ps _ _ _ c.in_ok-picture.picture.view c.in_ok-picture.picture.fresh _ c.draw.new.out.items _ _ _ _ _
+          c.if-canvas.false i c.in_ok-picture.ensures.entered.entries c.in_ok-picture.ensures.pictures
+          c.in_ok-draw.ensures.paints c.in_ok-draw.ensures.shown c.in_ok-draw.ensures.size c.as_slice.ensures.value c.write_whole.ensures.front
+          (c.in_ok-end.ensures ∙ ap (λ (n : ℕ). c.args.canvas.now.end + n) c.frame_length.ensures) k
           (c.push_reserved.ensures.items ∙ ap (λ (x : List ℕ). x ++ c.in_ok-end.end ∷ []) c.reserve.ensures.items),
     ),
   );
@@ -75,8 +91,10 @@ returns-in-Err-Failed g c = record {
 pub returns-in-Err-OutOfMemory-clause-turn : goal.returns-in-Err-OutOfMemory-clause-turn
 returns-in-Err-OutOfMemory-clause-turn g c = λ b size before ps i k. (
   inr (record { enters = c.in_ok-picture.ensures.entered; ready = sym c.if-not-ready.ensures }),
-  canvas_ends b _ size _ _ _ _ before _ _ (canvas_failed b size before _ _ _ _ ps _ _ _ c.in_ok-picture.picture.view c.in_ok-picture.picture.fresh _ c.draw.new.out.items _ _ _ _ _ c.if-canvas.false i c.in_ok-picture.ensures.entered.entries c.in_ok-picture.ensures.pictures
-      c.in_ok-draw.ensures.paints c.in_ok-draw.ensures.shown c.in_ok-draw.ensures.size c.as_slice.ensures.value c.write_whole.ensures.front (c.in_ok-end.ensures ∙ ap (λ (n : ℕ). c.args.canvas.now.end + n) c.frame_length.ensures) k
+  canvas_ends b _ size _ _ _ _ before _ _ (canvas_failed b size before _ _ _ _ ps _ _ _ c.in_ok-picture.picture.view c.in_ok-picture.picture.fresh _
+      c.draw.new.out.items _ _ _ _ _ c.if-canvas.false i c.in_ok-picture.ensures.entered.entries c.in_ok-picture.ensures.pictures
+      c.in_ok-draw.ensures.paints c.in_ok-draw.ensures.shown c.in_ok-draw.ensures.size c.as_slice.ensures.value c.write_whole.ensures.front
+      (c.in_ok-end.ensures ∙ ap (λ (n : ℕ). c.args.canvas.now.end + n) c.frame_length.ensures) k
       (c.push_reserved.ensures.items ∙ ap (λ (x : List ℕ). x ++ c.in_ok-end.end ∷ []) c.reserve.ensures.items)),
 )
 
@@ -84,7 +102,11 @@ pub returns-then-not-ready-clause-served : goal.returns-then-not-ready-clause-se
 returns-then-not-ready-clause-served g c = inl (served_still _ (sym c.if-not-ready.ensures))
 
 pub returns-then-is_err-clause-turn : goal.returns-then-is_err-clause-turn
-returns-then-is_err-clause-turn g c = λ b size before ps i k. (inl (record { state = refl; entries = refl; replies = refl }), ends_as b _ size _ _ before _ c.reserve.ensures.items (canvas_ends b _ size _ _ _ _ before _ _ k))
+returns-then-is_err-clause-turn g c = λ b size before ps i k. (
+  inl (record { state = refl; entries = refl; replies = refl }),
+  ends_as b _ size _ _ before _ c.reserve.ensures.items (canvas_ends b _ size _ _ _ _ before _ _ k),
+)
 
 pub returns-in_err-picture-clause-turn : goal.returns-in_err-picture-clause-turn
-returns-in_err-picture-clause-turn g c = λ b size before ps i k. paint_lacks b _ _ _ _ _ _ _ _ _ _ _ _ _ _ _ c.from_residual.ensures.0 (inl c.in_err-picture.ensures.same) _ c.reserve.ensures.items (canvas_rests b _ _ _ _ _ _ size _ _ _ _ before _ _ c.in_err-picture.ensures.same k)
+returns-in_err-picture-clause-turn g c = λ b size before ps i k. paint_lacks b _ _ _ _ _ _ _ _ _ _ _ _ _ _ _ c.from_residual.ensures.0
+    (inl c.in_err-picture.ensures.same) _ c.reserve.ensures.items (canvas_rests b _ _ _ _ _ _ size _ _ _ _ before _ _ c.in_err-picture.ensures.same k)

@@ -7,7 +7,9 @@ use Rattle.con_session.proofs.seat.clients_turn.Given as goal
 
 abbrev pub invariant-loop-k : goal.invariant-loop-k
 invariant-loop-k g l = record {
-  turns : (b : Begun) → AllStand b l.initial.desk.console.state l.initial.desk.entries.items l.scripts (λ x. (goal.CtrlHandler-dyn g (x.vtable, x.value)).memory x.value) l.initial.seats
-      → ClientsTurn (Ok l.acted) b l.initial.desk.console.state l.desk.console.state l.initial.desk.entries.items l.desk.entries.items l.initial.desk.replies.items l.desk.replies.items l.k l.scripts (λ x. (goal.CtrlHandler-dyn g (x.vtable, x.value)).memory x.value) l.seats;
+  turns : (b : Begun) → AllStand b l.initial.desk.console.state l.initial.desk.entries.items l.scripts
+      (λ x. (goal.CtrlHandler-dyn g (x.vtable, x.value)).memory x.value) l.initial.seats
+      → ClientsTurn (Ok l.acted) b l.initial.desk.console.state l.desk.console.state l.initial.desk.entries.items l.desk.entries.items
+      l.initial.desk.replies.items l.desk.replies.items l.k l.scripts (λ x. (goal.CtrlHandler-dyn g (x.vtable, x.value)).memory x.value) l.seats;
   ran : Ran l.initial.desk.console.state l.desk.console.state l.initial.desk.entries.items l.desk.entries.items;
 }

@@ -25,37 +25,50 @@ pub returns-then-side-clause-ran : goal.returns-then-side-clause-ran
 returns-then-side-clause-ran g c = ran_same _ _ _ _ refl refl
 
 pub returns-then-side-clause-turn : goal.returns-then-side-clause-turn
-returns-then-side-clause-turn g c = λ b f e. (record { state = refl; entries = refl; replies = refl }, ended_idles b c.args.desk.now.entries.items _ e c.if-side.true)
+returns-then-side-clause-turn g c =
+    λ b f e. (record { state = refl; entries = refl; replies = refl }, ended_idles b c.args.desk.now.entries.items _ e c.if-side.true)
 
 pub returns-then-side-clause-link : goal.returns-then-side-clause-link
 returns-then-side-clause-link g c = λ s size es end was now lost before k. k
 
 pub returns-then-failed-clause-link : goal.returns-then-failed-clause-link
-returns-then-failed-clause-link g c = λ s size es end was now lost before k. mirror_hung s _ es end was now lost _ _ _ _ before _ _ c.if-side.false c.if-failed.true c.in_ok-enter.ensures.entered.entries k
+returns-then-failed-clause-link g c = λ s size es end was now lost before k.
+    mirror_hung s _ es end was now lost _ _ _ _ before _ _ c.if-side.false c.if-failed.true c.in_ok-enter.ensures.entered.entries k
 
 pub returns-then-failed-clause-turn : goal.returns-then-failed-clause-turn
-returns-then-failed-clause-turn g c = λ b f e. record { event = events.Hangup; enters = c.in_ok-enter.ensures.entered; ready = hangup_ready c.args.desk.now.console.state; turn = hangs b c.args.desk.now.entries.items _ _ e c.if-side.false c.if-failed.true f }
+returns-then-failed-clause-turn g c = λ b f e. record {
+  event = events.Hangup;
+  enters = c.in_ok-enter.ensures.entered;
+  ready = hangup_ready c.args.desk.now.console.state;
+  turn = hangs b c.args.desk.now.entries.items _ _ e c.if-side.false c.if-failed.true f;
+}
 
 pub returns-in_err-enter-clause-link : goal.returns-in_err-enter-clause-link
-returns-in_err-enter-clause-link g c = λ s size es end was now lost before k. linked_err mirrored _ _ _ _ _ _ before _ _ _ c.from_residual.ensures.0 c.in_err-enter.ensures.same.entries (mirror_stays s _ es end was now lost size _ _ _ before _ _ k)
+returns-in_err-enter-clause-link g c = λ s size es end was now lost before k. linked_err mirrored _ _ _ _ _ _ before _ _ _ c.from_residual.ensures.0
+    c.in_err-enter.ensures.same.entries (mirror_stays s _ es end was now lost size _ _ _ before _ _ k)
 
 pub returns-in_err-attended-clause-ran : goal.returns-in_err-attended-clause-ran
 returns-in_err-attended-clause-ran g c = ran_same _ _ _ _ refl refl
 
 pub returns-in_err-attended-clause-turn : goal.returns-in_err-attended-clause-turn
-returns-in_err-attended-clause-turn g c = λ b f e. sender_err b _ _ _ _ _ _ _ c.from_residual-in_err-attended.ensures.0 (record { state = refl; entries = refl; replies = refl })
+returns-in_err-attended-clause-turn g c =
+    λ b f e. sender_err b _ _ _ _ _ _ _ c.from_residual-in_err-attended.ensures.0 (record { state = refl; entries = refl; replies = refl })
 
 pub returns-in_err-attended-clause-link : goal.returns-in_err-attended-clause-link
-returns-in_err-attended-clause-link g c = λ s size es end was now lost before k. linked_err mirrored _ _ _ _ _ _ before _ _ _ c.from_residual-in_err-attended.ensures.0 refl (mirror_stops s _ es end was now lost size _ _ _ before _ _ _ _ _ c.if-side.false c.next_mirrored-read.ensures.took k)
+returns-in_err-attended-clause-link g c =
+    λ s size es end was now lost before k. linked_err mirrored _ _ _ _ _ _ before _ _ _ c.from_residual-in_err-attended.ensures.0 refl
+    (mirror_stops s _ es end was now lost size _ _ _ before _ _ _ _ _ c.if-side.false c.next_mirrored-read.ensures.took k)
 
 pub returns-in_err-attended-clause-few : goal.returns-in_err-attended-clause-few
 returns-in_err-attended-clause-few g c = no_ok _ _ c.from_residual-in_err-attended.ensures.0
 
 pub returns-clause-turn : goal.returns-clause-turn
-returns-clause-turn g c = λ b f e. heard_turn _ _ _ _ b _ _ _ _ _ _ _ c.if-side.false c.if-failed.false c.requires.answered (plain_frame _ _ _ _ _ _ c.as_plain_read.ensures c.next_mirrored-read.ensures.took) c.heard.ensures.hears f e
+returns-clause-turn g c = λ b f e. heard_turn _ _ _ _ b _ _ _ _ _ _ _ c.if-side.false c.if-failed.false c.requires.answered
+    (plain_frame _ _ _ _ _ _ c.as_plain_read.ensures c.next_mirrored-read.ensures.took) c.heard.ensures.hears f e
 
 pub returns-clause-link : goal.returns-clause-link
-returns-clause-link g c = mirror_heard _ _ _ _ _ _ _ _ _ _ _ _ _ _ _ _ _ _ c.as_plain_read.ensures c.if-side.false c.heard.ensures.hears c.next_mirrored-read.ensures.took c.in_ok-attended.ensures.kept
+returns-clause-link g c = mirror_heard _ _ _ _ _ _ _ _ _ _ _ _ _ _ _ _ _ _ c.as_plain_read.ensures c.if-side.false c.heard.ensures.hears
+    c.next_mirrored-read.ensures.took c.in_ok-attended.ensures.kept
 
 pub returns-clause-few : goal.returns-clause-few
 returns-clause-few g c = mirror_few _ _ _ _ _ _ _ _ _ _ _ _ _ _ _ c.as_plain_read.ensures c.heard.ensures.hears c.next_mirrored-read.ensures.took

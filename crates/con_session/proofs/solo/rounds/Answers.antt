@@ -6,10 +6,12 @@ use Rattle.con_session.proofs.Going.{cause_more, failing, fails_now, goes_idle, 
 use Rattle.con_session.proofs.solo.rounds.Goals as goal
 
 pub returns-in_err-round-clause-turn : goal.returns-in_err-round-clause-turn
-returns-in_err-round-clause-turn g c = λ b before old init f k. rounds_err plainly NoMore NoMore _ _ _ _ _ _ c.from_residual.ensures.0 (c.in_err-round.ensures.turn b before old (c.loop.invariant.turn b before old init) f k)
+returns-in_err-round-clause-turn g c = λ b before old init f k. rounds_err plainly NoMore NoMore _ _ _ _ _ _ c.from_residual.ensures.0
+    (c.in_err-round.ensures.turn b before old (c.loop.invariant.turn b before old init) f k)
 
 pub returns-clause-turn : goal.returns-clause-turn
-returns-clause-turn g c = λ b before old init f k. goes_idle plainly NoMore _ _ _ _ _ _ _ c.if-branch.false (c.in_ok-round.ensures.turn b before old (c.loop.invariant.turn b before old init) f k)
+returns-clause-turn g c = λ b before old init f k.
+    goes_idle plainly NoMore _ _ _ _ _ _ _ c.if-branch.false (c.in_ok-round.ensures.turn b before old (c.loop.invariant.turn b before old init) f k)
 
 pub loop-preserved : goal.loop-preserved
 loop-preserved g c = record {
@@ -21,7 +23,8 @@ loop-preserved g c = record {
     c.loop.invariant.going.0,
     c.loop.invariant.going.1,
     c.loop.invariant.going.2,
-    λ f k. goes_on plainly NoMore _ _ _ _ _ _ _ (c.in_ok-round.ensures.turn c.loop.invariant.going.0 c.loop.invariant.going.1 c.loop.invariant.going.2 c.loop.invariant.going.3 f k),
+    λ f k. goes_on plainly NoMore _ _ _ _ _ _ _
+        (c.in_ok-round.ensures.turn c.loop.invariant.going.0 c.loop.invariant.going.1 c.loop.invariant.going.2 c.loop.invariant.going.3 f k),
   );
   turn = λ b before old init f k. goes_on plainly NoMore _ _ _ _ _ _ _ (c.in_ok-round.ensures.turn b before old (c.loop.invariant.turn b before old init) f k);
   link = cause_more _ _ _ _ _ _ c.loop.invariant.link c.in_ok-round.ensures.link c.loop.invariant.link_never_falls c.in_ok-round.ensures.link_never_falls;
@@ -32,6 +35,8 @@ loop-preserved g c = record {
 
 pub loop-smaller : goal.loop-smaller
 loop-smaller g c =
-    let longer = goes_longer plainly NoMore _ _ _ _ _ _ _ c.if-branch.true (c.in_ok-round.ensures.turn c.loop.invariant.going.0 c.loop.invariant.going.1 c.loop.invariant.going.2 c.loop.invariant.going.3
-    (failing c.round.new.stage.canvas.failed (paints c.round.new.stage.desk.entries.items)) (fails_now c.round.new.stage.canvas.failed (paints c.round.new.stage.desk.entries.items))) in
+    let longer = goes_longer plainly NoMore _ _ _ _ _ _ _ c.if-branch.true
+    (c.in_ok-round.ensures.turn c.loop.invariant.going.0 c.loop.invariant.going.1 c.loop.invariant.going.2 c.loop.invariant.going.3
+    (failing c.round.new.stage.canvas.failed (paints c.round.new.stage.desk.entries.items))
+    (fails_now c.round.new.stage.canvas.failed (paints c.round.new.stage.desk.entries.items))) in
     omega (arith, longer)

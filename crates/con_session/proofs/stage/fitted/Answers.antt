@@ -8,7 +8,8 @@ loop-alloc-preserved g c =
     let n = pushed_length _ _ _ e in
     record {
       fresh = λ racks l f. fresh_pushed _ _ _ _ racks _ _ _ e (c.loop-alloc.invariant.fresh racks l f) c.in_ok-seat.ensures.worker
-          (λ b p q. c.in_ok-seat.ensures.hands b p (q ∙ (none_past racks (0 + length c.loop-alloc.all.items) (omega (arith, l, c.loop-alloc.invariant.more)) ∙ told_none _ _ c.new.ensures.items)));
+          (λ b p q. c.in_ok-seat.ensures.hands b p
+          (q ∙ (none_past racks (0 + length c.loop-alloc.all.items) (omega (arith, l, c.loop-alloc.invariant.more)) ∙ told_none _ _ c.new.ensures.items)));
       more = omega (arith, n, c.loop-alloc.invariant.more);
     }
 

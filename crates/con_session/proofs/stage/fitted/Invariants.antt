@@ -5,7 +5,9 @@ use Rattle.con_session.proofs.stage.fitted.Given as goal
 
 abbrev pub invariant-loop-alloc : goal.invariant-loop-alloc
 invariant-loop-alloc g l = record {
-  fresh : (racks : List (List ℕ)) → length racks ≡ length l.fn.seats.items → AreFresh (λ x. (goal.CtrlHandler-dyn g (x.vtable, x.value)).memory x.value) racks 0 l.fn.seats.items → AreFresh (λ x. (goal.CtrlHandler-dyn g (x.vtable, x.value)).memory x.value) racks 0 l.all.items;
+  fresh : (racks : List (List ℕ))
+      → length racks ≡ length l.fn.seats.items → AreFresh (λ x. (goal.CtrlHandler-dyn g (x.vtable, x.value)).memory x.value) racks 0 l.fn.seats.items
+      → AreFresh (λ x. (goal.CtrlHandler-dyn g (x.vtable, x.value)).memory x.value) racks 0 l.all.items;
   more : length l.fn.seats.items ≤ length l.all.items;
 }
 

@@ -9,7 +9,8 @@ loop-rack-preserved g c =
     let n = pushed_length _ _ _ e in
     let r = sym step.0 ∙ c.loop-rack.invariant.rest in
     record {
-      fresh = fresh_pushed _ _ _ _ _ _ _ _ e c.loop-rack.invariant.fresh c.in_ok-seat.ensures.worker (λ b p q. c.in_ok-seat.ensures.hands b p (q ∙ told_at _ (length c.loop-rack.seats.items) c.args.racks.items c.in-Some.rack _ r));
+      fresh = fresh_pushed _ _ _ _ _ _ _ _ e c.loop-rack.invariant.fresh c.in_ok-seat.ensures.worker
+          (λ b p q. c.in_ok-seat.ensures.hands b p (q ∙ told_at _ (length c.loop-rack.seats.items) c.args.racks.items c.in-Some.rack _ r));
       count = omega (arith, step.1, n, c.loop-rack.invariant.count);
       rest = rest_behind _ _ _ _ _ r n;
     }

@@ -16,5 +16,7 @@ pub returns-in_err-room-clause-ran : goal.returns-in_err-room-clause-ran
 returns-in_err-room-clause-ran c = ran_same _ _ _ _ c.prepare.ensures.state c.reserve.ensures.items
 
 pub returns-clause-ran : goal.returns-clause-ran
-returns-clause-ran c = ran_one _ _ _ _ c.args.actor c.args.event (c.apply-reply.ensures.state ∙ ap (λ (s : State). (step s c.args.actor c.args.event).after) c.prepare.ensures.state)
-    (c.push_reserved.ensures.items ∙ ap (λ (h : List Entry). h ++ entry c.args.actor c.args.event ∷ []) c.reserve.ensures.items) c.requires.ready c.requires.other
+returns-clause-ran c = ran_one _ _ _ _ c.args.actor c.args.event
+    (c.apply-reply.ensures.state ∙ ap (λ (s : State). (step s c.args.actor c.args.event).after) c.prepare.ensures.state)
+    (c.push_reserved.ensures.items ∙ ap (λ (h : List Entry). h ++ entry c.args.actor c.args.event ∷ []) c.reserve.ensures.items) c.requires.ready
+    c.requires.other

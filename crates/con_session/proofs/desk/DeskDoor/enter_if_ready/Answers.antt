@@ -9,4 +9,5 @@ pub returns-in-Ok-clause-stands : goal.returns-in-Ok-clause-stands
 returns-in-Ok-clause-stands c = λ k stands. since_enters _ _ _ _ _ _ _ _ _ stands _ _ c.in-Ok.ensures.entered (sym c.if-not-ready.ensures) c.requires.serves
 
 pub returns-in-Ok-clause-entered : goal.returns-in-Ok-clause-entered
-returns-in-Ok-clause-entered c = λ k s stands begins. desk_entered _ _ _ s _ _ _ _ _ _ _ _ _ (sym c.if-not-ready.ensures) c.in-Ok.ensures.entered c.in-Ok.ensures.brief stands begins
+returns-in-Ok-clause-entered c =
+    λ k s stands begins. desk_entered _ _ _ s _ _ _ _ _ _ _ _ _ (sym c.if-not-ready.ensures) c.in-Ok.ensures.entered c.in-Ok.ensures.brief stands begins

@@ -5,4 +5,5 @@ use Rattle.con_session.proofs.hands.Hands.remove.Goals as goal
 
 pub returns-in_default-clause-removed : goal.returns-in_default-clause-removed
 returns-in_default-clause-removed g c = λ hs doubtful once are.
-    absent_hands hs doubtful _ _ c.args.place (ap (position (λ y. y == c.args.place)) (sym c.as_slice.ensures.value) ∙ (sym c.index_of.ensures ∙ c.in_default.is)) once are
+    absent_hands hs doubtful _ _ c.args.place
+    (ap (position (λ y. y == c.args.place)) (sym c.as_slice.ensures.value) ∙ (sym c.index_of.ensures ∙ c.in_default.is)) once are
