@@ -24,7 +24,7 @@ use Rattle.con_session.specs.Desk.{Rests, Stands, entry}
 use Rattle.con_session.specs.Painting.{CanvasIs, CanvasEnds, EntersPaint, PaintTurn, PainterFails, PainterActs}
 use Rattle.con_session.specs.Seats.{AllStandBy, AllFollow, ClientsTurnBy}
 use Rattle.con_session.specs.Sender.{LinkBy, LinkEndsBy, SenderTurn, FailsBy}
-use Rattle.con_session.specs.OpeningLaws.{moment_of}
+use Rattle.con_session.proofs.Beginning.{moment_of}
 use Rattle.con_session.specs.Solo.{AllIdle, Moment, HoldsBy, GoesBy, HasRounds, BreaksOff, StopsBy, RoundTurnBy, RoundsTurnBy, fails_at}
 use Rattle.con_session.specs.declared.terminal.Side.{Side}
 use Rattle.con_session.specs.declared.worker.Worker.{Worker}

@@ -15,7 +15,7 @@ use Rattle.con_machine.specs.Turns.{paints}
 use Rattle.con_session.specs.Outcome.{IsOutcomeBy}
 use Rattle.con_session.specs.Seats.{AllStandBy, AllFollow}
 use Rattle.con_session.specs.Second.{IsMirrorOutcome, Mirrors, Seconded}
-use Rattle.con_session.specs.SecondLaws.{second_begins}
+use Rattle.con_session.proofs.SecondLaws.{second_begins}
 use Rattle.con_session.specs.Sender.{FailsBy}
 use Rattle.con_session.specs.Solo.{Moment, GoesBy, AllIdle, StopsBy, begins, end_by}
 use Rattle.con_session.specs.declared.solo.Outcome.{Outcome}

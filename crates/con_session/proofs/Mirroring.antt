@@ -29,7 +29,7 @@ use Rattle.con_session.specs.Desk.{entry}
 use Rattle.con_session.specs.LinkedLaws.{linked_hung, linked_stays, linked_stops}
 use Rattle.con_session.specs.Painting.{PaintTurn, PainterActs, PainterFails, Pictured, acted}
 use Rattle.con_session.specs.Second.{FollowTurn, MirrorLinkIs, Mirrors, SecondIs, Seconded, kept_behind}
-use Rattle.con_session.specs.SecondLaws.{second_ends, second_frame, second_hung, second_other, second_past}
+use Rattle.con_session.proofs.SecondLaws.{second_ends, second_frame, second_hung, second_other, second_past}
 use Rattle.con_session.specs.Sender.{Hears, LinkEndsBy, LinkTurnBy, plain_of}
 use Rattle.con_session.specs.declared.desk.Picture.{Picture}
 use Rattle.con_session.specs.declared.terminal.Side.{Side}

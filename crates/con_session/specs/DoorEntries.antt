@@ -19,9 +19,8 @@ use Rattle.con_session.specs.Door.{Saw, Entered, are_others}
 use Rattle.con_session.specs.DoorTurns.{ClientAt, HasActed}
 use Rattle.con_session.specs.RackLaws.{hands_keep, own_turns}
 use Rattle.con_session.specs.Standing.{ClientStands, is_here}
-use Rattle.con_session.specs.StandingLaws.{stands_other, stands_own}
+use Rattle.con_session.specs.StandingLaws.{own_is, stands_other, stands_own}
 use Rattle.con_session.specs.Worker.{IsWorker, HandsAreBy, IsRack, HandsStandBy, ClientIs, Keeps, places_in}
-use Rattle.con_session.specs.WorkerLaws.{own_is}
 use Rattle.con_session.specs.declared.desk.Brief.{Brief}
 use Rattle.con_session.specs.declared.worker.Worker.{Worker}
 

@@ -28,15 +28,8 @@ pub mod RanLaws
 pub mod DeskDoor
 -- a client's turns, its rack and its chain,
 pub mod RackLaws
-pub mod WorkerLaws
-pub mod StepLaws
-pub mod HandsLaws
-pub mod ChainLaws
-pub mod HandlerTurns
 pub mod StandingLaws
 pub mod DoorEntries
-pub mod DoorGoing
-pub mod DoorExact
 -- the terminal's side and its link,
 pub mod SenderLaws
 pub mod LinkedLaws
@@ -49,9 +42,6 @@ pub mod CanvasLaws
 pub mod PaintTurns
 pub mod PaintCounts
 pub mod TiedLaws
--- a second terminal,
-pub mod SecondsLaws
-pub mod SecondLaws
 -- and a session's beginning and its end.
 pub mod OpeningLaws
 pub mod EndLaws

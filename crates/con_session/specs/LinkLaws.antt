@@ -20,8 +20,8 @@ use Rattle.con_machine.specs.Turns.{is_terminal}
 use Rattle.con_machine.specs.Rounds.{Begun}
 use Rattle.con_machine.specs.State.{State}
 use Rattle.con_session.specs.Desk.{Rests, entry}
-use Rattle.con_session.specs.LinkedLaws.{linked_other, linked_failed, linked_hung, linked_frame, linked_fault, linked_stays, linked_stops, linked_err}
-use Rattle.con_session.specs.Sender.{LinkIs, LinkEnds, LinkTurn, NoMore, SenderTurn, end_for}
+use Rattle.con_session.specs.LinkedLaws.{linked_other, linked_failed, linked_hung, linked_frame, linked_fault, linked_stays, linked_stops}
+use Rattle.con_session.specs.Sender.{LinkIs, LinkEnds, NoMore, SenderTurn, end_for}
 use Rattle.con_session.specs.declared.terminal.Side.{Side}
 
 -- another's entry
@@ -73,11 +73,6 @@ pub link_stops : (h : List Entry) (side : Side) (failed : Bool) (before old now 
     → LinkEnds h before now
 link_stops h side failed before old now taken later r n took k =
     linked_stops plainly NoMore NoMore h side failed before old now taken later r n took (λ fs m. tt) k
-
--- in the place of an answer that is no value
-pub link_err : (h g : List Entry) (side : Side) (failed : Bool) (before now : Option (List ℕ)) (taken : ℕ) (result : Result Bool OutOfMemory)
-    → IsErr result → g ≡ h → LinkEnds h before now → LinkTurn result g side failed before now taken
-link_err h g side failed before now taken result i e k = linked_err plainly NoMore NoMore h g side failed before now taken result i e k
 
 pub sender_err : (b : Begun) (s t : State) (h g : List Entry) (rs qs : List Reply) (result : Result Bool OutOfMemory)
     → IsErr result → Rests s t h g rs qs → SenderTurn result b s t h g rs qs

@@ -1,11 +1,10 @@
 -- The terminal's side behind one more entry.
 use Rattle.std.proofs.Common.{◌≡◌, ◌⊎◌, ℕ, Bool, true, false, List, [], ◌∷◌, ◌++◌, Option, Some, None, refl, sym, ap, ◌∙◌, subst, append_assoc, inl, inr, arith}
-use Rattle.std.specs.Prelude.{not, ◌&&◌, nat_le, ◌+◌, length, Ok, map}
+use Rattle.std.specs.Prelude.{not, ◌&&◌, nat_le, ◌+◌, map}
 use Rattle.std.proofs.lemmas.Bool.Decides.{nat_tests}
 use Rattle.con_units.specs.declared.view.Frame.{Frame}
 use Rattle.con_units.specs.declared.view.Frame.TheVariants as frames
-use Rattle.con_outside.specs.Outside.{then_left}
-use Rattle.con_link.specs.Frames.{ends_link, is_frame, Answers}
+use Rattle.con_link.specs.Frames.{ends_link, is_frame}
 use Rattle.con_events.specs.Session.{is_size}
 use Rattle.con_events.specs.declared.actor.Actor.TheVariants as actors
 use Rattle.con_events.specs.declared.entry.Entry.{Entry}
@@ -167,11 +166,3 @@ pub none_asked : (a f : Bool) → (a ≡ false) ⊎ (f ≡ true) → f ≡ false
 none_asked a f (inl e) n = e
 none_asked a true (inr e) n = absurd (cc)
 none_asked a false (inr e) n = absurd (cc)
-
--- a frame that was read
-pub read_ready : (s : State) (f : Frame) (ev : Event) (failed : Bool) (old now : Option (List ℕ)) (taken later : ℕ) → ev ≡ sent_by f
-    → ((text : List ℕ) × (old ≡ then_left text now) × (later ≡ taken + length text) × Answers (Ok f) taken text now)
-    → (s.asked ≡ false) ⊎ (failed ≡ true) → failed ≡ false → is_ready s actors.Terminal ev ≡ true
-read_ready s f ev failed old now taken later e (text, l, c, a) o n =
-    let P : Event → Type 0 = λ x. is_ready s actors.Terminal x ≡ true in
-    subst P (sym e) (frame_ready s f a.1 (none_asked s.asked failed o n))

@@ -108,9 +108,6 @@ pub record StopsBy (R : Reading) (More : List R.One → List Entry → Type 0) (
   pub some : failed ≡ true → 0 < paints h
   pub rounds : BreaksOff b h
 
-abbrev pub Stops : Begun → Option (List ℕ) → Option (List ℕ) → List Entry → List Reply → List ℕ → Option (List ℕ) → Option (List ℕ) → Bool → Type 0
-Stops b before old h rs es left written failed = StopsBy plainly NoMore b before old h rs es left written failed
-
 -- a round after a history: false where nobody had anything to do
 abbrev pub RoundTurnBy : (R : Reading) (More Then : List R.One → List Entry → Type 0)
     → Result Bool OutOfMemory → Begun → List Script → Option (List ℕ) → Option (List ℕ) → List Entry → Moment → Type 0

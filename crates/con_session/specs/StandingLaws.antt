@@ -17,16 +17,34 @@ use Rattle.con_machine.specs.Chain.{is_handled}
 use Rattle.con_machine.specs.Client.{Client, Stance, GoesOn, MayLeave, MustLeave, Gone, FollowsScript, client_after, starting, May, MayBy, MayGoOn, moved_on, entered, took, chained, next_event, is_fail}
 use Rattle.con_machine.specs.Follows.{steps_of, kinds_of}
 use Rattle.con_machine.specs.History.{run}
-use Rattle.con_machine.specs.HistoryLaws.{along-one, turns-other, turns-own}
+use Rattle.con_machine.specs.HistoryLaws.{after-append, along-one, turns-other, turns-own}
 use Rattle.con_machine.specs.Presence.{IsSingle, attached_by, reads_by}
 use Rattle.con_machine.specs.PresenceLaws.{others_stay, own_does, single_step}
 use Rattle.con_machine.specs.Rounds.{Begun, client_at}
 use Rattle.con_machine.specs.State.{State}
 use Rattle.con_machine.specs.Step.{step}
 use Rattle.con_machine.specs.Turns.{Turn, turns, turn_of, is_client, is_pending}
+use Rattle.con_session.specs.Desk.{Enters, entry}
 use Rattle.con_session.specs.Standing.{ClientStands, is_here}
 use Rattle.con_session.specs.DeskLaws.{run_one}
-use Rattle.con_session.specs.WorkerLaws.{client_own}
+
+-- ---- the client's own record
+
+-- the client's own record is moved by its own entry
+pub client_own : (b : Begun) (h : List Entry) (x : Entry) (p : ℕ) → is_client p x.actor ≡ true
+    → client_at b (h ++ x ∷ []) p ≡ moved_on (client_at b h p) (turn_of (run b.state h) p x)
+client_own b h x p n = ap (client_after (steps_of b.session p) (kinds_of b.racks p)) (turns-own b.state p h x n)
+    ∙ after-append moved_on (starting (steps_of b.session p) (kinds_of b.racks p)) (turns b.state p h) (turn_of (run b.state h) p x ∷ [])
+
+-- the client after an entry of its own, as a desk gives it
+pub own_is : (b : Begun) (p : ℕ) (s t : State) (h g : List Entry) (rs qs : List Reply) (e : Event) → s ≡ run b.state h
+    → Enters s t h g rs qs (actors.Client p) e
+    → client_at b g p ≡ record (entered (client_at b h p) e (step s (actors.Client p) e).reply) { pending = is_pending ((step s (actors.Client p) e).after) p }
+own_is b p s t h g rs qs e i n =
+    let n' = eq-eqb p p refl in
+    let P : State → Type 0 = λ z. client_at b g p
+    ≡ record (entered (client_at b h p) e (step z (actors.Client p) e).reply) { pending = is_pending ((step z (actors.Client p) e).after) p } in
+    subst P (sym i) (ap (λ k. client_at b k p) n.entries ∙ client_own b h (entry (actors.Client p) e) p n')
 
 -- ---- another's entry
 

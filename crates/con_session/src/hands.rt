@@ -116,7 +116,7 @@ impl Hands {
     }
 
     /// Takes the handler of this place out of the chain.
-    #[tactic(auto, using(crate::specs::ChainLaws::removed_hands))]
+    #[tactic(auto, using(crate::proofs::ChainLaws::removed_hands))]
     pub fn remove(&mut self, place: u32)
         requires { 0 ≤ place }
         ensures removed { (hs : List Handler) (doubtful : Bool) → stand_once (places_in hs) ≡ true

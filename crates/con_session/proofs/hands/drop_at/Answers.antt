@@ -1,4 +1,4 @@
-use Rattle.con_session.specs.ChainLaws.{dropped_is}
+use Rattle.con_session.proofs.ChainLaws.{dropped_is}
 use Rattle.con_session.proofs.hands.drop_at.Goals as goal
 
 pub returns : goal.returns

@@ -1,7 +1,7 @@
 use Rattle.std.proofs.Common.{sym, ◌∙◌, [], true}
 use Rattle.con_link.specs.Reading.{mirrored}
 use Rattle.con_session.specs.Second.{Seconded}
-use Rattle.con_session.specs.OpeningLaws.{all_follow}
+use Rattle.con_session.proofs.Beginning.{all_follow}
 use Rattle.con_session.specs.TiedLaws.{tied_ran}
 use Rattle.con_session.proofs.LastGiven.{followed_paint, followed_ran, followed_still, pictured_since}
 use Rattle.con_session.proofs.Going.{followed_err, round_ok, round_err, sent_err, entered_err, painted_err}

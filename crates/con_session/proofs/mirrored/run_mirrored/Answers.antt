@@ -7,7 +7,8 @@ use Rattle.con_session.proofs.Ending.{term_by}
 use Rattle.con_session.proofs.LastGiven.{followed_none}
 use Rattle.con_session.proofs.MirrorEnding.{link_cause, mirror_none, mirror_stopped, mirror_whole, no_link, no_term, none_failed, open_second}
 use Rattle.con_session.proofs.Mirroring.{cause_now}
-use Rattle.con_session.specs.OpeningLaws.{all_follow, count_of, goes_open, sizes_same}
+use Rattle.con_session.proofs.Beginning.{all_follow, count_of, goes_open}
+use Rattle.con_session.specs.OpeningLaws.{sizes_same}
 use Rattle.con_session.proofs.mirrored.run_mirrored.Goals as goal
 
 pub returns-in_default-clause-outcome : goal.returns-in_default-clause-outcome

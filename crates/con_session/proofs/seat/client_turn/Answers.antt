@@ -1,5 +1,5 @@
 use Rattle.con_session.specs.DeskDoor.{since_here}
-use Rattle.con_session.specs.DoorExact.{client_of, exact}
+use Rattle.con_session.proofs.DoorExact.{client_of, exact}
 use Rattle.con_session.proofs.seat.client_turn.Goals as goal
 
 pub returns-clause-ran : goal.returns-clause-ran

@@ -3,7 +3,8 @@ use Rattle.con_link.specs.Reading.{plainly}
 use Rattle.con_session.specs.Sender.{NoMore}
 use Rattle.con_session.specs.Solo.{begins}
 use Rattle.con_session.proofs.Ending.{handed_none, handed_stops, handed_whole, term_by}
-use Rattle.con_session.specs.OpeningLaws.{all_follow, count_of, goes_open, going_open, sizes_same}
+use Rattle.con_session.proofs.Beginning.{all_follow, count_of, goes_open, going_open}
+use Rattle.con_session.specs.OpeningLaws.{sizes_same}
 use Rattle.con_session.proofs.solo.run_solo.Goals as goal
 
 pub returns-in_default-clause-outcome : goal.returns-in_default-clause-outcome

@@ -1,5 +1,5 @@
 use Rattle.std.proofs.Common.{◌∙◌, ◌+◌, length, arith}
-use Rattle.con_session.specs.OpeningLaws.{fresh_cut, fresh_pushed, none_past, pushed, pushed_length, told_none}
+use Rattle.con_session.proofs.Beginning.{fresh_cut, fresh_pushed, none_past, pushed, pushed_length, told_none}
 use Rattle.con_session.proofs.stage.fitted.Goals as goal
 
 pub loop-alloc-preserved : goal.loop-alloc-preserved

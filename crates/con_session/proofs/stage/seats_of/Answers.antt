@@ -1,5 +1,5 @@
 use Rattle.std.proofs.Common.{◌∙◌, sym, length, arith}
-use Rattle.con_session.specs.OpeningLaws.{fresh_pushed, pushed, pushed_length, rest_behind, told_at}
+use Rattle.con_session.proofs.Beginning.{fresh_pushed, pushed, pushed_length, rest_behind, told_at}
 use Rattle.con_session.proofs.stage.seats_of.Goals as goal
 
 pub loop-rack-preserved : goal.loop-rack-preserved

@@ -1,5 +1,5 @@
-use Rattle.con_session.specs.DoorGoing.{began, going_on, rested}
-use Rattle.con_session.specs.WorkerLaws.{begin_ready}
+use Rattle.con_session.proofs.DoorGoing.{began, going_on, rested}
+use Rattle.con_session.proofs.WorkerLaws.{begin_ready}
 use Rattle.con_session.proofs.step.begin.Goals as goal
 
 pub enter-requires-clause-ready : goal.enter-requires-clause-ready

@@ -1,6 +1,6 @@
 use Rattle.con_events.specs.declared.call.Call.TheVariants as calls
-use Rattle.con_session.specs.DoorGoing.{added, going_on, refused, rested, stopped}
-use Rattle.con_session.specs.WorkerLaws.{call_ready}
+use Rattle.con_session.proofs.DoorGoing.{added, going_on, refused, rested, stopped}
+use Rattle.con_session.proofs.WorkerLaws.{call_ready}
 use Rattle.con_session.proofs.step.call_add.Goals as goal
 
 pub enter-requires-clause-ready : goal.enter-requires-clause-ready

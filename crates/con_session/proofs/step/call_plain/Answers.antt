@@ -1,5 +1,5 @@
-use Rattle.con_session.specs.DoorGoing.{called, going_on, rested}
-use Rattle.con_session.specs.WorkerLaws.{call_ready}
+use Rattle.con_session.proofs.DoorGoing.{called, going_on, rested}
+use Rattle.con_session.proofs.WorkerLaws.{call_ready}
 use Rattle.con_session.proofs.step.call_plain.Goals as goal
 
 pub enter-requires-clause-ready : goal.enter-requires-clause-ready

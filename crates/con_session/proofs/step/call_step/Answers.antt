@@ -1,6 +1,6 @@
 use Rattle.std.proofs.Common.{ap, ◌∙◌}
 use Rattle.con_events.specs.declared.event.Event.TheVariants as events
-use Rattle.con_session.specs.DoorGoing.{rested, saw_here}
+use Rattle.con_session.proofs.DoorGoing.{rested, saw_here}
 use Rattle.con_session.proofs.step.call_step.Goals as goal
 
 pub returns-in_err-call-in_default-clause-turned : goal.returns-in_err-call-in_default-clause-turned

@@ -1,4 +1,4 @@
-use Rattle.con_session.specs.DoorGoing.{exits_by_script, going_on, next_at, next_exit}
+use Rattle.con_session.proofs.DoorGoing.{exits_by_script, going_on, next_at, next_exit}
 use Rattle.con_session.proofs.step.next_step.Goals as goal
 
 pub one_step-done-requires-clause-next : goal.one_step-done-requires-clause-next

@@ -1,7 +1,7 @@
 use Rattle.std.proofs.Common.{ap, ◌∙◌, sym}
 use Rattle.con_events.specs.declared.event.Event.TheVariants as events
 use Rattle.con_machine.specs.Client.{event_of}
-use Rattle.con_session.specs.DoorGoing.{exits_by_script, going_on, rested, saw_here}
+use Rattle.con_session.proofs.DoorGoing.{exits_by_script, going_on, rested, saw_here}
 use Rattle.con_session.proofs.step.one_step.Goals as goal
 
 pub returns-in_err-wanted-in-Begin-clause-turned : goal.returns-in_err-wanted-in-Begin-clause-turned

@@ -1,4 +1,4 @@
-use Rattle.con_session.specs.DoorGoing.{collected, rested, waited}
+use Rattle.con_session.proofs.DoorGoing.{collected, rested, waited}
 use Rattle.con_session.proofs.worker.collect.Goals as goal
 
 pub returns-in_err-enter_if_ready-clause-turned : goal.returns-in_err-enter_if_ready-clause-turned

@@ -1,5 +1,5 @@
-use Rattle.con_session.specs.DoorGoing.{exited, rested}
-use Rattle.con_session.specs.WorkerLaws.{exit_ready}
+use Rattle.con_session.proofs.DoorGoing.{exited, rested}
+use Rattle.con_session.proofs.WorkerLaws.{exit_ready}
 use Rattle.con_session.proofs.worker.leave.Goals as goal
 
 pub enter-requires-clause-ready : goal.enter-requires-clause-ready

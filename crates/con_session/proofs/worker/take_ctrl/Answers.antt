@@ -1,6 +1,6 @@
 use Rattle.std.proofs.Common.{ap}
-use Rattle.con_session.specs.DoorGoing.{looked, took, took_none, untaken}
-use Rattle.con_session.specs.WorkerLaws.{IsEvent}
+use Rattle.con_session.proofs.DoorGoing.{looked, took, took_none, untaken}
+use Rattle.con_session.proofs.WorkerLaws.{IsEvent}
 use Rattle.con_session.proofs.worker.take_ctrl.Goals as goal
 
 pub returns-in_err-brief-clause-taken : goal.returns-in_err-brief-clause-taken

@@ -1,4 +1,4 @@
-use Rattle.con_session.specs.ChainLaws.{slots_stay}
+use Rattle.con_session.proofs.ChainLaws.{slots_stay}
 use Rattle.con_session.proofs.hands.Hands.add.Goals as goal
 
 pub returns-clause-rest : goal.returns-clause-rest

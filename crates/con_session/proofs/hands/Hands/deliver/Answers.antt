@@ -1,4 +1,4 @@
-use Rattle.con_session.specs.HandsLaws.{delivered_hands}
+use Rattle.con_session.proofs.HandsLaws.{delivered_hands}
 use Rattle.con_session.proofs.hands.Hands.deliver.Goals as goal
 
 pub returns-in-Handled-clause-handled : goal.returns-in-Handled-clause-handled

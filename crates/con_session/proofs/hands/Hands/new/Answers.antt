@@ -1,4 +1,4 @@
-use Rattle.con_session.specs.ChainLaws.{first_hands}
+use Rattle.con_session.proofs.ChainLaws.{first_hands}
 use Rattle.con_session.proofs.hands.Hands.new.Goals as goal
 
 pub returns : goal.returns

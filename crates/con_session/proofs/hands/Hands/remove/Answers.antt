@@ -1,6 +1,6 @@
 use Rattle.std.proofs.Common.{sym, ap, position, ◌∙◌}
 use Rattle.std.specs.Prelude.{◌==◌}
-use Rattle.con_session.specs.ChainLaws.{absent_hands}
+use Rattle.con_session.proofs.ChainLaws.{absent_hands}
 use Rattle.con_session.proofs.hands.Hands.remove.Goals as goal
 
 pub returns-in_default-clause-removed : goal.returns-in_default-clause-removed

@@ -1,5 +1,5 @@
 -- What a worker may enter, and what that makes of it.
-use Rattle.std.proofs.Common.{◌≡◌, ℕ, Bool, true, false, List, [], ◌∷◌, ◌++◌, Option, Some, None, refl, sym, ap, ◌∙◌, subst, inl, inr, eq-eqb, Ok}
+use Rattle.std.proofs.Common.{◌≡◌, ℕ, Bool, true, false, List, [], Option, Some, None, refl, sym, ap, ◌∙◌, subst, inl, inr, Ok}
 use Rattle.std.specs.Prelude.{◌==◌, if◌then◌else◌, not, ◌||◌}
 use Rattle.con_events.specs.declared.actor.Actor.TheVariants as actors
 use Rattle.con_events.specs.declared.entry.Entry.{Entry}
@@ -12,16 +12,15 @@ use Rattle.con_handlers.specs.Memory.{Memory}
 use Rattle.con_procs.specs.Procs.{is_attached}
 use Rattle.con_readers.specs.Reads.{is_open, has_done}
 use Rattle.con_machine.specs.Chain.{delivered_to, is_handled}
-use Rattle.con_machine.specs.Client.{Client, Stance, GoesOn, MayLeave, MustLeave, Gone, MayBy, MayGoOn, entered, took, verdict, due, next_event, ctrl_exit, client_after, starting, moved_on}
-use Rattle.con_machine.specs.Follows.{steps_of, kinds_of}
+use Rattle.con_machine.specs.Client.{Client, Stance, GoesOn, MayLeave, MustLeave, Gone, MayBy, MayGoOn, took, verdict, due, next_event, ctrl_exit}
 use Rattle.con_machine.specs.History.{run}
-use Rattle.con_machine.specs.HistoryLaws.{after-append, turns-own}
 use Rattle.con_machine.specs.Rounds.{Begun, IsTurn, ClientTurnBy, client_turn, client_at}
 use Rattle.con_machine.specs.State.{State}
 use Rattle.con_machine.specs.Step.{step, is_ready, is_due}
-use Rattle.con_machine.specs.Turns.{turns, turn_of, is_client, is_pending}
+use Rattle.con_machine.specs.Turns.{turns, is_pending}
 use Rattle.con_session.specs.Desk.{Enters, brief_of, entry}
 use Rattle.con_session.specs.Standing.{is_here}
+use Rattle.con_session.specs.StandingLaws.{own_is}
 use Rattle.con_session.specs.Worker.{IsStance, HandsAreBy, IsRack, HandsStandBy, places_in, IsWorker, ClientIs, Acts, HandsTurnBy}
 use Rattle.con_session.specs.RackLaws.{hands_keep, rack_delivered}
 use Rattle.con_session.specs.declared.desk.Brief.{Brief}
@@ -79,10 +78,6 @@ leaves_turn s p c MayLeave gone i n = inl refl
 leaves_turn s p c MustLeave gone i n = refl
 leaves_turn s p c Gone gone i n = absurd (cc)
 
-pub none_turn : (s : State) (p : ℕ) (c : Client) (a : Bool) → a ≡ false → Rattle.con_machine.specs.Rounds.ClientTurn a s p c None
-none_turn s p c true e = absurd (cc)
-none_turn s p c false e = refl
-
 pub taken_by : (s : State) (p : ℕ) (c : Client) (b : Bool) → b ≡ true → Some events.TakeCtrl
     ≡ (if b then Some events.TakeCtrl else if is_open s.reads p then (if has_done s.reads p then Some events.Collect else None) else Some (next_event c.left))
 taken_by s p c true e = refl
@@ -99,22 +94,6 @@ waited_by c b o d e f g = rw (e, f, g) refl
 pub stepped_by : (c : Client) (b o d : Bool) (ev : Event) → b ≡ false → o ≡ false → ev ≡ next_event c.left
     → Some ev ≡ (if b then Some events.TakeCtrl else if o then (if d then Some events.Collect else None) else Some (next_event c.left))
 stepped_by c b o d ev e f g = rw (e, f, g) refl
-
--- the client's own record is moved by its own entry
-pub client_own : (b : Begun) (h : List Entry) (x : Entry) (p : ℕ) → is_client p x.actor ≡ true
-    → client_at b (h ++ x ∷ []) p ≡ moved_on (client_at b h p) (turn_of (run b.state h) p x)
-client_own b h x p n = ap (client_after (steps_of b.session p) (kinds_of b.racks p)) (turns-own b.state p h x n)
-    ∙ after-append moved_on (starting (steps_of b.session p) (kinds_of b.racks p)) (turns b.state p h) (turn_of (run b.state h) p x ∷ [])
-
--- the client after an entry of its own, as a desk gives it
-pub own_is : (b : Begun) (p : ℕ) (s t : State) (h g : List Entry) (rs qs : List Reply) (e : Event) → s ≡ run b.state h
-    → Enters s t h g rs qs (actors.Client p) e
-    → client_at b g p ≡ record (entered (client_at b h p) e (step s (actors.Client p) e).reply) { pending = is_pending ((step s (actors.Client p) e).after) p }
-own_is b p s t h g rs qs e i n =
-    let n' = eq-eqb p p refl in
-    let P : State → Type 0 = λ z. client_at b g p
-    ≡ record (entered (client_at b h p) e (step z (actors.Client p) e).reply) { pending = is_pending ((step z (actors.Client p) e).after) p } in
-    subst P (sym i) (ap (λ k. client_at b k p) n.entries ∙ client_own b h (entry (actors.Client p) e) p n')
 
 -- a client that must leave, or may
 pub may_leave : (c : Client) (s : Stance) (gone : Bool) → IsStance s true gone → gone ≡ false → MayBy s c (events.Exit ctrl_exit)
@@ -162,18 +141,6 @@ here_by Gone leaving gone i n = absurd (cc)
 pub is_there : (b : Begun) (p : ℕ) (s : State) (h : List Entry) (steps : List Step) (w : Worker)
     → ClientIs b p s h steps w → w.gone ≡ false → is_attached s.procs p ≡ true
 is_there b p s h steps w k n = ap (λ z. is_attached z.procs p) k.state ∙ (k.stands.here ∙ here_by (client_at b h p).stance w.leaving w.gone k.worker.stance n)
-
--- one that is gone is not
-pub gone_by : (s : Stance) (leaving gone : Bool) → IsStance s leaving gone → gone ≡ true → is_here s ≡ false
-gone_by GoesOn leaving gone i n = absurd (cc)
-gone_by MayLeave leaving gone i n = absurd (cc)
-gone_by MustLeave leaving gone i n = absurd (cc)
-gone_by Gone leaving gone i n = refl
-
-pub gone_idles : (b : Begun) (p : ℕ) (s : State) (h : List Entry) (steps : List Step) (w : Worker)
-    → ClientIs b p s h steps w → w.gone ≡ true → IsTurn b h (actors.Client p) None
-gone_idles b p s h steps w k n = none_turn (run b.state h) p (client_at b h p) (is_attached (run b.state h).procs p)
-    (k.stands.here ∙ gone_by (client_at b h p).stance w.leaving w.gone k.worker.stance n)
 
 -- the turn of a client that goes on is the first thing that there is to do
 pub going_turn : (b : Begun) (p : ℕ) (s : State) (h : List Entry) (steps : List Step) (w : Worker) (t : Option Event)
