@@ -1,6 +1,6 @@
 -- What a second terminal shows behind one more entry.
 use Rattle.std.proofs.Common.{◌≡◌, ℕ, ◌+◌, Bool, true, false, List, [], ◌∷◌, ◌++◌, length, Some, refl, sym, ap, ◌∙◌, append_assoc, arith, length-append}
-use Rattle.std.specs.Prelude.{if◌then◌else◌}
+use Rattle.std.specs.Prelude.{drop, slice_get, if◌then◌else◌}
 use Rattle.con_units.specs.declared.view.Sight.{Sight}
 use Rattle.con_link.specs.declared.mirror.MirrorFrame.{MirrorFrame}
 use Rattle.con_events.specs.declared.entry.Entry.{Entry}
@@ -10,7 +10,7 @@ use Rattle.con_machine.specs.Along.{after}
 use Rattle.con_machine.specs.State.{State}
 use Rattle.con_machine.specs.History.{run}
 use Rattle.con_machine.specs.Turns.{moved, is_paint, paints}
-use Rattle.con_session.specs.Seconds.{Watch, watched, watched_at, seconds_at, seconds_of, begun_at, begins_by, painted_at, behind_first, first_of, attached_by, flag_at, flags_of, picked, Stays}
+use Rattle.con_session.specs.Seconds.{Watch, watched, watched_at, seconds_at, seconds_of, begun_at, begins_by, painted_at, attached_by, flag_at, flags_of, picked, Stays}
 use Rattle.con_link.specs.Mirrored.{as_plain}
 use Rattle.con_link.specs.declared.mirror.MirrorFrame.TheVariants.{Plain, Attach, Detach}
 use Rattle.con_units.specs.declared.view.Frame.TheVariants as frames
@@ -145,29 +145,29 @@ pub frame_begins : (w : Watch) (f : MirrorFrame) (more : List MirrorFrame) → w
 frame_begins w (Plain (frames.Bytes bytes)) more e = refl
 frame_begins w (Plain frames.Quiet) more e = refl
 frame_begins w (Plain (frames.Resize z)) more e = refl
-frame_begins w (Plain frames.Ask) more e = ap (λ (c : List MirrorFrame). begins_by (first_of c)) e
+frame_begins w (Plain frames.Ask) more e = ap (λ (c : List MirrorFrame). begins_by (slice_get c 0)) e
 frame_begins w (Plain frames.Hangup) more e = refl
 frame_begins w (Plain frames.End) more e = refl
-frame_begins w (Attach z) more e = ap (λ (c : List MirrorFrame). begins_by (first_of c)) e
-frame_begins w Detach more e = ap (λ (c : List MirrorFrame). begins_by (first_of c)) e
+frame_begins w (Attach z) more e = ap (λ (c : List MirrorFrame). begins_by (slice_get c 0)) e
+frame_begins w Detach more e = ap (λ (c : List MirrorFrame). begins_by (slice_get c 0)) e
 
 pub frame_at : (w : Watch) (f : MirrorFrame) (more : List MirrorFrame) → w.coming ≡ f ∷ more
     → (watched_at w (sent_by (as_plain f))).at ≡ attached_by w.at (Some f)
 frame_at w (Plain (frames.Bytes bytes)) more e = refl
 frame_at w (Plain frames.Quiet) more e = refl
 frame_at w (Plain (frames.Resize z)) more e = refl
-frame_at w (Plain frames.Ask) more e = ap (λ (c : List MirrorFrame). attached_by w.at (first_of c)) e
+frame_at w (Plain frames.Ask) more e = ap (λ (c : List MirrorFrame). attached_by w.at (slice_get c 0)) e
 frame_at w (Plain frames.Hangup) more e = refl
 frame_at w (Plain frames.End) more e = refl
-frame_at w (Attach z) more e = ap (λ (c : List MirrorFrame). attached_by w.at (first_of c)) e
-frame_at w Detach more e = ap (λ (c : List MirrorFrame). attached_by w.at (first_of c)) e
+frame_at w (Attach z) more e = ap (λ (c : List MirrorFrame). attached_by w.at (slice_get c 0)) e
+frame_at w Detach more e = ap (λ (c : List MirrorFrame). attached_by w.at (slice_get c 0)) e
 
 pub frame_coming : (w : Watch) (f : MirrorFrame) (more : List MirrorFrame) → w.coming ≡ f ∷ more → (watched_at w (sent_by (as_plain f))).coming ≡ more
-frame_coming w (Plain (frames.Bytes bytes)) more e = ap behind_first e
-frame_coming w (Plain frames.Quiet) more e = ap behind_first e
-frame_coming w (Plain (frames.Resize z)) more e = ap behind_first e
-frame_coming w (Plain frames.Ask) more e = ap behind_first e
-frame_coming w (Plain frames.Hangup) more e = ap behind_first e
-frame_coming w (Plain frames.End) more e = ap behind_first e
-frame_coming w (Attach z) more e = ap behind_first e
-frame_coming w Detach more e = ap behind_first e
+frame_coming w (Plain (frames.Bytes bytes)) more e = ap (λ (c : List MirrorFrame). drop 1 c) e
+frame_coming w (Plain frames.Quiet) more e = ap (λ (c : List MirrorFrame). drop 1 c) e
+frame_coming w (Plain (frames.Resize z)) more e = ap (λ (c : List MirrorFrame). drop 1 c) e
+frame_coming w (Plain frames.Ask) more e = ap (λ (c : List MirrorFrame). drop 1 c) e
+frame_coming w (Plain frames.Hangup) more e = ap (λ (c : List MirrorFrame). drop 1 c) e
+frame_coming w (Plain frames.End) more e = ap (λ (c : List MirrorFrame). drop 1 c) e
+frame_coming w (Attach z) more e = ap (λ (c : List MirrorFrame). drop 1 c) e
+frame_coming w Detach more e = ap (λ (c : List MirrorFrame). drop 1 c) e

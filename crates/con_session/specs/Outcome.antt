@@ -1,7 +1,6 @@
 -- What a session leaves behind: what is promised of its history and answers, of the bytes of its terminal, and of its link; and of one by turns, its rounds.
 use Rattle.std.specs.Prelude.{◌≡◌, ◌⊎◌, ℕ, ◌+◌, ◌≤◌, true, false, List, [], ◌∷◌, ◌++◌, map, flat_map, length, take, Option, Err}
 use Rattle.std.specs.List.{list_all}
-use Rattle.con_units.specs.declared.view.Frame.{Frame}
 use Rattle.con_outside.specs.Outside.{then_left, then_written, WroteFront}
 use Rattle.con_link.specs.Reading.{Reading, plainly}
 use Rattle.con_link.specs.declared.fault.LinkFault.TheVariants as faults
@@ -40,10 +39,6 @@ HasSentBy R (ends.Bad place kind) frames text left sent' =
     IsCutBy R frames sent' × R.answers (Err (faults.Bad place kind)) (length (flat_map R.spelling frames)) text left
 HasSentBy R ends.Term frames text left sent' = Unit {0}
 HasSentBy R ends.Memory frames text left sent' = Unit {0}
-
--- of a link with no second terminal
-abbrev pub HasSent : End → List Frame → List ℕ → Option (List ℕ) → List Event → Type 0
-HasSent end frames text left sent' = HasSentBy plainly end frames text left sent'
 
 -- ---- the terminal
 
