@@ -10,7 +10,8 @@ use Rattle.con_machine.specs.History.{run}
 use Rattle.con_machine.specs.Rounds.{Begun, client_at}
 use Rattle.con_machine.specs.State.{State}
 use Rattle.con_machine.specs.Step.{is_ready}
-use Rattle.con_session.specs.DeskDoor.{IsNothing, Since, enters_since, rests_since}
+use Rattle.con_session.specs.DeskDoor.{IsNothing, Since}
+use Rattle.con_session.proofs.DeskSince.{enters_since, rests_since}
 use Rattle.con_session.specs.DoorTurns.{ClientAt, HasActed, HasTurnedBy}
 use Rattle.con_session.specs.Worker.{Acts, ClientIs, HandsStandBy, HandsTurnBy, IsWorker}
 use Rattle.con_session.specs.declared.worker.Worker.{Worker}

@@ -25,10 +25,11 @@ use Rattle.con_machine.specs.Step.{step, is_ready}
 use Rattle.con_machine.specs.Turns.{Turn, turns, turn_of, is_pending}
 use Rattle.con_session.specs.Desk.{entry, is_refused, listed}
 use Rattle.con_session.specs.Door.{Saw, Entered, are_others}
-use Rattle.con_session.specs.DoorEntries.{client_by, client_is, client_saw, hands_saw, stands_saw, turns_saw, client_own, turns_before, turns_behind, is_before, enters, hands_before, hands_behind, stands_behind, ready_here, acted}
+use Rattle.con_session.specs.DoorEntries.{client_by, client_is, client_saw, hands_saw, stands_saw, turns_saw}
+use Rattle.con_session.proofs.DoorEntered.{client_own, turns_before, turns_behind, is_before, enters, hands_before, hands_behind, stands_behind, ready_here, acted}
 use Rattle.con_session.specs.DoorTurns.{ClientAt, IsQuiet, IsNext, MayExit, HasActed, HasTurnedBy, HasTakenBy}
 use Rattle.con_session.proofs.HandlerTurns.{stepped, refused_entry, granted_entry, fails_by, adds_here, places_without}
-use Rattle.con_session.specs.RackLaws.{rack_added, rack_removed, without}
+use Rattle.con_session.proofs.RackLaws.{rack_added, rack_removed, without}
 use Rattle.con_session.specs.Standing.{ClientStands}
 use Rattle.con_session.proofs.StepLaws.{due_next, drop_end, drop_one, plain_by, refused_is}
 use Rattle.con_session.specs.Worker.{IsStance, HandsAreBy, HandsStandBy, HandsTurnBy, IsRack, is_handlers, places_in, stand_once}

@@ -8,7 +8,8 @@ use Rattle.con_machine.specs.History.{run}
 use Rattle.con_machine.specs.State.{State}
 use Rattle.con_machine.specs.Step.{step, is_ready}
 use Rattle.con_session.specs.Desk.{Enters, brief_of}
-use Rattle.con_session.specs.DeskDoor.{IsNothing, Since, desk_entered}
+use Rattle.con_session.specs.DeskDoor.{IsNothing, Since}
+use Rattle.con_session.proofs.DeskSince.{desk_entered}
 use Rattle.con_session.specs.Door.{Entered}
 use Rattle.con_session.specs.declared.desk.Brief.{Brief}
 use Rattle.con_session.specs.declared.desk.Desk.{Desk}

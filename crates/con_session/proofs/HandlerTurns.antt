@@ -11,7 +11,7 @@ use Rattle.con_machine.specs.Chain.{Handler, without_handler}
 use Rattle.con_machine.specs.Client.{Client, GoesOn, entered, is_fail, chained}
 use Rattle.con_session.specs.Desk.{brief_of, is_refused}
 use Rattle.con_session.specs.Worker.{IsStance, IsWorker, places_in}
-use Rattle.con_session.specs.RackLaws.{without}
+use Rattle.con_session.proofs.RackLaws.{without}
 use Rattle.con_session.proofs.StepLaws.{drop_one, refused_is}
 use Rattle.con_session.specs.declared.desk.Brief.{Brief}
 use Rattle.con_session.specs.declared.worker.Worker.{Worker}

@@ -23,8 +23,9 @@ use Rattle.con_session.specs.Standing.{ClientStands, is_here}
 use Rattle.con_session.specs.Worker.{IsWorker, HandsStandBy, ClientIs, Acts, HandsTurnBy}
 use Rattle.con_session.specs.declared.worker.Worker.{Worker}
 use Rattle.con_session.specs.DeskLaws.{entered_run, stands_one, stands_still}
-use Rattle.con_session.specs.RackLaws.{hands_other}
-use Rattle.con_session.specs.StandingLaws.{client_other, stands_other, stands_own}
+use Rattle.con_session.proofs.RackLaws.{hands_other}
+use Rattle.con_session.specs.DoorEntries.{client_other, stands_other}
+use Rattle.con_session.proofs.StandingLaws.{stands_own}
 
 -- ---- one seat
 

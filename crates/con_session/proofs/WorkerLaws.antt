@@ -20,9 +20,9 @@ use Rattle.con_machine.specs.Step.{step, is_ready, is_due}
 use Rattle.con_machine.specs.Turns.{turns, is_pending}
 use Rattle.con_session.specs.Desk.{Enters, brief_of, entry}
 use Rattle.con_session.specs.Standing.{is_here}
-use Rattle.con_session.specs.StandingLaws.{own_is}
+use Rattle.con_session.proofs.StandingLaws.{own_is}
 use Rattle.con_session.specs.Worker.{IsStance, HandsAreBy, IsRack, HandsStandBy, places_in, IsWorker, ClientIs, Acts, HandsTurnBy}
-use Rattle.con_session.specs.RackLaws.{hands_keep, rack_delivered}
+use Rattle.con_session.proofs.RackLaws.{hands_keep, rack_delivered}
 use Rattle.con_session.specs.declared.desk.Brief.{Brief}
 use Rattle.con_session.specs.declared.desk.Brief.TheVariants as briefs
 use Rattle.con_session.specs.declared.worker.Worker.{Worker}

@@ -27,8 +27,6 @@ pub mod DeskLaws
 pub mod RanLaws
 pub mod DeskDoor
 -- a client's turns, its rack and its chain,
-pub mod RackLaws
-pub mod StandingLaws
 pub mod DoorEntries
 -- the terminal's side and its link,
 pub mod SenderLaws

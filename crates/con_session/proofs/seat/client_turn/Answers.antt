@@ -1,4 +1,4 @@
-use Rattle.con_session.specs.DeskDoor.{since_here}
+use Rattle.con_session.proofs.DeskSince.{since_here}
 use Rattle.con_session.proofs.DoorExact.{client_of, exact}
 use Rattle.con_session.proofs.seat.client_turn.Goals as goal
 

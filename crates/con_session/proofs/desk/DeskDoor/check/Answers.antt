@@ -1,4 +1,4 @@
-use Rattle.con_session.specs.DeskDoor.{desk_ready}
+use Rattle.con_session.proofs.DeskSince.{desk_ready}
 use Rattle.con_session.proofs.desk.DeskDoor.check.Goals as goal
 
 pub returns-clause-ready : goal.returns-clause-ready

@@ -1,4 +1,4 @@
-use Rattle.con_session.specs.DeskDoor.{since_put}
+use Rattle.con_session.proofs.DeskSince.{since_put}
 use Rattle.con_session.proofs.Doors.{put_entered}
 use Rattle.con_session.proofs.desk.DeskDoor.enter.Goals as goal
 

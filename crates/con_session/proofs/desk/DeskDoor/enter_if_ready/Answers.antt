@@ -1,5 +1,5 @@
 use Rattle.std.proofs.Common.{refl, sym}
-use Rattle.con_session.specs.DeskDoor.{desk_entered, desk_ready, saw_same, since_enters}
+use Rattle.con_session.proofs.DeskSince.{desk_entered, desk_ready, saw_same, since_enters}
 use Rattle.con_session.proofs.desk.DeskDoor.enter_if_ready.Goals as goal
 
 pub returns-then-not-ready-clause-blocked : goal.returns-then-not-ready-clause-blocked

@@ -14,12 +14,12 @@ use Rattle.con_events.specs.declared.reply.Reply.{Reply}
 use Rattle.con_events.specs.declared.reply.Reply.TheVariants as replies
 use Rattle.con_machine.specs.Along.{Along}
 use Rattle.con_machine.specs.Chain.{is_handled}
-use Rattle.con_machine.specs.Client.{Client, Stance, GoesOn, MayLeave, MustLeave, Gone, FollowsScript, client_after, starting, May, MayBy, MayGoOn, moved_on, entered, took, chained, next_event, is_fail}
+use Rattle.con_machine.specs.Client.{Client, Stance, GoesOn, MayLeave, MustLeave, Gone, client_after, starting, May, MayBy, MayGoOn, moved_on, entered, took, chained, next_event, is_fail}
 use Rattle.con_machine.specs.Follows.{steps_of, kinds_of}
 use Rattle.con_machine.specs.History.{run}
-use Rattle.con_machine.specs.HistoryLaws.{after-append, along-one, turns-other, turns-own}
+use Rattle.con_machine.specs.HistoryLaws.{after-append, along-one, turns-own}
 use Rattle.con_machine.specs.Presence.{IsSingle, attached_by, reads_by}
-use Rattle.con_machine.specs.PresenceLaws.{others_stay, own_does, single_step}
+use Rattle.con_machine.specs.PresenceLaws.{own_does, single_step}
 use Rattle.con_machine.specs.Rounds.{Begun, client_at}
 use Rattle.con_machine.specs.State.{State}
 use Rattle.con_machine.specs.Step.{step}
@@ -45,28 +45,6 @@ own_is b p s t h g rs qs e i n =
     let P : State → Type 0 = λ z. client_at b g p
     ≡ record (entered (client_at b h p) e (step z (actors.Client p) e).reply) { pending = is_pending ((step z (actors.Client p) e).after) p } in
     subst P (sym i) (ap (λ k. client_at b k p) n.entries ∙ client_own b h (entry (actors.Client p) e) p n')
-
--- ---- another's entry
-
--- the client's own record is not moved by others
-pub client_other : (b : Begun) (h : List Entry) (x : Entry) (p : ℕ) → is_client p x.actor ≡ false → client_at b (h ++ x ∷ []) p ≡ client_at b h p
-client_other b h x p n = ap (client_after (steps_of b.session p) (kinds_of b.racks p)) (turns-other b.state p h x n)
-
-pub stands_other : (b : Begun) (h : List Entry) (x : Entry) (p : ℕ) → is_client p x.actor ≡ false → ClientStands b h p → ClientStands b (h ++ x ∷ []) p
-stands_other b h x p n c =
-    let s = run b.state h in
-    let k = others_stay s x.actor x.event p n in
-    let r = run_one b.state h x in
-    let e = client_other b h x p n in
-    record {
-      follows = let P : List Turn → Type 0 = λ ts. FollowsScript (steps_of b.session p) (kinds_of b.racks p) ts in
-          subst P (sym (turns-other b.state p h x n)) c.follows;
-      here = ap (λ (t : State). is_attached t.procs p) r ∙ (k.attached ∙ (c.here ∙ ap (λ (d : Client). is_here d.stance) (sym e)));
-      reading = λ a. ap (λ (t : State). is_open t.reads p) r
-          ∙ (k.reading ∙ (c.reading (sym k.attached ∙ (ap (λ (t : State). is_attached t.procs p) (sym r) ∙ a)) ∙ ap (λ (d : Client). d.reading) (sym e)));
-      single = let P : State → Type 0 = λ t. IsSingle t p in subst P (sym r) (single_step s x.actor x.event p c.single);
-      pending = λ a. ap (λ (t : State). is_pending t p) r ∙ k.pending (c.pending (ap (λ (d : Client). d.pending) (sym e) ∙ a));
-    }
 
 -- ---- a client that is there and does not go stays
 
