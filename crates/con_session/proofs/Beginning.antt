@@ -1,5 +1,6 @@
 -- Clients that have entered nothing, and a session that begins.
-use Rattle.std.proofs.Common.{◌≡◌, ℕ, zero, suc, ◌+◌, ◌<◌, ◌≤◌, Bool, false, List, [], ◌∷◌, ◌++◌, length, map, take, drop, Option, Some, None, get_or, refl, sym, ap, ◌∙◌, subst, inl, arith, length-append}
+use Rattle.std.proofs.Common.{◌≡◌, ℕ, zero, suc, ◌+◌, ◌<◌, ◌≤◌, Bool, false, List, [], ◌∷◌, ◌++◌, length, map, take}
+use Rattle.std.proofs.Common.{drop, Option, Some, None, get_or, refl, sym, ap, ◌∙◌, subst, inl, arith, length-append}
 use Rattle.std.specs.Prelude.{◌-◌, slice_get}
 use Rattle.con_handlers.specs.Memory.{Memory}
 use Rattle.con_link.specs.Reading.{Reading}

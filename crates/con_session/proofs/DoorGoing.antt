@@ -1,5 +1,6 @@
 -- A client's turn at a door, by what the door told.
-use Rattle.std.proofs.Common.{◌≡◌, ◌≤◌, ◌<◌, ℕ, suc, ◌+◌, Bool, true, false, List, [], ◌∷◌, ◌++◌, length, get_or, drop, Option, Some, None, refl, sym, ap, ◌∙◌, subst, inl, inr, Result, Ok, Err, eq-eqb, append_assoc, append-nil}
+use Rattle.std.proofs.Common.{◌≡◌, ◌≤◌, ◌<◌, ℕ, suc, ◌+◌, Bool, true, false, List, [], ◌∷◌, ◌++◌, length, get_or, drop, Option}
+use Rattle.std.proofs.Common.{Some, None, refl, sym, ap, ◌∙◌, subst, inl, inr, Result, Ok, Err, eq-eqb, append_assoc, append-nil}
 use Rattle.std.specs.Prelude.{◌==◌, ◌||◌, not, if◌then◌else◌}
 use Rattle.std.specs.Result.{IsErr}
 use Rattle.std.proofs.Math.Seq.{drop-cons}
@@ -26,14 +27,16 @@ use Rattle.con_machine.specs.Turns.{Turn, turns, turn_of, is_pending}
 use Rattle.con_session.specs.Desk.{entry, is_refused, listed}
 use Rattle.con_session.specs.Door.{Saw, Entered, are_others}
 use Rattle.con_session.specs.DoorEntries.{client_by, client_is, client_saw, hands_saw, stands_saw, turns_saw}
-use Rattle.con_session.proofs.DoorEntered.{client_own, turns_before, turns_behind, is_before, enters, hands_before, hands_behind, stands_behind, ready_here, acted}
+use Rattle.con_session.proofs.DoorEntered.{client_own, turns_before, turns_behind, is_before, enters}
+use Rattle.con_session.proofs.DoorEntered.{hands_before, hands_behind, stands_behind, ready_here, acted}
 use Rattle.con_session.specs.DoorTurns.{ClientAt, IsQuiet, IsNext, MayExit, HasActed, HasTurnedBy, HasTakenBy}
 use Rattle.con_session.proofs.HandlerTurns.{stepped, refused_entry, granted_entry, fails_by, adds_here, places_without}
 use Rattle.con_session.proofs.RackLaws.{rack_added, rack_removed, without}
 use Rattle.con_session.specs.Standing.{ClientStands}
 use Rattle.con_session.proofs.StepLaws.{due_next, drop_end, drop_one, plain_by, refused_is}
 use Rattle.con_session.specs.Worker.{IsStance, HandsAreBy, HandsStandBy, HandsTurnBy, IsRack, is_handlers, places_in, stand_once}
-use Rattle.con_session.proofs.WorkerLaws.{IsEvent, collect_ready, collected_by, due_may, going_may, going_turn, is_there, leaving_may, leaving_turn, none_pending, open_is, step_turn, take_ready, taken_by, taking_may, took_none_turn, took_turn_is, waiting_idles}
+use Rattle.con_session.proofs.WorkerLaws.{IsEvent, collect_ready, collected_by, due_may, going_may, going_turn, is_there, leaving_may, leaving_turn}
+use Rattle.con_session.proofs.WorkerLaws.{none_pending, open_is, step_turn, take_ready, taken_by, taking_may, took_none_turn, took_turn_is, waiting_idles}
 use Rattle.con_session.specs.declared.desk.Brief.{Brief}
 use Rattle.con_session.specs.declared.desk.Brief.TheVariants as briefs
 use Rattle.con_session.specs.declared.worker.Worker.{Worker}

@@ -1,5 +1,6 @@
 -- A round of a session, whole or broken off.
-use Rattle.std.proofs.Common.{◌≡◌, ◌⊎◌, ℕ, ◌+◌, ◌<◌, ◌≤◌, Bool, true, false, List, [], ◌∷◌, ◌++◌, length, Option, Some, None, Result, Ok, Err, refl, sym, ap, ◌∙◌, subst, inl, inr, arith}
+use Rattle.std.proofs.Common.{◌≡◌, ◌⊎◌, ℕ, ◌+◌, ◌<◌, ◌≤◌, Bool, true, false, List, [], ◌∷◌, ◌++◌, length}
+use Rattle.std.proofs.Common.{Option, Some, None, Result, Ok, Err, refl, sym, ap, ◌∙◌, subst, inl, inr, arith}
 use Rattle.std.specs.Prelude.{not, ◌||◌}
 use Rattle.std.specs.Result.{IsErr}
 use Rattle.con_handlers.specs.Memory.{Memory}
@@ -34,7 +35,8 @@ use Rattle.con_session.specs.LinkedLaws.{linked_other, linked_paint, linked_stay
 use Rattle.con_session.specs.PaintCounts.{paints_next}
 use Rattle.con_session.proofs.Rounding.{not_yet, fails_before, whole_round, broken_round, broken_all, nobody_all, nobody_none, one_round, round_longer}
 use Rattle.con_session.proofs.SeatLaws.{all_other, all_still}
-use Rattle.con_session.proofs.Turning.{sent_holds, sent_turn, sent_paints, entered_holds, entered_paints, painted_holds, painted_serves, painted_turn, painted_count, clients_keep, numbered_on, canvas_on, some_on}
+use Rattle.con_session.proofs.Turning.{sent_holds, sent_turn, sent_paints, entered_holds, entered_paints, painted_holds}
+use Rattle.con_session.proofs.Turning.{painted_serves, painted_turn, painted_count, clients_keep, numbered_on, canvas_on, some_on}
 
 append_none : {A : Type 0} (xs : List A) → xs ++ [] ≡ xs
 append_none [] = refl

@@ -1,5 +1,6 @@
 -- The second terminal behind one more entry.
-use Rattle.std.proofs.Common.{◌≡◌, ℕ, zero, suc, Result, Ok, Err, ◌+◌, ◌*◌, ◌≤◌, Bool, true, false, List, [], ◌∷◌, ◌++◌, length, take, Option, Some, None, refl, sym, ap, ◌∙◌, subst, append_assoc, arith, length-append, inl, inr}
+use Rattle.std.proofs.Common.{◌≡◌, ℕ, zero, suc, Result, Ok, Err, ◌+◌, ◌*◌, ◌≤◌, Bool, true, false, List, [], ◌∷◌, ◌++◌, length}
+use Rattle.std.proofs.Common.{take, Option, Some, None, refl, sym, ap, ◌∙◌, subst, append_assoc, arith, length-append, inl, inr}
 use Rattle.std.specs.Prelude.{◌<◌, is_some, if◌then◌else◌}
 use Rattle.std.specs.Result.{IsErr}
 use Rattle.std.proofs.lemmas.List.{take-append-le}
@@ -37,8 +38,10 @@ use Rattle.con_session.specs.Painting.{Written}
 use Rattle.con_session.specs.RanLaws.{append_none}
 use Rattle.con_session.specs.RunLaws.{matched_paint, piece_paint, piece_none, reach_paint, matched_resize, piece_resize, reach_resize}
 use Rattle.con_session.specs.Runs.{Painted, EachPiece, EachRun, ShowsView, PrintsFew, joined, ends_from}
-use Rattle.con_session.specs.Seconds.{Watch, watch, watched, watched_at, seconds_at, seconds_of, painted_at, begun_at, flags_of, attached_by, mirrored_to, begins_by, picked, Stays}
-use Rattle.con_session.proofs.SecondsLaws.{seconds-one, flags-one, watched-one, picked-more, picked-same, picked-past, rests-more, rests-past, last-more, flags-count, no_flag, no_sight, frame_begins, frame_at, frame_coming}
+use Rattle.con_session.specs.Seconds.{Watch, watch, watched, watched_at, seconds_at, seconds_of, painted_at}
+use Rattle.con_session.specs.Seconds.{begun_at, flags_of, attached_by, mirrored_to, begins_by, picked, Stays}
+use Rattle.con_session.proofs.SecondsLaws.{seconds-one, flags-one, watched-one, picked-more, picked-same, picked-past, rests-more}
+use Rattle.con_session.proofs.SecondsLaws.{rests-past, last-more, flags-count, no_flag, no_sight, frame_begins, frame_at, frame_coming}
 use Rattle.con_session.specs.Second.{Shown, PiecesStand, SecondIs, Mirrors, FrameOf, SecondTurn, Wrote, kept_by}
 
 -- ---- sights and pieces

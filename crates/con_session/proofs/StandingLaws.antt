@@ -14,7 +14,8 @@ use Rattle.con_events.specs.declared.reply.Reply.{Reply}
 use Rattle.con_events.specs.declared.reply.Reply.TheVariants as replies
 use Rattle.con_machine.specs.Along.{Along}
 use Rattle.con_machine.specs.Chain.{is_handled}
-use Rattle.con_machine.specs.Client.{Client, Stance, GoesOn, MayLeave, MustLeave, Gone, client_after, starting, May, MayBy, MayGoOn, moved_on, entered, took, chained, next_event, is_fail}
+use Rattle.con_machine.specs.Client.{Client, Stance, GoesOn, MayLeave, MustLeave, Gone, client_after, starting}
+use Rattle.con_machine.specs.Client.{May, MayBy, MayGoOn, moved_on, entered, took, chained, next_event, is_fail}
 use Rattle.con_machine.specs.Follows.{steps_of, kinds_of}
 use Rattle.con_machine.specs.History.{run}
 use Rattle.con_machine.specs.HistoryLaws.{after-append, along-one, turns-own}

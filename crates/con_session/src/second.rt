@@ -16,7 +16,8 @@ ghost use Rattle.con_machine.specs.Rounds.{Begun};
 ghost use Rattle.con_machine.specs.State.{State};
 ghost use Rattle.con_machine.specs.Turns.{has_ended, paints, sent};
 ghost use Rattle.con_session.specs.Desk.{Ran, entry};
-ghost use Rattle.con_session.specs.Second.{FollowTurn, FrameOf, GivenBehind, IsGiven, MirrorLinkIs, Mirrors, SecondIs, SecondTurn, Seconded, StaysGiven, kept_behind, kept_by};
+ghost use Rattle.con_session.specs.Second.{FollowTurn, FrameOf, GivenBehind, IsGiven, MirrorLinkIs, Mirrors};
+ghost use Rattle.con_session.specs.Second.{SecondIs, SecondTurn, Seconded, StaysGiven, kept_behind, kept_by};
 ghost use Rattle.con_session.specs.Sender.{FailsBy, LinkTurnBy, SenderTurn, plain_of};
 
 use crate::desk::{Desk, Picture};
