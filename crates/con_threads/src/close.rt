@@ -123,6 +123,7 @@ pub fn finished<R: Wait, O: Sink>(
         ⊎ Rose (O.faults term.old) (O.faults term.new) ⊎ ((edges.side.side.end ≡ End.Term) × (edges.side.broken ≡ false)) }
     ensures never_falls { O.faults term.old ≤ O.faults term.new }
 {
+    // `back` and `outcome` speak of the number; no line of the body needs it.
     let _clients = clients;
     let Edges {
         side,

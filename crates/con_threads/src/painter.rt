@@ -111,7 +111,7 @@ impl PainterThread {
         if signals.halt.load(SeqCst) {
             return true;
         }
-        if signals.fault.load(SeqCst) {
+        if signals.failed.load(SeqCst) {
             return true;
         }
         signals.others.load(SeqCst) == 0

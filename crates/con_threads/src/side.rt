@@ -161,7 +161,7 @@ impl SideThread {
             if signals.halt.load(SeqCst) {
                 return;
             }
-            let has_failed = signals.fault.load(SeqCst);
+            let has_failed = signals.failed.load(SeqCst);
             match self.turn(rt, book, has_failed, link) {
                 Ok(Moved::Entered) => signals.bell.ring(),
                 Ok(Moved::Waits) => signals.bell.wait(rt, mark),

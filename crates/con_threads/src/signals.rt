@@ -12,7 +12,7 @@ pub struct Signals {
     /// Set where there is no memory: all return.
     pub halt: AtomicBool,
     /// Set where the terminal has failed.
-    pub fault: AtomicBool,
+    pub failed: AtomicBool,
     /// How many clients are at work, and the terminal's side.
     pub others: AtomicU64,
     /// How many threads are still to be made. None begins before all are.
@@ -27,7 +27,7 @@ impl Signals {
         Signals {
             bell: Bell::new(),
             halt: AtomicBool::new(false),
-            fault: AtomicBool::new(false),
+            failed: AtomicBool::new(false),
             others: AtomicU64::new(clients.wrapping_add(1)),
             missing: AtomicU64::new(clients.max(1).wrapping_add(2)),
         }

@@ -20,7 +20,7 @@ pub struct WriterThread {
 
 // The terminal has failed.
 fn tell(signals: &Signals) {
-    signals.fault.store(true, SeqCst);
+    signals.failed.store(true, SeqCst);
     signals.bell.ring();
 }
 
