@@ -27,29 +27,42 @@ use Rattle.con_threads.specs.declared.writer.WriterThread.{WriterThread}
 use Rattle.con_threads.proofs.Crewing.{down_below}
 use Rattle.con_threads.proofs.Painting.{drawn_less}
 
-side_begins : (session : Clients) (racks : List (List ℕ)) (before : Option (List ℕ)) (broken : Bool) → SideGoes (begins session racks None) [] side_first false broken before before 0
+side_begins : (session : Clients) (racks : List (List ℕ)) (before : Option (List ℕ)) (broken : Bool)
+    → SideGoes (begins session racks None) [] side_first false broken before before 0
 side_begins session racks before broken = record {
   link = λ e. open_link before false;
   link_ends = link_stays [] side_first false before before 0 (open_link before false);
   asks = record { answered = λ l i. tt; asked' = sym (opens session racks).asked };
 }
 
-painter_begins : (session : Clients) (racks : List (List ℕ)) (kept : Kept) (broken : Bool) → PainterGoes (begins session racks None) [] session.size kept [] [] 0 broken
+painter_begins : (session : Clients) (racks : List (List ℕ)) (kept : Kept) (broken : Bool)
+    → PainterGoes (begins session racks None) [] session.size kept [] [] 0 broken
 painter_begins session racks kept broken =
     let k = open_canvas session racks None kept (Some []) false in
     record { draws = λ e. k; less = drawn_less (begins session racks None) [] session.size kept [] [] 0 k }
 
-writer_begins : (session : Clients) (racks : List (List ℕ)) (kept : Kept) (old : Option (List ℕ)) (failed broken : Bool) → failed ≡ false → broken ≡ false → Writes old old [] failed broken
-writer_begins session racks kept old failed broken f e = let P : Bool → Type 0 = λ z. Written old old [] z in subst P ((λ i. (sym f i || sym e i))) (open_canvas session racks None kept old false).written
+writer_begins : (session : Clients) (racks : List (List ℕ)) (kept : Kept) (old : Option (List ℕ)) (failed broken : Bool) → failed ≡ false → broken ≡ false
+    → Writes old old [] failed broken
+writer_begins session racks kept old failed broken f e =
+    let P : Bool → Type 0 = λ z. Written old old [] z in subst P ((λ i. (sym f i || sym e i))) (open_canvas session racks None kept old false).written
 
-pub edges_begin : (session : Clients) (racks : List (List ℕ)) (before old : Option (List ℕ)) (side : SideThread) (painter : PainterThread) (put : PipeIn) (writer : WriterThread) → history side.scribe ≡ [] → side.side ≡ side_first → side.hung ≡ false → side.reader ≡ 0
-    → history painter.scribe ≡ [] → painter.ends.items ≡ [] → painter.end ≡ 0 → pieces_put put ≡ [] → pieces_taken writer.take ≡ [] → writer.failed ≡ false → writer.broken ≡ false → EdgesGo (begins session racks None) before before old old side painter put writer
+pub edges_begin : (session : Clients) (racks : List (List ℕ)) (before old : Option (List ℕ)) (side : SideThread) (painter : PainterThread) (put : PipeIn)
+    (writer : WriterThread)
+    → history side.scribe ≡ [] → side.side ≡ side_first → side.hung ≡ false → side.reader ≡ 0
+    → history painter.scribe ≡ [] → painter.ends.items ≡ [] → painter.end ≡ 0 → pieces_put put ≡ [] → pieces_taken writer.take ≡ [] → writer.failed ≡ false
+    → writer.broken ≡ false → EdgesGo (begins session racks None) before before old old side painter put writer
 edges_begin session racks before old side painter put writer hs es hu re hp en ed pp pt wf wb =
     let b = begins session racks None in
     record {
-      side' = subst (λ (z : List Entry × Side × Bool × ℕ). SideGoes b z.0 z.1 z.2 side.broken before before z.3) (λ i. (sym hs i, sym es i, sym hu i, sym re i)) (side_begins session racks before side.broken);
-      painter' = subst (λ (z : List Entry × List (List ℕ) × List ℕ × ℕ). PainterGoes b z.0 session.size painter.painter z.1 z.2 z.3 painter.broken) (λ i. (sym hp i, sym pp i, sym en i, sym ed i)) (painter_begins session racks painter.painter painter.broken);
-      writer' = let P : List (List ℕ) → Type 0 = λ z. Writes old old z writer.failed writer.broken in subst P (sym pt) (writer_begins session racks painter.painter old writer.failed writer.broken wf wb);
+      side' =
+          subst (λ (z : List Entry × Side × Bool × ℕ). SideGoes b z.0 z.1 z.2 side.broken before before z.3) (λ i. (sym hs i, sym es i, sym hu i, sym re i))
+          (side_begins session racks before side.broken);
+      painter' =
+          subst (λ (z : List Entry × List (List ℕ) × List ℕ × ℕ). PainterGoes b z.0 session.size painter.painter z.1 z.2 z.3 painter.broken)
+          (λ i. (sym hp i, sym pp i, sym en i, sym ed i)) (painter_begins session racks painter.painter painter.broken);
+      writer' =
+          let P : List (List ℕ) → Type 0 = λ z. Writes old old z writer.failed writer.broken in
+          subst P (sym pt) (writer_begins session racks painter.painter old writer.failed writer.broken wf wb);
     }
 
 -- nothing was painted yet

@@ -15,7 +15,9 @@ use Rattle.con_threads.specs.Scribe.{SeesMore}
 use Rattle.con_threads.specs.ScribeLaws.{no_client}
 
 -- what its thread sees more of leaves a client as it is
-pub goes_sees : (b : Begun) (p : ℕ) (start : State) (h g : List Entry) (steps : List Step) (broken : Bool) (w : Worker) (places : List ℕ) (ms : List Memory) (slots : List ℕ) → SeesMore start (actors.Client p) h g
+pub goes_sees : (b : Begun) (p : ℕ) (start : State) (h g : List Entry) (steps : List Step) (broken : Bool) (w : Worker) (places : List ℕ) (ms : List Memory)
+    (slots : List ℕ)
+    → SeesMore start (actors.Client p) h g
     → ClientGoes b p h steps broken w places ms slots → ClientGoes b p g steps broken w places ms slots
 goes_sees b p start h g steps broken w places ms slots s k =
     let none = no_client p s.between s.others in

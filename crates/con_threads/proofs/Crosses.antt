@@ -92,10 +92,14 @@ pub screens_send : IsSend screens.the_row
 screens_send = search (sendable, crosses, buffer_send) depth 40
 
 pub readers_send : IsSend readers.the_row
-readers_send = search (sendable, crosses, cooked_editedline.the_send, readers_wantsrecords.the_send, readers_wantsunits.the_send, records_taken.the_send, units_units.the_send) depth 40
+readers_send =
+    search
+    (sendable, crosses, cooked_editedline.the_send, readers_wantsrecords.the_send, readers_wantsunits.the_send, records_taken.the_send, units_units.the_send) depth 40
 
 pub console_send : IsSend console.the_row
-console_send = search (sendable, crosses, handles_handles.the_send, procs_procs.the_send, machine_notes.the_send, machine_rests.the_send, records_records.the_send, history_histories.the_send, alias_aliases.the_send, vtin_keyreader.the_send, machine_title.the_send, units_view.the_send, machine_seen.the_send, screens_send, readers_send) depth 40
+console_send =
+    search
+    (sendable, crosses, handles_handles.the_send, procs_procs.the_send, machine_notes.the_send, machine_rests.the_send, records_records.the_send, history_histories.the_send, alias_aliases.the_send, vtin_keyreader.the_send, machine_title.the_send, units_view.the_send, machine_seen.the_send, screens_send, readers_send) depth 40
 
 pub splitter_sync : IsSync splitter.the_row
 splitter_sync = search (sendable, crosses) depth 40
@@ -116,10 +120,14 @@ pub screens_sync : IsSync screens.the_row
 screens_sync = search (sendable, crosses, buffer_sync) depth 40
 
 pub readers_sync : IsSync readers.the_row
-readers_sync = search (sendable, crosses, cooked_editedline.the_sync, readers_wantsrecords.the_sync, readers_wantsunits.the_sync, records_taken.the_sync, units_units.the_sync) depth 40
+readers_sync =
+    search
+    (sendable, crosses, cooked_editedline.the_sync, readers_wantsrecords.the_sync, readers_wantsunits.the_sync, records_taken.the_sync, units_units.the_sync) depth 40
 
 pub console_sync : IsSync console.the_row
-console_sync = search (sendable, crosses, handles_handles.the_sync, procs_procs.the_sync, machine_notes.the_sync, machine_rests.the_sync, records_records.the_sync, history_histories.the_sync, alias_aliases.the_sync, vtin_keyreader.the_sync, machine_title.the_sync, units_view.the_sync, machine_seen.the_sync, screens_sync, readers_sync) depth 40
+console_sync =
+    search
+    (sendable, crosses, handles_handles.the_sync, procs_procs.the_sync, machine_notes.the_sync, machine_rests.the_sync, records_records.the_sync, history_histories.the_sync, alias_aliases.the_sync, vtin_keyreader.the_sync, machine_title.the_sync, units_view.the_sync, machine_seen.the_sync, screens_sync, readers_sync) depth 40
 
 pub ledger_send : IsSend ledger.the_row
 ledger_send = search (sendable, crosses, console_send, events_reply.the_send, events_entry.the_send) depth 40
@@ -137,10 +145,13 @@ pub bell_sync : IsSync bell.the_row
 bell_sync = search (sendable, crosses, book_bell.the_sync) depth 40
 
 pub signals_sync : IsSync signals.the_row
-signals_sync = declared_sync signals.the_type (bell_sync, (search (sendable, crosses) depth 20, (search (sendable, crosses) depth 20, (search (sendable, crosses) depth 20, (search (sendable, crosses) depth 20, tt)))))
+signals_sync =
+    declared_sync signals.the_type
+    (bell_sync, (search (sendable, crosses) depth 20, (search (sendable, crosses) depth 20, (search (sendable, crosses) depth 20, (search (sendable, crosses) depth 20, tt)))))
 
 pub book_sync : IsSync (book.the_row ledger.the_row ledger_page.the_row event.the_row told.the_row brief.the_row room.the_row machine.ghosts)
-book_sync = book_book.the_sync ledger.the_row ledger_page.the_row event.the_row told.the_row brief.the_row room.the_row machine.ghosts ledger_send events_event.the_send
+book_sync =
+    book_book.the_sync ledger.the_row ledger_page.the_row event.the_row told.the_row brief.the_row room.the_row machine.ghosts ledger_send events_event.the_send
 
 pub put_send : IsSend put.the_row
 put_send = search (sendable, crosses, pipe_in.the_send) depth 40
@@ -155,10 +166,14 @@ pub step_sync : IsSync step.the_row
 step_sync = search (sendable, crosses, events_step.the_sync) depth 40
 
 pub painter_thread_send : IsSend painter_thread.the_row
-painter_thread_send = declared_send painter_thread.the_type (scribe_send, (painter_send, ((search (sendable, crosses) depth 20), ((search (sendable, crosses) depth 20), ((search (sendable, crosses) depth 20), tt)))))
+painter_thread_send =
+    declared_send painter_thread.the_type
+    (scribe_send, (painter_send, ((search (sendable, crosses) depth 20), ((search (sendable, crosses) depth 20), ((search (sendable, crosses) depth 20), tt)))))
 
 pub side_thread_send : IsSend side_thread.the_row
-side_thread_send = declared_send side_thread.the_type (scribe_send, (reader_send, (side_send, ((search (sendable, crosses) depth 20), ((search (sendable, crosses) depth 20), tt)))))
+side_thread_send =
+    declared_send side_thread.the_type
+    (scribe_send, (reader_send, (side_send, ((search (sendable, crosses) depth 20), ((search (sendable, crosses) depth 20), tt)))))
 
 pub worker_send : IsSend worker.the_row
 worker_send = search (sendable, crosses, session_worker.the_send) depth 40
@@ -181,4 +196,6 @@ module _ (D : RattleType) (g : Ghosts D.Denot) (s : Sends (table_of D.Denot g)) 
   seat_send = declared_send (seat.the_type D g) (worker_send, (hands_send, tt))
 
   pub client_send : (a : NamedLft) → IsSend (client.the_row a D g)
-  client_send a = declared_send (client.the_type a D g) (scribe_send, (seat_send, (search (sendable, step_sync) depth 20, (search sendable depth 20, (search sendable depth 20, tt)))))
+  client_send a =
+      declared_send (client.the_type a D g)
+      (scribe_send, (seat_send, (search (sendable, step_sync) depth 20, (search sendable depth 20, (search sendable depth 20, tt)))))

@@ -20,7 +20,9 @@ use Rattle.con_session.specs.Solo.{AsksStand, Moment, begins, end_by}
 use Rattle.con_session.specs.declared.terminal.Side.{Side}
 use Rattle.con_threads.specs.Session.{IsBroken, IsDone}
 
-all_gone : (session : Clients) (racks : List (List ℕ)) (h : List Entry) → ((k : ℕ) → k < length session.scripts → (client_at (begins session racks None) h (k + 1)).stance ≡ Gone) → HaveAllLeft (begun session racks) h session racks
+all_gone : (session : Clients) (racks : List (List ℕ)) (h : List Entry)
+    → ((k : ℕ) → k < length session.scripts → (client_at (begins session racks None) h (k + 1)).stance ≡ Gone)
+    → HaveAllLeft (begun session racks) h session racks
 all_gone session racks h f = λ p l m. by_number (λ q. (client_at (begins session racks None) h q).stance ≡ Gone) (length session.scripts) f p l m
 
 -- where a hangup was heard the terminal has failed
@@ -28,11 +30,30 @@ hung_lost : (b : Begun) (h : List Entry) (hung failed : Bool) → (hung ≡ true
 hung_lost b h hung failed i k = record { answered = λ l f. k.answered l (λ e. f (i e)); asked' = k.asked' }
 
 -- nothing was lost
-done_whole : (session : Clients) (racks : List (List ℕ)) (h : List Entry) (rs : List Reply) (es : List ℕ) (side : Side) (hung failed : Bool) (before left old now : Option (List ℕ)) → failed ≡ false → IsDone (begins session racks None) h rs es side hung failed before left old now
+done_whole : (session : Clients) (racks : List (List ℕ)) (h : List Entry) (rs : List Reply) (es : List ℕ) (side : Side) (hung failed : Bool)
+    (before left old now : Option (List ℕ))
+    → failed ≡ false → IsDone (begins session racks None) h rs es side hung failed before left old now
     → Leaves session racks h rs es (end_by failed side.end) before left old now
 done_whole session racks h rs es side hung failed before left old now f k =
     let b = begins session racks None in
-    let m : Moment = record { state = run (begun session racks) h; entries = h; replies = rs; workers = []; places = []; memories = []; slots = []; side = side; taken = k.taken; left = left; kept = k.kept; ends = es; end = k.end; failed = failed; written = now } in
+    let m : Moment =
+    record {
+      state = run (begun session racks) h;
+      entries = h;
+      replies = rs;
+      workers = [];
+      places = [];
+      memories = [];
+      slots = [];
+      side = side;
+      taken = k.taken;
+      left = left;
+      kept = k.kept;
+      ends = es;
+      end = k.end;
+      failed = failed;
+      written = now;
+    } in
     leaves_whole session racks None session.scripts before old m
     (record {
       scripts' = refl;
@@ -51,12 +72,17 @@ done_whole session racks h rs es side hung failed before left old now f k =
     k.idle
 
 -- the terminal failed
-done_failed : (session : Clients) (racks : List (List ℕ)) (h : List Entry) (rs : List Reply) (es : List ℕ) (side : Side) (hung failed : Bool) (before left old now : Option (List ℕ)) → IsDone (begins session racks None) h rs es side hung failed before left old now
+done_failed : (session : Clients) (racks : List (List ℕ)) (h : List Entry) (rs : List Reply) (es : List ℕ) (side : Side) (hung failed : Bool)
+    (before left old now : Option (List ℕ))
+    → IsDone (begins session racks None) h rs es side hung failed before left old now
     → Leaves session racks h rs es ends.Term before left old now
 done_failed session racks h rs es side hung failed before left old now k =
     let b = begins session racks None in
-    let s = leaves_stops session racks None before old left now h rs es k.legal k.replies k.numbered k.clients (link_stays h side hung before left k.taken k.link) (canvas_ends b h session.size k.kept k.pieces es k.end old now failed k.canvas) in
-    let count : length es ≡ paints h = ap (λ (z : List ℕ). length z) k.canvas.ends' ∙ (ends_count 0 k.pieces ∙ painted_count b h session.size k.kept k.pieces k.canvas.stands) in
+    let s =
+    leaves_stops session racks None before old left now h rs es k.legal k.replies k.numbered k.clients (link_stays h side hung before left k.taken k.link)
+    (canvas_ends b h session.size k.kept k.pieces es k.end old now failed k.canvas) in
+    let count : length es ≡ paints h = ap (λ (z : List ℕ). length z) k.canvas.ends'
+    ∙ (ends_count 0 k.pieces ∙ painted_count b h session.size k.kept k.pieces k.canvas.stands) in
     record {
       legal = s.legal;
       replies = s.replies;
@@ -83,14 +109,18 @@ done_failed session racks h rs es side hung failed before left old now k =
       whole = λ i. absurd (cc);
     }
 
-pub leaves_done : (session : Clients) (racks : List (List ℕ)) (h : List Entry) (rs : List Reply) (es : List ℕ) (side : Side) (hung failed : Bool) (before left old now : Option (List ℕ)) → IsDone (begins session racks None) h rs es side hung failed before left old now
+pub leaves_done : (session : Clients) (racks : List (List ℕ)) (h : List Entry) (rs : List Reply) (es : List ℕ) (side : Side) (hung failed : Bool)
+    (before left old now : Option (List ℕ))
+    → IsDone (begins session racks None) h rs es side hung failed before left old now
     → Leaves session racks h rs es (end_by failed side.end) before left old now
 leaves_done session racks h rs es side hung false before left old now k = done_whole session racks h rs es side hung false before left old now refl k
 leaves_done session racks h rs es side hung true before left old now k = done_failed session racks h rs es side hung true before left old now k
 
-pub leaves_broken : (session : Clients) (racks : List (List ℕ)) (h : List Entry) (rs : List Reply) (es : List ℕ) (before left old now : Option (List ℕ)) → IsBroken (begins session racks None) h rs es before left old now
+pub leaves_broken : (session : Clients) (racks : List (List ℕ)) (h : List Entry) (rs : List Reply) (es : List ℕ) (before left old now : Option (List ℕ))
+    → IsBroken (begins session racks None) h rs es before left old now
     → Leaves session racks h rs es ends.Memory before left old now
-leaves_broken session racks h rs es before left old now k = leaves_stops session racks None before old left now h rs es k.legal k.replies k.numbered k.clients k.link k.canvas
+leaves_broken session racks h rs es before left old now k =
+    leaves_stops session racks None before old left now h rs es k.legal k.replies k.numbered k.clients k.link k.canvas
 
 -- ---- why it ended
 
@@ -104,7 +134,8 @@ not_memory_link P other e l = absurd (let z : ends.Memory ≡ ends.Link = sym e 
 pub not_memory_term : (P : Type 0) (other : End) → other ≡ ends.Memory → other ≡ ends.Term → P
 not_memory_term P other e l = absurd (let z : ends.Memory ≡ ends.Term = sym e ∙ l in cc)
 
-pub term_by : (A B : Type 0) (failed fine : Bool) (end other : End) → other ≡ end_by failed end → (failed ≡ true → A ⊎ B) → fine ≡ false → other ≡ ends.Term → A ⊎ (B ⊎ ((end ≡ ends.Term) × (fine ≡ false)))
+pub term_by : (A B : Type 0) (failed fine : Bool) (end other : End) → other ≡ end_by failed end → (failed ≡ true → A ⊎ B) → fine ≡ false → other ≡ ends.Term
+    → A ⊎ (B ⊎ ((end ≡ ends.Term) × (fine ≡ false)))
 term_by A B true fine end other e w f t = elim (w refl) [ inl a ↦ inl a | inr b ↦ inr (inl b) ]
 term_by A B false fine end other e w f t = inr (inr (sym e ∙ t, f))
 
@@ -122,5 +153,8 @@ failed_in P Q w a b c l m from none there = elim there [
 ]
 
 -- there was no memory to begin with
-pub none_left : (session : Clients) (racks : List (List ℕ)) (before old : Option (List ℕ)) (h : List Entry) (rs : List Reply) (es : List ℕ) (end : End) → h ≡ [] → rs ≡ [] → es ≡ [] → end ≡ ends.Memory → Leaves session racks h rs es end before before old old
-none_left session racks before old h rs es end eh er ee en = subst (λ (z : List Entry × List Reply × List ℕ × End). Leaves session racks z.0 z.1 z.2 z.3 before before old old) (λ i. (sym eh i, sym er i, sym ee i, sym en i)) (leaves_none session racks before old)
+pub none_left : (session : Clients) (racks : List (List ℕ)) (before old : Option (List ℕ)) (h : List Entry) (rs : List Reply) (es : List ℕ) (end : End) → h ≡ []
+    → rs ≡ [] → es ≡ [] → end ≡ ends.Memory → Leaves session racks h rs es end before before old old
+none_left session racks before old h rs es end eh er ee en =
+    subst (λ (z : List Entry × List Reply × List ℕ × End). Leaves session racks z.0 z.1 z.2 z.3 before before old old)
+    (λ i. (sym eh i, sym er i, sym ee i, sym en i)) (leaves_none session racks before old)

@@ -26,7 +26,8 @@ module _ {X : Type 0} where
       }
 
   -- both parts became others
-  pub both_became : (R : ℕ → X → X → Type 0) (base low : ℕ) (all xs ys us vs : List X) → all ≡ xs ++ ys → length xs ≡ low → AllBecame R base xs us → AllBecame R (base + low) ys vs → AllBecame R base all (us ++ vs)
+  pub both_became : (R : ℕ → X → X → Type 0) (base low : ℕ) (all xs ys us vs : List X) → all ≡ xs ++ ys → length xs ≡ low → AllBecame R base xs us
+      → AllBecame R (base + low) ys vs → AllBecame R base all (us ++ vs)
   both_became R base low all xs ys us vs e len a b =
       let n : length all ≡ length xs + length ys = ap length e ∙ length-append xs ys in
       let m : length (us ++ vs) ≡ length us + length vs = length-append us vs in

@@ -33,7 +33,8 @@ brief_is : (r q : Reply) → told r ≡ q → brief_of r ≡ brief_of q
 brief_is r q e = brief_by false r q (λ k. absurd (let j : false ≡ true = k in cc)) (λ k. e)
 
 -- the console's next state, and one reply more
-pub page_on : (s t : State) (rs qs : List Reply) (o : Option Actor) (e : Event) (r : Reply) → ready_by s o e ≡ true → t ≡ next_of s o e → told r ≡ answer_of s o e → qs ≡ rs ++ listed r ∷ []
+pub page_on : (s t : State) (rs qs : List Reply) (o : Option Actor) (e : Event) (r : Reply) → ready_by s o e ≡ true → t ≡ next_of s o e
+    → told r ≡ answer_of s o e → qs ≡ rs ++ listed r ∷ []
     → (let p : Page = record { state = t; replies = qs } in p) ≡ paged (record { state = s; replies = rs }) (front_of s o e)
 page_on s t rs qs None e r ready next answer put = absurd (let k : false ≡ true = ready in cc)
 page_on s t rs qs (Some a) e r ready next answer put =
@@ -53,7 +54,8 @@ briefly (replies.Cells rect cells) = refl
 briefly (replies.Lines ls) = refl
 briefly (replies.Ctrl n) = refl
 
-pub brief_on : (s : State) (o : Option Actor) (e : Event) (r : Reply) → ready_by s o e ≡ true → told r ≡ answer_of s o e → brief_told (told_of r) ≡ ledger.brief_by s o e
+pub brief_on : (s : State) (o : Option Actor) (e : Event) (r : Reply) → ready_by s o e ≡ true → told r ≡ answer_of s o e
+    → brief_told (told_of r) ≡ ledger.brief_by s o e
 brief_on s None e r ready answer = absurd (let k : false ≡ true = ready in cc)
 brief_on s (Some a) e r ready answer = briefly r ∙ brief_is r (step s a e).reply answer
 
@@ -64,10 +66,14 @@ painter_paints s (actors.Client p) r = absurd (let k : false ≡ true = r in cc)
 painter_paints s actors.Terminal r = absurd (let k : false ≡ true = r in cc)
 painter_paints s actors.Painter r = refl
 
-module _ (s : State) (whole : IsWhole (view_now s)) (wide : (view_now s).size.w ≡ s.buffers.w) (high : (view_now s).size.h ≡ s.buffers.h) (window : IsWindow s.buffers.w s.buffers.h) where
-  pictured : (a : Actor) (r : Reply) → is_ready s a events.Paint ≡ true → told r ≡ (step s a events.Paint).reply → tells_of r s (Some a) events.Paint → TellsPicture (told_of r) s (Some a) events.Paint
+module _ (s : State) (whole : IsWhole (view_now s)) (wide : (view_now s).size.w ≡ s.buffers.w) (high : (view_now s).size.h ≡ s.buffers.h)
+    (window : IsWindow s.buffers.w s.buffers.h) where
+  pictured : (a : Actor) (r : Reply) → is_ready s a events.Paint ≡ true → told r ≡ (step s a events.Paint).reply → tells_of r s (Some a) events.Paint
+      → TellsPicture (told_of r) s (Some a) events.Paint
   pictured a (replies.View v marks fresh) ready answer tells =
-      let answered : (step s a events.Paint).reply ≡ replies.View (view_now s) [] false = ap (λ (b : Actor). (step s b events.Paint).reply) (painter_paints s a ready) ∙ paint_answers s in
+      let answered : (step s a events.Paint).reply ≡ replies.View (view_now s) [] false =
+      ap (λ (b : Actor). (step s b events.Paint).reply) (painter_paints s a ready)
+      ∙ paint_answers s in
       let shown : v ≡ view_now s = view_is v (view_now s) marks fresh (step s a events.Paint).reply answer answered in
       (picture_of s s v fresh refl shown tells.0 wide high, whole_of s v shown whole, window_of s v shown wide high window, tells.1)
   pictured a replies.Done ready answer tells = absurd tells
@@ -80,7 +86,8 @@ module _ (s : State) (whole : IsWhole (view_now s)) (wide : (view_now s).size.w 
   pictured a (replies.Lines ls) ready answer tells = absurd tells
   pictured a (replies.Ctrl n) ready answer tells = absurd tells
 
-  pub tells_on : (o : Option Actor) (e : Event) (r : Reply) → ready_by s o e ≡ true → told r ≡ answer_of s o e → tells_of r s o e → TellsPicture (told_of r) s o e
+  pub tells_on : (o : Option Actor) (e : Event) (r : Reply) → ready_by s o e ≡ true → told r ≡ answer_of s o e → tells_of r s o e
+      → TellsPicture (told_of r) s o e
   tells_on None e r ready answer tells = tt
   tells_on (Some a) events.Paint r ready answer tells = pictured a r ready answer tells
   tells_on (Some a) _ r ready answer tells = tt

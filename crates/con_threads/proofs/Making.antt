@@ -17,16 +17,29 @@ use Rattle.con_threads.specs.declared.ledger.Page.{Page}
 
 module _ {M S E R A Room : Type 0} {g : Ghosts M S E R A Room} where
   pub opening_own : (id : BookId) (start : S) (made : List ℕ) (p : Pass M S E R A Room g) → IsOpening id start made p → IsOpening id (view_of p).start made p
-  opening_own id start made p h = record { book = h.book; start' = refl; opens = h.opens; none_seen = h.none_seen; made' = h.made'; none_kept = h.none_kept; mine = h.mine; actor = h.actor }
+  opening_own id start made p h =
+      record {
+        book = h.book;
+        start' = refl;
+        opens = h.opens;
+        none_seen = h.none_seen;
+        made' = h.made';
+        none_kept = h.none_kept;
+        mine = h.mine;
+        actor = h.actor;
+      }
 
-pub crew_from : {C : Type 0} (view : C → ClientView) (id : BookId) (start other : Page) (cs : List C) → start ≡ other → IsCrew view id start cs → IsCrew view id other cs
+pub crew_from : {C : Type 0} (view : C → ClientView) (id : BookId) (start other : Page) (cs : List C) → start ≡ other → IsCrew view id start cs
+    → IsCrew view id other cs
 crew_from view id start other cs e k = subst (λ (z : Page). IsCrew view id z cs) e k
 
 -- a session begins with nothing painted
-pub fresh_begun : (session : Clients) (racks : List (List ℕ)) (sizes : List ℕ) (s : State) → s ≡ opening session sizes → map (λ ys. length ys) racks ≡ sizes → is_fresh s ≡ true
+pub fresh_begun : (session : Clients) (racks : List (List ℕ)) (sizes : List ℕ) (s : State) → s ≡ opening session sizes → map (λ ys. length ys) racks ≡ sizes
+    → is_fresh s ≡ true
 fresh_begun session racks sizes s e z = ap (λ (x : State). is_fresh x) (e ∙ ap (λ (ns : List ℕ). opening session ns) (sym z)) ∙ (opens session racks).fresh
 
-pub state_begun : (session : Clients) (racks : List (List ℕ)) (sizes : List ℕ) (s : State) → s ≡ opening session sizes → map (λ ys. length ys) racks ≡ sizes → s ≡ begun session racks
+pub state_begun : (session : Clients) (racks : List (List ℕ)) (sizes : List ℕ) (s : State) → s ≡ opening session sizes → map (λ ys. length ys) racks ≡ sizes
+    → s ≡ begun session racks
 state_begun session racks sizes s e z = e ∙ ap (λ (ns : List ℕ). opening session ns) (sym z)
 
 both_left : (a b : Bool) → (a && b) ≡ true → a ≡ true
@@ -40,7 +53,9 @@ both_right false b e = absurd (cc)
 -- a session has few clients
 pub few_scripts : (ss : List Script) → are_scripts ss ≡ true → length ss ≤ 64
 few_scripts ss e =
-    let a : (nat_le 1 (length ss) && nat_le (length ss) 64) ≡ true = both_left (nat_le 1 (length ss) && nat_le (length ss) 64) (all_scripts ss) (both_left ((nat_le 1 (length ss) && nat_le (length ss) 64) && all_scripts ss) (nat_le (steps_of ss) 16384) e) in
+    let a : (nat_le 1 (length ss) && nat_le (length ss) 64) ≡ true =
+    both_left (nat_le 1 (length ss) && nat_le (length ss) 64) (all_scripts ss)
+    (both_left ((nat_le 1 (length ss) && nat_le (length ss) 64) && all_scripts ss) (nat_le (steps_of ss) 16384) e) in
     let b : nat_le (length ss) 64 ≡ true = both_right (nat_le 1 (length ss)) (nat_le (length ss) 64) a in
     grind (arith, nat_tests)
 

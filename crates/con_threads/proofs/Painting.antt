@@ -46,12 +46,14 @@ use Rattle.con_threads.specs.declared.painter.PainterThread.{PainterThread}
 -- ---- entries of others
 
 -- what it keeps is the view that was painted last
-pub tied_between : (start : State) (h r : List Entry) (kept : Kept) → list_all (λ x. not (is_painter x.actor)) r ≡ true → is_legal (run start h) r ≡ true → IsTied (run start h) kept → IsTied (run start (h ++ r)) kept
+pub tied_between : (start : State) (h r : List Entry) (kept : Kept) → list_all (λ x. not (is_painter x.actor)) r ≡ true → is_legal (run start h) r ≡ true
+    → IsTied (run start h) kept → IsTied (run start (h ++ r)) kept
 tied_between start h r kept o l k =
     tied_ran (run start h) (run start (h ++ r)) h (h ++ r) kept (record { entries = r; after' = refl; state = run-append start h r; legal = l; others = o }) k
 
 -- it stands
-pub stands_between : (b : Begun) (h r : List Entry) (size : Size) (kept : Kept) (ps : List (List ℕ)) → list_all (λ x. not (is_painter x.actor)) r ≡ true → is_legal (run b.state h) r ≡ true → PainterStands b h size kept ps → PainterStands b (h ++ r) size kept ps
+pub stands_between : (b : Begun) (h r : List Entry) (size : Size) (kept : Kept) (ps : List (List ℕ)) → list_all (λ x. not (is_painter x.actor)) r ≡ true
+    → is_legal (run b.state h) r ≡ true → PainterStands b h size kept ps → PainterStands b (h ++ r) size kept ps
 stands_between b h [] size kept ps o l k = let P : List Entry → Type 0 = λ z. PainterStands b z size kept ps in subst P (sym (append_none h)) k
 stands_between b h (x ∷ xs) size kept ps o l k =
     let s = run b.state h in
@@ -60,22 +62,30 @@ stands_between b h (x ∷ xs) size kept ps o l k =
     let n = no_paint s x.actor x.event p.0 (no_painter x.actor q.0) in
     let P : List Entry → Type 0 = λ z. PainterStands b z size kept ps in
     let L : State → Type 0 = λ z. is_legal z xs ≡ true in
-    subst P (append_assoc h (x ∷ []) xs) (stands_between b (h ++ x ∷ []) xs size kept ps q.1 (subst L (sym (run_one b.state h x)) p.1) (painter_other b h (h ++ x ∷ []) x size kept ps n refl k))
+    subst P (append_assoc h (x ∷ []) xs)
+    (stands_between b (h ++ x ∷ []) xs size kept ps q.1 (subst L (sym (run_one b.state h x)) p.1) (painter_other b h (h ++ x ∷ []) x size kept ps n refl k))
 
-pub canvas_between : (b : Begun) (h r : List Entry) (size : Size) (kept : Kept) (ps : List (List ℕ)) (ends : List ℕ) (end : ℕ) (before now : Option (List ℕ)) (failed : Bool) → list_all (λ x. not (is_painter x.actor)) r ≡ true → is_legal (run b.state h) r ≡ true
+pub canvas_between : (b : Begun) (h r : List Entry) (size : Size) (kept : Kept) (ps : List (List ℕ)) (ends : List ℕ) (end : ℕ) (before now : Option (List ℕ))
+    (failed : Bool)
+    → list_all (λ x. not (is_painter x.actor)) r ≡ true → is_legal (run b.state h) r ≡ true
     → CanvasIs b h size kept ps ends end before now failed → CanvasIs b (h ++ r) size kept ps ends end before now failed
-canvas_between b h r size kept ps ends end before now failed o l k = record { stands = stands_between b h r size kept ps o l k.stands; written = k.written; ends' = k.ends'; end' = k.end' }
+canvas_between b h r size kept ps ends end before now failed o l k =
+    record { stands = stands_between b h r size kept ps o l k.stands; written = k.written; ends' = k.ends'; end' = k.end' }
 
 -- the same of what an actor has seen more
-pub sees_at : (start from : State) (actor : Actor) (h g : List Entry) → start ≡ from → actor ≡ actors.Painter → SeesMore start actor h g → SeesMore from actors.Painter h g
+pub sees_at : (start from : State) (actor : Actor) (h g : List Entry) → start ≡ from → actor ≡ actors.Painter → SeesMore start actor h g
+    → SeesMore from actors.Painter h g
 sees_at start from actor h g e i k =
     let P : State → Type 0 = λ z. SeesMore z actor h g in let Q : Actor → Type 0 = λ a. SeesMore from a h g in subst Q i (subst P e k)
 
 pub tied_sees : (start : State) (h g : List Entry) (kept : Kept) → SeesMore start actors.Painter h g → IsTied (run start h) kept → IsTied (run start g) kept
 tied_sees start h g kept m k =
-    let P : List Entry → Type 0 = λ z. IsTied (run start z) kept in subst P (sym m.entries') (tied_between start h m.between kept (scribes.no_painter m.between m.others) m.legal k)
+    let P : List Entry → Type 0 = λ z. IsTied (run start z) kept in
+    subst P (sym m.entries') (tied_between start h m.between kept (scribes.no_painter m.between m.others) m.legal k)
 
-pub canvas_sees : (b : Begun) (h g : List Entry) (size : Size) (kept : Kept) (ps : List (List ℕ)) (ends : List ℕ) (end : ℕ) (before now : Option (List ℕ)) (failed : Bool) → SeesMore b.state actors.Painter h g
+pub canvas_sees : (b : Begun) (h g : List Entry) (size : Size) (kept : Kept) (ps : List (List ℕ)) (ends : List ℕ) (end : ℕ) (before now : Option (List ℕ))
+    (failed : Bool)
+    → SeesMore b.state actors.Painter h g
     → CanvasIs b h size kept ps ends end before now failed → CanvasIs b g size kept ps ends end before now failed
 canvas_sees b h g size kept ps ends end before now failed m k =
     let P : List Entry → Type 0 = λ z. CanvasIs b z size kept ps ends end before now failed in
@@ -94,7 +104,8 @@ sizes_each t last [] ps o = tt
 sizes_each t last (sights.Resize z ∷ ss) ps o = λ u i. sizes_each u None ss ps o
 sizes_each t last (sights.Paint v ∷ ss) ps o = absurd o
 
-pub pieces_then : (t : Terminal) (last : Option View) (ss more : List Sight) (ps : List (List ℕ)) → OnlySizes more → EachPiece Painted t last ss ps → EachPiece Painted t last (ss ++ more) ps
+pub pieces_then : (t : Terminal) (last : Option View) (ss more : List Sight) (ps : List (List ℕ)) → OnlySizes more → EachPiece Painted t last ss ps
+    → EachPiece Painted t last (ss ++ more) ps
 pieces_then t last [] more ps o e = sizes_each t last more ps o
 pieces_then t last (sights.Resize z ∷ ss) more ps o e = λ u i. pieces_then u None ss more ps o (e u i)
 pieces_then t last (sights.Paint v ∷ ss) more [] o e = tt
@@ -129,14 +140,19 @@ paints_none s (x ∷ xs) o l =
     let n = no_paint s x.actor x.event p.0 (no_painter x.actor q.0) in
     ap (λ (b : Bool). (if b then 1 else 0) + paints xs) n ∙ ap (λ (m : ℕ). 0 + m) (paints_none (moved s x) xs q.1 p.1)
 
-pub ends_between : (b : Begun) (h r : List Entry) (size : Size) (ends : List ℕ) (before now : Option (List ℕ)) (k : CanvasEnds b h size ends before now) → list_all (λ x. not (is_painter x.actor)) r ≡ true → is_legal (run b.state h) r ≡ true
+pub ends_between : (b : Begun) (h r : List Entry) (size : Size) (ends : List ℕ) (before now : Option (List ℕ)) (k : CanvasEnds b h size ends before now)
+    → list_all (λ x. not (is_painter x.actor)) r ≡ true → is_legal (run b.state h) r ≡ true
     → (e : CanvasEnds b (h ++ r) size ends before now) × (e.pieces ≡ k.pieces)
 ends_between b h r size ends before now k o l =
     let E : List Sight → (t : Terminal) → Type 0 = λ ss t. EachPiece Painted t None ss k.pieces in
-    let n : paints (h ++ r) ≡ paints h = paints-append h r ∙ (ap (λ (m : ℕ). paints h + m) (paints_none (run b.state h) r o l) ∙ (let z : paints h + 0 ≡ paints h = omega arith in z)) in (
+    let n : paints (h ++ r) ≡ paints h = paints-append h r
+    ∙ (ap (λ (m : ℕ). paints h + m) (paints_none (run b.state h) r o l) ∙ (let z : paints h + 0 ≡ paints h = omega arith in z)) in (
       record {
         pieces = k.pieces;
-        each = λ t i. subst (λ (ss : List Sight). E ss t) (sym (sights-append b.state h r)) (pieces_then t None (sights_of b.state h) (sights_of (run b.state h) r) k.pieces (only_sizes (run b.state h) r o l) (k.each t i));
+        each =
+            λ t i.
+            subst (λ (ss : List Sight). E ss t) (sym (sights-append b.state h r))
+            (pieces_then t None (sights_of b.state h) (sights_of (run b.state h) r) k.pieces (only_sizes (run b.state h) r o l) (k.each t i));
         ends' = k.ends';
         count = elim k.count [ inl c ↦ inl (c ∙ sym n) | inr c ↦ inr (c ∙ sym n) ];
         failed = k.failed;
@@ -145,7 +161,8 @@ ends_between b h r size ends before now k o l =
       refl,
     )
 
-pub less_sees : (b : Begun) (h g : List Entry) (size : Size) (ps : List (List ℕ)) (ends : List ℕ) → SeesMore b.state actors.Painter h g → DrawsLess b h size ps ends → DrawsLess b g size ps ends
+pub less_sees : (b : Begun) (h g : List Entry) (size : Size) (ps : List (List ℕ)) (ends : List ℕ) → SeesMore b.state actors.Painter h g
+    → DrawsLess b h size ps ends → DrawsLess b g size ps ends
 less_sees b h g size ps ends m k =
     let P : List Entry → Type 0 = λ z. DrawsLess b z size ps ends in
     let e = ends_between b h m.between size ends (Some []) (Some (joined ps)) k.canvas (scribes.no_painter m.between m.others) m.legal in
@@ -153,46 +170,58 @@ less_sees b h g size ps ends m k =
 
 -- ---- a Paint
 
-pub tied_drawn : (start : State) (h1 g : List Entry) (v : View) (fresh : Bool) (kept : Kept) → g ≡ h1 ++ entry actors.Painter events.Paint ∷ [] → Pictures v fresh (run start h1) → IsShown kept v → (kept.w ≡ v.size.w) × (kept.h ≡ v.size.h) → IsTied (run start g) kept
+pub tied_drawn : (start : State) (h1 g : List Entry) (v : View) (fresh : Bool) (kept : Kept) → g ≡ h1 ++ entry actors.Painter events.Paint ∷ []
+    → Pictures v fresh (run start h1) → IsShown kept v → (kept.w ≡ v.size.w) × (kept.h ≡ v.size.h) → IsTied (run start g) kept
 tied_drawn start h1 g v fresh kept e p shown sizes =
     let s = run start h1 in
     let x = entry actors.Painter events.Paint in
     let state : run start g ≡ (step s actors.Painter events.Paint).after = ap (λ (z : List Entry). run start z) e ∙ run_one start h1 x in
-    tied_paint s (run start g) h1 g [] (listed (step s actors.Painter events.Paint).reply ∷ []) v fresh kept (record { state = state; entries = e; replies = refl }) p shown sizes
+    tied_paint s (run start g) h1 g [] (listed (step s actors.Painter events.Paint).reply ∷ []) v fresh kept
+    (record { state = state; entries = e; replies = refl }) p shown sizes
 
 -- with its frame
-pub drawn : (b : Begun) (size : Size) (kept after : Kept) (ps : List (List ℕ)) (ends more : List ℕ) (end upto : ℕ) (v : View) (fresh : Bool) (bytes : List ℕ) (h1 g : List Entry)
+pub drawn : (b : Begun) (size : Size) (kept after : Kept) (ps : List (List ℕ)) (ends more : List ℕ) (end upto : ℕ) (v : View) (fresh : Bool) (bytes : List ℕ)
+    (h1 g : List Entry)
     → g ≡ h1 ++ entry actors.Painter events.Paint ∷ [] → Pictures v fresh (run b.state h1)
-    → ((t : Terminal) → Allows (if fresh then unpainted v.size.w v.size.h else kept) t → Paints (if fresh then unpainted v.size.w v.size.h else kept) after v bytes t) → IsShown after v → ((after.w ≡ v.size.w) × (after.h ≡ v.size.h))
+    → ((t : Terminal) → Allows (if fresh then unpainted v.size.w v.size.h else kept) t
+    → Paints (if fresh then unpainted v.size.w v.size.h else kept) after v bytes t)
+    → IsShown after v → ((after.w ≡ v.size.w) × (after.h ≡ v.size.h))
     → upto ≡ end + length bytes → more ≡ ends ++ upto ∷ [] → Draws b h1 size kept ps ends end → Draws b g size after (ps ++ bytes ∷ []) more upto
 drawn b size kept after ps ends more end upto v fresh bytes h1 g e pictures paints shown sizes u em k =
-    canvas_ok b size (Some []) (Some (joined ps)) (Some (joined (ps ++ bytes ∷ []))) kept after ps ends end upto v fresh false bytes bytes more (run b.state h1) h1 g refl refl e pictures paints shown sizes refl
+    canvas_ok b size (Some []) (Some (joined ps)) (Some (joined (ps ++ bytes ∷ []))) kept after ps ends end upto v fresh false bytes bytes more
+    (run b.state h1) h1 g refl refl e pictures paints shown sizes refl
     (ap (λ (x : List ℕ). Some x) (joined_more ps bytes)) u k em
 
 -- and with none, since there was no memory
-pub drawn_none : (b : Begun) (h1 g : List Entry) (size : Size) (kept : Kept) (ps : List (List ℕ)) (ends : List ℕ) (end : ℕ) → g ≡ h1 ++ entry actors.Painter events.Paint ∷ [] → Draws b h1 size kept ps ends end → DrawsLess b g size ps ends
+pub drawn_none : (b : Begun) (h1 g : List Entry) (size : Size) (kept : Kept) (ps : List (List ℕ)) (ends : List ℕ) (end : ℕ)
+    → g ≡ h1 ++ entry actors.Painter events.Paint ∷ [] → Draws b h1 size kept ps ends end → DrawsLess b g size ps ends
 drawn_none b h1 g size kept ps ends end e k = record {
   canvas = record {
     pieces = ps;
     each = none_each b h1 g size kept ps e k.stands;
     ends' = k.ends';
-    count = inr (ap (λ (n : ℕ). n + 1) (painted_count b h1 size kept ps k.stands) ∙ sym (ap paints e ∙ paints-append h1 (entry actors.Painter events.Paint ∷ [])));
+    count =
+        inr (ap (λ (n : ℕ). n + 1) (painted_count b h1 size kept ps k.stands) ∙ sym (ap paints e ∙ paints-append h1 (entry actors.Painter events.Paint ∷ [])));
     failed = false;
     written = k.written;
   };
   pieces' = refl;
 }
 
-pub drawn_less : (b : Begun) (h : List Entry) (size : Size) (kept : Kept) (ps : List (List ℕ)) (ends : List ℕ) (end : ℕ) → Draws b h size kept ps ends end → DrawsLess b h size ps ends
+pub drawn_less : (b : Begun) (h : List Entry) (size : Size) (kept : Kept) (ps : List (List ℕ)) (ends : List ℕ) (end : ℕ) → Draws b h size kept ps ends end
+    → DrawsLess b h size ps ends
 drawn_less b h size kept ps ends end k = record {
-  canvas = record { pieces = ps; each = k.stands.each; ends' = k.ends'; count = inl (painted_count b h size kept ps k.stands); failed = false; written = k.written };
+  canvas =
+      record { pieces = ps; each = k.stands.each; ends' = k.ends'; count = inl (painted_count b h size kept ps k.stands); failed = false; written = k.written };
   pieces' = refl;
 }
 
-pub less_ends : (b : Begun) (h : List Entry) (size : Size) (ps : List (List ℕ)) (ends old : List ℕ) → ends ≡ old → DrawsLess b h size ps old → DrawsLess b h size ps ends
+pub less_ends : (b : Begun) (h : List Entry) (size : Size) (ps : List (List ℕ)) (ends old : List ℕ) → ends ≡ old → DrawsLess b h size ps old
+    → DrawsLess b h size ps ends
 less_ends b h size ps ends old e k = let P : List ℕ → Type 0 = λ z. DrawsLess b h size ps z in subst P (sym e) k
 
-pub draws_ends : (b : Begun) (h : List Entry) (size : Size) (kept : Kept) (ps : List (List ℕ)) (ends old : List ℕ) (end : ℕ) → ends ≡ old → Draws b h size kept ps old end → Draws b h size kept ps ends end
+pub draws_ends : (b : Begun) (h : List Entry) (size : Size) (kept : Kept) (ps : List (List ℕ)) (ends old : List ℕ) (end : ℕ) → ends ≡ old
+    → Draws b h size kept ps old end → Draws b h size kept ps ends end
 draws_ends b h size kept ps ends old end e k = let P : List ℕ → Type 0 = λ z. Draws b h size kept ps z end in subst P (sym e) k
 
 -- ---- what its own entry tells
@@ -211,14 +240,17 @@ module _ (start : State) (actor : Actor) (told : Told) (h g : List Entry) (me : 
   tied_there kept k = tied_between start h e.between kept no_others e.legal k
 
   -- the canvas behind what others entered
-  pub canvas_there : (b : Begun) (size : Size) (kept : Kept) (ps : List (List ℕ)) (ends : List ℕ) (end : ℕ) → start ≡ b.state → Draws b h size kept ps ends end → Draws b there size kept ps ends end
+  pub canvas_there : (b : Begun) (size : Size) (kept : Kept) (ps : List (List ℕ)) (ends : List ℕ) (end : ℕ) → start ≡ b.state → Draws b h size kept ps ends end
+      → Draws b there size kept ps ends end
   canvas_there b size kept ps ends end i k =
       let L : State → Type 0 = λ z. is_legal (run z h) e.between ≡ true in
       canvas_between b h e.between size kept ps ends end (Some []) (Some (joined ps)) false no_others (subst L i e.legal) k
 
   -- no frame was made
-  pub paint_none : (b : Begun) (size : Size) (kept : Kept) (ps : List (List ℕ)) (ends more : List ℕ) (end : ℕ) → start ≡ b.state → more ≡ ends → Draws b h size kept ps ends end → DrawsLess b g size ps more
-  paint_none b size kept ps ends more end i m k = less_ends b g size ps more ends m (drawn_none b there g size kept ps ends end grew (canvas_there b size kept ps ends end i k))
+  pub paint_none : (b : Begun) (size : Size) (kept : Kept) (ps : List (List ℕ)) (ends more : List ℕ) (end : ℕ) → start ≡ b.state → more ≡ ends
+      → Draws b h size kept ps ends end → DrawsLess b g size ps more
+  paint_none b size kept ps ends more end i m k =
+      less_ends b g size ps more ends m (drawn_none b there g size kept ps ends end grew (canvas_there b size kept ps ends end i k))
 
   -- it tells no brief
   pub no_brief : (b : Brief) → told ≡ tolds.Brief b → ⊥
@@ -229,28 +261,39 @@ module _ (start : State) (actor : Actor) (told : Told) (h g : List Entry) (me : 
   picture p is = let P : Told → Type 0 = λ t. IsPicture t (run start there) in subst P is e.tells
 
   -- and a frame was made of it
-  pub paint_tied : (p : Picture) (after : Kept) → told ≡ tolds.Picture p → IsShown after p.view → (after.w ≡ p.view.size.w) × (after.h ≡ p.view.size.h) → IsTied (run start g) after
+  pub paint_tied : (p : Picture) (after : Kept) → told ≡ tolds.Picture p → IsShown after p.view → (after.w ≡ p.view.size.w) × (after.h ≡ p.view.size.h)
+      → IsTied (run start g) after
   paint_tied p after is shown sizes = tied_drawn start there g p.view p.fresh after grew (picture p is).0 shown sizes
 
-  pub paint_drawn : (p : Picture) → told ≡ tolds.Picture p → (b : Begun) (size : Size) (kept after : Kept) (ps : List (List ℕ)) (ends more : List ℕ) (end upto : ℕ) (bytes : List ℕ) → start ≡ b.state
-      → ((t : Terminal) → Allows (if p.fresh then unpainted p.view.size.w p.view.size.h else kept) t → Paints (if p.fresh then unpainted p.view.size.w p.view.size.h else kept) after p.view bytes t) → IsShown after p.view → ((after.w ≡ p.view.size.w) × (after.h ≡ p.view.size.h))
+  pub paint_drawn : (p : Picture) → told ≡ tolds.Picture p
+      → (b : Begun) (size : Size) (kept after : Kept) (ps : List (List ℕ)) (ends more : List ℕ) (end upto : ℕ) (bytes : List ℕ) → start ≡ b.state
+      → ((t : Terminal) → Allows (if p.fresh then unpainted p.view.size.w p.view.size.h else kept) t
+      → Paints (if p.fresh then unpainted p.view.size.w p.view.size.h else kept) after p.view bytes t)
+      → IsShown after p.view → ((after.w ≡ p.view.size.w) × (after.h ≡ p.view.size.h))
       → upto ≡ end + length bytes → more ≡ ends ++ upto ∷ [] → Draws b h size kept ps ends end → Draws b g size after (ps ++ bytes ∷ []) more upto
   paint_drawn p is b size kept after ps ends more end upto bytes i paints shown sizes u m k =
       let P : State → Type 0 = λ z. Pictures p.view p.fresh (run z there) in
-      drawn b size kept after ps ends more end upto p.view p.fresh bytes there g grew (subst P i (picture p is).0) paints shown sizes u m (canvas_there b size kept ps ends end i k)
+      drawn b size kept after ps ends more end upto p.view p.fresh bytes there g grew (subst P i (picture p is).0) paints shown sizes u m
+      (canvas_there b size kept ps ends end i k)
 
 -- ---- nothing was entered
 
 pub rests_drawn : (start : State) (actor : Actor) (h g : List Entry) → actor ≡ actors.Painter → SeesMore start actor h g
-    → (b : Begun) (size : Size) (kept : Kept) (ps : List (List ℕ)) (ends more : List ℕ) (end : ℕ) → start ≡ b.state → more ≡ ends → Draws b h size kept ps ends end → Draws b g size kept ps more end
+    → (b : Begun) (size : Size) (kept : Kept) (ps : List (List ℕ)) (ends more : List ℕ) (end : ℕ) → start ≡ b.state → more ≡ ends
+    → Draws b h size kept ps ends end → Draws b g size kept ps more end
 rests_drawn start actor h g me x b size kept ps ends more end i m k =
-    draws_ends b g size kept ps more ends end m (canvas_sees b h g size kept ps ends end (Some []) (Some (joined ps)) false (sees_at start b.state actor h g i me x) k)
+    draws_ends b g size kept ps more ends end m
+    (canvas_sees b h g size kept ps ends end (Some []) (Some (joined ps)) false (sees_at start b.state actor h g i me x) k)
 
 pub rests_less : (start : State) (actor : Actor) (h g : List Entry) → actor ≡ actors.Painter → SeesMore start actor h g
-    → (b : Begun) (size : Size) (kept : Kept) (ps : List (List ℕ)) (ends more : List ℕ) (end : ℕ) → start ≡ b.state → more ≡ ends → Draws b h size kept ps ends end → DrawsLess b g size ps more
-rests_less start actor h g me x b size kept ps ends more end i m k = drawn_less b g size kept ps more end (rests_drawn start actor h g me x b size kept ps ends more end i m k)
+    → (b : Begun) (size : Size) (kept : Kept) (ps : List (List ℕ)) (ends more : List ℕ) (end : ℕ) → start ≡ b.state → more ≡ ends
+    → Draws b h size kept ps ends end → DrawsLess b g size ps more
+rests_less start actor h g me x b size kept ps ends more end i m k =
+    drawn_less b g size kept ps more end (rests_drawn start actor h g me x b size kept ps ends more end i m k)
 
-pub rests_tied : (start : State) (actor : Actor) (h g : List Entry) (kept : Kept) → actor ≡ actors.Painter → SeesMore start actor h g → IsTied (run start h) kept → IsTied (run start g) kept
+pub rests_tied : (start : State) (actor : Actor) (h g : List Entry) (kept : Kept) → actor ≡ actors.Painter → SeesMore start actor h g
+    → IsTied (run start h) kept
+    → IsTied (run start g) kept
 rests_tied start actor h g kept me x k = tied_sees start h g kept (sees_at start start actor h g refl me x) k
 
 -- the console began as it did
@@ -260,12 +303,16 @@ tied_from start from g kept e k = let P : State → Type 0 = λ z. IsTied (run z
 -- ---- an answer that is no value
 
 pub turn_err : (result : Result (Option (List ℕ)) OutOfMemory) (old new : PainterThread) → IsErr result
-    → ((b : Begun) (size : Size) (ps : List (List ℕ)) → opened old.scribe ≡ b.state → Draws b (history old.scribe) size old.painter ps old.ends.items old.end → DrawsLess b (history new.scribe) size ps new.ends.items) → PainterTurn result old new
+    → ((b : Begun) (size : Size) (ps : List (List ℕ)) → opened old.scribe ≡ b.state
+    → Draws b (history old.scribe) size old.painter ps old.ends.items old.end → DrawsLess b (history new.scribe) size ps new.ends.items)
+    → PainterTurn result old new
 turn_err (Ok x) old new i k = absurd (cc)
 turn_err (Err e) old new i k = k
 
 pub paints_err : (result : Result (Option Bool) OutOfMemory) (old new : PainterThread) (was now : Option (List ℕ)) → IsErr result
-    → ((b : Begun) (size : Size) (before : Option (List ℕ)) (ps : List (List ℕ)) → opened old.scribe ≡ b.state → CanvasIs b (history old.scribe) size old.painter ps old.ends.items old.end before was false → CanvasEnds b (history new.scribe) size new.ends.items before now)
+    → ((b : Begun) (size : Size) (before : Option (List ℕ)) (ps : List (List ℕ)) → opened old.scribe ≡ b.state
+    → CanvasIs b (history old.scribe) size old.painter ps old.ends.items old.end before was false
+    → CanvasEnds b (history new.scribe) size new.ends.items before now)
     → PaintsTo result old new was now
 paints_err (Ok x) old new was now i k = absurd (cc)
 paints_err (Err e) old new was now i k = k

@@ -16,11 +16,16 @@ use Rattle.con_threads.specs.Clients.{ClientGoes, ClientView, HasServedBy, IsCli
 use Rattle.con_threads.specs.Scribe.{opened, history, IsSameScribe, IsScribe}
 use Rattle.con_threads.specs.declared.scribe.Scribe.{Scribe}
 
-pub turned_at : (May : List Entry → Type 0) (r : Result Bool OutOfMemory) (b : Begun) (p : ℕ) (steps : List Step) (y x : Scribe) (g : List Entry) (w v : Worker) (places now : List ℕ) (ms after' : List Memory) (slots left : List ℕ) → y ≡ x
-    → (opened y ≡ b.state → ClientAt b p (history y) steps w → HandsStandBy b p (history y) places ms slots → HasTurnedBy May r b p steps (history y) g v now after' left)
-    → opened x ≡ b.state → ClientAt b p (history x) steps w → HandsStandBy b p (history x) places ms slots → HasTurnedBy May r b p steps (history x) g v now after' left
+pub turned_at : (May : List Entry → Type 0) (r : Result Bool OutOfMemory) (b : Begun) (p : ℕ) (steps : List Step) (y x : Scribe) (g : List Entry)
+    (w v : Worker) (places now : List ℕ) (ms after' : List Memory) (slots left : List ℕ)
+    → y ≡ x
+    → (opened y ≡ b.state → ClientAt b p (history y) steps w → HandsStandBy b p (history y) places ms slots
+    → HasTurnedBy May r b p steps (history y) g v now after' left)
+    → opened x ≡ b.state → ClientAt b p (history x) steps w → HandsStandBy b p (history x) places ms slots
+    → HasTurnedBy May r b p steps (history x) g v now after' left
 turned_at May r b p steps y x g w v places now ms after' slots left e t =
-    let P : Scribe → Type 0 = λ z. opened z ≡ b.state → ClientAt b p (history z) steps w → HandsStandBy b p (history z) places ms slots → HasTurnedBy May r b p steps (history z) g v now after' left in
+    let P : Scribe → Type 0 = λ z. opened z ≡ b.state → ClientAt b p (history z) steps w → HandsStandBy b p (history z) places ms slots
+    → HasTurnedBy May r b p steps (history z) g v now after' left in
     subst P e t
 
 never : {A : Type 0} → true ≡ false → A
@@ -28,7 +33,9 @@ never e = absurd (cc)
 
 -- what a turn was, of a view
 abbrev pub Turned : (List Entry → Type 0) → Result Bool OutOfMemory → ClientView → ClientView → Type 0
-Turned May r v w = (b : Begun) → opened v.scribe ≡ b.state → ClientAt b v.number (history v.scribe) v.steps v.worker → HandsStandBy b v.number (history v.scribe) v.places v.memories v.slots
+Turned May r v w =
+    (b : Begun) → opened v.scribe ≡ b.state → ClientAt b v.number (history v.scribe) v.steps v.worker
+    → HandsStandBy b v.number (history v.scribe) v.places v.memories v.slots
     → HasTurnedBy May r b v.number v.steps (history v.scribe) (history w.scribe) w.worker w.places w.memories w.slots
 
 -- the same thread behind a turn
@@ -43,7 +50,12 @@ served_by v w is k goes = record {
   same = k.same;
   steps = k.steps;
   number = k.number;
-  is = record { scribe = k.scribe; actor = k.same.actor ∙ (is.actor ∙ ap (λ (n : ℕ). actors.Client n) (sym k.number)); real = let P : ℕ → Type 0 = λ n. 1 ≤ n in subst P (sym k.number) is.real };
+  is =
+      record {
+        scribe = k.scribe;
+        actor = k.same.actor ∙ (is.actor ∙ ap (λ (n : ℕ). actors.Client n) (sym k.number));
+        real = let P : ℕ → Type 0 = λ n. 1 ≤ n in subst P (sym k.number) is.real;
+      };
   goes = goes;
 }
 
@@ -54,14 +66,16 @@ here_by MustLeave l k g i j = j.1
 here_by Gone l k g i j = absurd (cc)
 
 -- a client that entered nothing is still there
-still_here : (b : Begun) (p : ℕ) (h g : List Entry) (steps : List Step) (v w : Worker) → client_at b g p ≡ client_at b h p → IsWorker (client_at b h p) steps v → v.gone ≡ false → IsWorker (client_at b g p) steps w → w.gone ≡ false
+still_here : (b : Begun) (p : ℕ) (h g : List Entry) (steps : List Step) (v w : Worker) → client_at b g p ≡ client_at b h p → IsWorker (client_at b h p) steps v
+    → v.gone ≡ false → IsWorker (client_at b g p) steps w → w.gone ≡ false
 still_here b p h g steps v w e i n j =
     let c = client_at b h p in
     let P : Client → Type 0 = λ z. IsStance z.stance w.leaving w.gone in
     let Q : Bool → Type 0 = λ z. IsStance c.stance v.leaving z in
     here_by c.stance v.leaving w.leaving w.gone (subst Q n i.stance) (subst P e j.stance)
 
-module _ (May : List Entry → Type 0) (v w : ClientView) (others : (xs : List Entry) → May xs → are_others v.number xs ≡ true) (is : IsClientThreadBy v) (f : v.broken ≡ false) (n : v.worker.gone ≡ false) (k : Behind v w) where
+module _ (May : List Entry → Type 0) (v w : ClientView) (others : (xs : List Entry) → May xs → are_others v.number xs ≡ true) (is : IsClientThreadBy v)
+    (f : v.broken ≡ false) (n : v.worker.gone ≡ false) (k : Behind v w) where
   steps_are : (b : Begun) → ClientGoes b v.number (history w.scribe) v.steps w.broken w.worker w.places w.memories w.slots → ViewGoes b w
   steps_are b x =
       let P : ℕ → Type 0 = λ z. ClientGoes b z (history w.scribe) v.steps w.broken w.worker w.places w.memories w.slots in
@@ -77,5 +91,7 @@ module _ (May : List Entry → Type 0) (v w : ClientView) (others : (xs : List E
         stands = y.1.stands;
         worker = λ e. y.1.worker;
         hands = λ e o. y.2;
-        dropped = λ o. never (sym o ∙ still_here b v.number h g v.steps v.worker w.worker (client_by b v.number h g (turns_saw May b v.number others h g y.0.saw)) (x.worker f) n y.1.worker);
+        dropped =
+            λ o.
+            never (sym o ∙ still_here b v.number h g v.steps v.worker w.worker (client_by b v.number h g (turns_saw May b v.number others h g y.0.saw)) (x.worker f) n y.1.worker);
       }))

@@ -69,7 +69,8 @@ use Rattle.con_threads.proofs.Writing.{piped, piped_less}
 -- ---- a painter whose pass has taken others in
 
 -- what the pass has seen more of is nothing of its own
-taken_sees : (s t : Scribe) (ks : List (Joined Event)) → IsScribe s → s.actor ≡ actors.Painter → HasTaken ks s.pass t.pass → SeesMore (opened s) actors.Painter (history s) (history t)
+taken_sees : (s t : Scribe) (ks : List (Joined Event)) → IsScribe s → s.actor ≡ actors.Painter → HasTaken ks s.pass t.pass
+    → SeesMore (opened s) actors.Painter (history s) (history t)
 taken_sees s t ks is e h =
     let n = actor_of s.pass in
     let P : State → Type 0 = λ z. SeesMore (opened s) actors.Painter (history s) (entries_of z (seen t.pass)) in
@@ -84,7 +85,8 @@ taken_scribe s t ks is e h = record {
   none_before = ap (λ (p : Page). p.replies) h.start ∙ is.none_before;
 }
 
-pub taken_painter : (old new : PainterThread) (ks : List (Joined Event)) → IsPainterThread old → HasTaken ks old.scribe.pass new.scribe.pass → new.scribe.actor ≡ old.scribe.actor → new.painter ≡ old.painter → new.broken ≡ old.broken → IsPainterThread new
+pub taken_painter : (old new : PainterThread) (ks : List (Joined Event)) → IsPainterThread old → HasTaken ks old.scribe.pass new.scribe.pass
+    → new.scribe.actor ≡ old.scribe.actor → new.painter ≡ old.painter → new.broken ≡ old.broken → IsPainterThread new
 taken_painter old new ks is h actor kept broken = record {
   is_scribe = taken_scribe old.scribe new.scribe ks is.is_scribe actor h;
   actor = actor ∙ is.actor;
@@ -122,7 +124,8 @@ or_none : (failed broken : Bool) → broken ≡ false → (failed || broken) ≡
 or_none true broken e = refl
 or_none false broken e = e
 
-module _ {C : Type 0} (view : C → ClientView) (id : BookId) (n : ℕ) (opener : Scribe) (side : SideThread) (painter : PainterThread) (put : PipeIn) (writer : WriterThread) (cs : List C)
+module _ {C : Type 0} (view : C → ClientView) (id : BookId) (n : ℕ) (opener : Scribe) (side : SideThread) (painter : PainterThread) (put : PipeIn)
+    (writer : WriterThread) (cs : List C)
     (back : AreBack view id n opener.pass side painter put writer cs) where
   abbrev pub start : Page
   start = (view_of opener.pass).start
@@ -140,7 +143,8 @@ module _ {C : Type 0} (view : C → ClientView) (id : BookId) (n : ℕ) (opener 
   client_there : (k : ℕ) → k < n → (c : C) × (slice_get cs k ≡ Some c)
   client_there k lt = some_at cs k (let e = back.len in omega arith)
 
-  module _ (p1 p2 : PainterThread) (taken : HasTaken (joined sv ∷ kept_all vs []) painter.scribe.pass p1.scribe.pass) (same : IsSameScribe p1.scribe p2.scribe) (is : IsScribe p2.scribe) (covers : Covers (view_of p1.scribe.pass)) where
+  module _ (p1 p2 : PainterThread) (taken : HasTaken (joined sv ∷ kept_all vs []) painter.scribe.pass p1.scribe.pass) (same : IsSameScribe p1.scribe p2.scribe)
+      (is : IsScribe p2.scribe) (covers : Covers (view_of p1.scribe.pass)) where
     kept_is : (view_of p2.scribe.pass).kept ≡ joined sv ∷ kept_all vs []
     kept_is = same.pass.1.4 ∙ taken.kept_is
 
@@ -182,9 +186,12 @@ module _ {C : Type 0} (view : C → ClientView) (id : BookId) (n : ℕ) (opener 
       none_before = back.none_before;
     }
 
-    module _ (session : Clients) (racks : List (List ℕ)) (before left old was now : Option (List ℕ)) (begins_so : start.state ≡ begun session racks) (count : length session.scripts ≡ n)
-        (edges : EdgesGo (begins session racks None) before left old was side painter put writer) (crew : CrewGoes view (begins session racks None) cs) (all : pieces_taken writer.take ≡ pieces_put put)
-        (kept_as : p1.painter ≡ painter.painter) (ends_as : p1.ends.items ≡ painter.ends.items) (end_as : p1.end ≡ painter.end) (whole_as : p1.broken ≡ painter.broken)
+    module _ (session : Clients) (racks : List (List ℕ)) (before left old was now : Option (List ℕ)) (begins_so : start.state ≡ begun session racks)
+        (count : length session.scripts ≡ n)
+        (edges : EdgesGo (begins session racks None) before left old was side painter put writer) (crew : CrewGoes view (begins session racks None) cs)
+        (all : pieces_taken writer.take ≡ pieces_put put)
+        (kept_as : p1.painter ≡ painter.painter) (ends_as : p1.ends.items ≡ painter.ends.items) (end_as : p1.end ≡ painter.end)
+        (whole_as : p1.broken ≡ painter.broken)
         (h : List Entry) (rs : List Reply) (hist : IsHistory start n (view_of p2.scribe.pass) sv vs h rs) where
       abbrev b : Begun
       b = begins session racks None
@@ -211,32 +218,47 @@ module _ {C : Type 0} (view : C → ClientView) (id : BookId) (n : ℕ) (opener 
       numbered_are = ap (λ (z : ℕ). are_of_session z h) count ∙ hist.numbered
 
       -- what a scribe had seen, and the whole
-      sees_whole : (m : ℕ) (a : Actor) (s : Scribe) → IsAt id start m s → SeesMore start.state a (entries_of start.state (seen s.pass)) h → SeesMore b.state a (history s) h
-      sees_whole m a s at k = subst (λ (z : State × State). SeesMore z.0 a (entries_of z.1 (seen s.pass)) h) (λ i. (begins_so i, (ap (λ (p : Page). p.state) (sym at.begins)) i)) k
+      sees_whole : (m : ℕ) (a : Actor) (s : Scribe) → IsAt id start m s → SeesMore start.state a (entries_of start.state (seen s.pass)) h
+          → SeesMore b.state a (history s) h
+      sees_whole m a s at k =
+          subst (λ (z : State × State). SeesMore z.0 a (entries_of z.1 (seen s.pass)) h) (λ i. (begins_so i, (ap (λ (p : Page). p.state) (sym at.begins)) i)) k
 
-      client_goes : (k : ℕ) → k < n → (c : C) × (slice_get cs k ≡ Some c) × ClientGoes b (k + 1) h (view c).steps (view c).broken (view c).worker (view c).places (view c).memories (view c).slots
+      client_goes : (k : ℕ) → k < n
+          → (c : C) × (slice_get cs k ≡ Some c)
+          × ClientGoes b (k + 1) h (view c).steps (view c).broken (view c).worker (view c).places (view c).memories (view c).slots
       client_goes k lt =
           let (c, at) = client_there k lt in
           let v = view c in
           let l = back.clients k c at in
-          let sees = sees_whole (k + 1) (actors.Client (k + 1)) v.scribe l.at (hist.clients' k (view_of v.scribe.pass) (get_map (λ (x : C). view_of (view x).scribe.pass) cs k c at)) in
-          let own : ClientGoes b (k + 1) (history v.scribe) v.steps v.broken v.worker v.places v.memories v.slots = subst (λ (z : ℕ). ClientGoes b z (history v.scribe) v.steps v.broken v.worker v.places v.memories v.slots) l.number' (crew k c at) in
+          let sees =
+          sees_whole (k + 1) (actors.Client (k + 1)) v.scribe l.at
+          (hist.clients' k (view_of v.scribe.pass) (get_map (λ (x : C). view_of (view x).scribe.pass) cs k c at)) in
+          let own : ClientGoes b (k + 1) (history v.scribe) v.steps v.broken v.worker v.places v.memories v.slots =
+          subst (λ (z : ℕ). ClientGoes b z (history v.scribe) v.steps v.broken v.worker v.places v.memories v.slots) l.number' (crew k c at) in
           (c, at, goes_sees b (k + 1) b.state (history v.scribe) h v.steps v.broken v.worker v.places v.memories v.slots sees own)
 
       clients_stand : (k : ℕ) → k < clients_in b → ClientStands b h (k + 1)
       clients_stand k lt = (client_goes k (let e = count in omega arith)).2.stands
 
       side_goes : SideGoes b h side.side side.hung side.broken before left side.reader
-      side_goes = goes_seen b b.state (history side.scribe) h side.side side.hung side.broken before left side.reader (sees_whole 1000 actors.Terminal side.scribe back.edges.side_at hist.side') edges.side'
+      side_goes =
+          goes_seen b b.state (history side.scribe) h side.side side.hung side.broken before left side.reader
+          (sees_whole 1000 actors.Terminal side.scribe back.edges.side_at hist.side') edges.side'
 
       painter_sees : SeesMore b.state actors.Painter (history painter.scribe) (history p1.scribe)
-      painter_sees = subst (λ (z : State). SeesMore z actors.Painter (history painter.scribe) (history p1.scribe)) opened_first (taken_sees painter.scribe p1.scribe (joined sv ∷ kept_all vs []) back.edges.painter_is.is_scribe back.edges.painter_is.actor taken)
+      painter_sees =
+          subst (λ (z : State). SeesMore z actors.Painter (history painter.scribe) (history p1.scribe)) opened_first
+          (taken_sees painter.scribe p1.scribe (joined sv ∷ kept_all vs []) back.edges.painter_is.is_scribe back.edges.painter_is.actor taken)
 
       -- the pieces that were put are written
-      pub canvas_whole : painter.broken ≡ false → writer.broken ≡ false → CanvasIs b (history p1.scribe) session.size p1.painter (pieces_put put) p1.ends.items p1.end old was writer.failed
+      pub canvas_whole : painter.broken ≡ false → writer.broken ≡ false
+          → CanvasIs b (history p1.scribe) session.size p1.painter (pieces_put put) p1.ends.items p1.end old was writer.failed
       canvas_whole e f =
-          let first = piped b (history painter.scribe) session.size painter.painter (pieces_put put) (pieces_taken writer.take) painter.ends.items painter.end old was writer.failed writer.broken all (edges.painter'.draws e) edges.writer' in
-          let F : Bool → Type 0 = λ z. CanvasIs b (history painter.scribe) session.size painter.painter (pieces_put put) painter.ends.items painter.end old was z in
+          let first =
+          piped b (history painter.scribe) session.size painter.painter (pieces_put put) (pieces_taken writer.take) painter.ends.items painter.end old was
+          writer.failed writer.broken all (edges.painter'.draws e) edges.writer' in
+          let F : Bool
+          → Type 0 = λ z. CanvasIs b (history painter.scribe) session.size painter.painter (pieces_put put) painter.ends.items painter.end old was z in
           let K : Kept → Type 0 = λ z. CanvasIs b (history p1.scribe) session.size z (pieces_put put) painter.ends.items painter.end old was writer.failed in
           let E : List ℕ → Type 0 = λ z. CanvasIs b (history p1.scribe) session.size p1.painter (pieces_put put) z painter.end old was writer.failed in
           let N : ℕ → Type 0 = λ z. CanvasIs b (history p1.scribe) session.size p1.painter (pieces_put put) p1.ends.items z old was writer.failed in
@@ -245,9 +267,11 @@ module _ {C : Type 0} (view : C → ClientView) (id : BookId) (n : ℕ) (opener 
 
       pub canvas_less : CanvasEnds b (history p1.scribe) session.size p1.ends.items old was
       canvas_less =
-          let less = less_sees b (history painter.scribe) (history p1.scribe) session.size (pieces_put put) painter.ends.items painter_sees edges.painter'.less in
+          let less =
+          less_sees b (history painter.scribe) (history p1.scribe) session.size (pieces_put put) painter.ends.items painter_sees edges.painter'.less in
           let E : List ℕ → Type 0 = λ z. CanvasEnds b (history p1.scribe) session.size z old was in
-          subst E (sym ends_as) (piped_less b (history p1.scribe) session.size (pieces_put put) (pieces_taken writer.take) painter.ends.items old was writer.failed writer.broken all less edges.writer')
+          subst E (sym ends_as)
+          (piped_less b (history p1.scribe) session.size (pieces_put put) (pieces_taken writer.take) painter.ends.items old was writer.failed writer.broken all less edges.writer')
 
       -- where there was no memory
       pub broken_off : (es : List ℕ) → CanvasEnds b (history p2.scribe) session.size es old now → IsBroken b h rs es before left old now
@@ -260,8 +284,10 @@ module _ {C : Type 0} (view : C → ClientView) (id : BookId) (n : ℕ) (opener 
         canvas = subst (λ (z : List Entry). CanvasEnds b z session.size es old now) history_is canvas;
       }
 
-      pub done_all : (later : Bool) → (qs : List (List ℕ)) × CanvasIs b (history p2.scribe) session.size p2.painter qs p2.ends.items p2.end old now later → side.broken ≡ false → side.side.ended ≡ true → (side.hung ≡ true → later ≡ true)
-          → All (λ c. ((view c).worker.gone ≡ true) × ((view c).broken ≡ false)) cs → (later ≡ false → is_ready (run (opened p2.scribe) (history p2.scribe)) actors.Painter events.Paint ≡ false)
+      pub done_all : (later : Bool) → (qs : List (List ℕ)) × CanvasIs b (history p2.scribe) session.size p2.painter qs p2.ends.items p2.end old now later
+          → side.broken ≡ false → side.side.ended ≡ true → (side.hung ≡ true → later ≡ true)
+          → All (λ c. ((view c).worker.gone ≡ true) × ((view c).broken ≡ false)) cs
+          → (later ≡ false → is_ready (run (opened p2.scribe) (history p2.scribe)) actors.Painter events.Paint ≡ false)
           → IsDone b h rs p2.ends.items side.side side.hung later before left old now
       done_all later (qs, canvas) fine ended hung gone idle = record {
         legal = legal_is;
@@ -287,36 +313,53 @@ module _ {C : Type 0} (view : C → ClientView) (id : BookId) (n : ℕ) (opener 
         idle = λ e. ap (λ (z : State × List Entry). is_ready (run z.0 z.1) actors.Painter events.Paint) (λ i. (sym opened_is i, sym history_is i)) ∙ idle e;
       }
 
-      pub leaves_memory : (es : List ℕ) (end' : End) → es ≡ p2.ends.items → end' ≡ ends.Memory → CanvasEnds b (history p2.scribe) session.size p2.ends.items old now → Leaves session racks h rs es end' before left old now
-      leaves_memory es end' same is canvas = subst (λ (z : List ℕ × End). Leaves session racks h rs z.0 z.1 before left old now) (λ i. (sym same i, sym is i)) (leaves_broken session racks h rs p2.ends.items before left old now (broken_off p2.ends.items canvas))
+      pub leaves_memory : (es : List ℕ) (end' : End) → es ≡ p2.ends.items → end' ≡ ends.Memory
+          → CanvasEnds b (history p2.scribe) session.size p2.ends.items old now → Leaves session racks h rs es end' before left old now
+      leaves_memory es end' same is canvas =
+          subst (λ (z : List ℕ × End). Leaves session racks h rs z.0 z.1 before left old now) (λ i. (sym same i, sym is i))
+          (leaves_broken session racks h rs p2.ends.items before left old now (broken_off p2.ends.items canvas))
 
-      pub leaves_finished : (es : List ℕ) (end' : End) (later : Bool) → es ≡ p2.ends.items → end' ≡ end_by later side.side.end → (qs : List (List ℕ)) × CanvasIs b (history p2.scribe) session.size p2.painter qs p2.ends.items p2.end old now later → side.broken ≡ false → side.side.ended ≡ true → (side.hung ≡ true → later ≡ true)
-          → All (λ c. ((view c).worker.gone ≡ true) × ((view c).broken ≡ false)) cs → (later ≡ false → is_ready (run (opened p2.scribe) (history p2.scribe)) actors.Painter events.Paint ≡ false)
+      pub leaves_finished : (es : List ℕ) (end' : End) (later : Bool) → es ≡ p2.ends.items → end' ≡ end_by later side.side.end
+          → (qs : List (List ℕ)) × CanvasIs b (history p2.scribe) session.size p2.painter qs p2.ends.items p2.end old now later → side.broken ≡ false
+          → side.side.ended ≡ true → (side.hung ≡ true → later ≡ true)
+          → All (λ c. ((view c).worker.gone ≡ true) × ((view c).broken ≡ false)) cs
+          → (later ≡ false → is_ready (run (opened p2.scribe) (history p2.scribe)) actors.Painter events.Paint ≡ false)
           → Leaves session racks h rs es end' before left old now
-      leaves_finished es end' later same is canvas fine ended hung gone idle = subst (λ (z : List ℕ × End). Leaves session racks h rs z.0 z.1 before left old now) (λ i. (sym same i, sym is i))
+      leaves_finished es end' later same is canvas fine ended hung gone idle =
+          subst (λ (z : List ℕ × End). Leaves session racks h rs z.0 z.1 before left old now) (λ i. (sym same i, sym is i))
           (leaves_done session racks h rs p2.ends.items side.side side.hung later before left old now (done_all later canvas fine ended hung gone idle))
 
       -- the painter painted until no Paint was due, or the terminal failed
-      pub leaves_ok : (es : List ℕ) (end' : End) (later : Bool) → es ≡ p2.ends.items → end' ≡ end_by later side.side.end → HasFinished (Ok later) p1 p2 was now writer.failed → painter.broken ≡ false → writer.broken ≡ false → side.broken ≡ false → side.side.ended ≡ true
-          → (side.hung ≡ true → later ≡ true) → All (λ c. ((view c).worker.gone ≡ true) × ((view c).broken ≡ false)) cs → (later ≡ false → is_ready (run (opened p2.scribe) (history p2.scribe)) actors.Painter events.Paint ≡ false)
+      pub leaves_ok : (es : List ℕ) (end' : End) (later : Bool) → es ≡ p2.ends.items → end' ≡ end_by later side.side.end
+          → HasFinished (Ok later) p1 p2 was now writer.failed → painter.broken ≡ false → writer.broken ≡ false → side.broken ≡ false → side.side.ended ≡ true
+          → (side.hung ≡ true → later ≡ true) → All (λ c. ((view c).worker.gone ≡ true) × ((view c).broken ≡ false)) cs
+          → (later ≡ false → is_ready (run (opened p2.scribe) (history p2.scribe)) actors.Painter events.Paint ≡ false)
           → Leaves session racks h rs es end' before left old now
-      leaves_ok es end' later as' ends' f pb wb sb ended hung gone idle = leaves_finished es end' later as' ends' (f b session.size old (pieces_put put) opened_then (canvas_whole pb wb)) sb ended hung gone idle
+      leaves_ok es end' later as' ends' f pb wb sb ended hung gone idle =
+          leaves_finished es end' later as' ends' (f b session.size old (pieces_put put) opened_then (canvas_whole pb wb)) sb ended hung gone idle
 
       -- or there was no memory for it
-      pub leaves_err : (es : List ℕ) (end' : End) (e : OutOfMemory) → es ≡ p2.ends.items → end' ≡ ends.Memory → HasFinished (Err e) p1 p2 was now writer.failed → painter.broken ≡ false → writer.broken ≡ false → Leaves session racks h rs es end' before left old now
+      pub leaves_err : (es : List ℕ) (end' : End) (e : OutOfMemory) → es ≡ p2.ends.items → end' ≡ ends.Memory → HasFinished (Err e) p1 p2 was now writer.failed
+          → painter.broken ≡ false → writer.broken ≡ false → Leaves session racks h rs es end' before left old now
       leaves_err es end' e as' ends' f pb wb = leaves_memory es end' as' ends' (f b session.size old (pieces_put put) opened_then (canvas_whole pb wb))
 
       -- or there was none before
-      pub leaves_early : (es : List ℕ) (end' : End) → es ≡ p2.ends.items → end' ≡ ends.Memory → history p2.scribe ≡ history p1.scribe → p2.ends.items ≡ p1.ends.items → was ≡ now → Leaves session racks h rs es end' before left old now
-      leaves_early es end' as' ends' hh he wn = leaves_memory es end' as' ends' (subst (λ (z : List Entry × List ℕ × Option (List ℕ)). CanvasEnds b z.0 session.size z.1 old z.2) (λ i. (sym hh i, sym he i, wn i)) canvas_less)
+      pub leaves_early : (es : List ℕ) (end' : End) → es ≡ p2.ends.items → end' ≡ ends.Memory → history p2.scribe ≡ history p1.scribe
+          → p2.ends.items ≡ p1.ends.items → was ≡ now → Leaves session racks h rs es end' before left old now
+      leaves_early es end' as' ends' hh he wn =
+          leaves_memory es end' as' ends'
+          (subst (λ (z : List Entry × List ℕ × Option (List ℕ)). CanvasEnds b z.0 session.size z.1 old z.2) (λ i. (sym hh i, sym he i, wn i)) canvas_less)
 
 -- ---- from their beginning on
 
 pub pipe_then : (put put' : PipeIn) (take take' : PipeOut) → IsPipe put take → IsSameIn put put' → IsSameOut take take' → IsPipe put' take'
 pipe_then put put' take take' p i o = (o.0.0 ∙ (p.0 ∙ sym i.0.0), o.0.1 ∙ (p.1 ∙ sym i.0.1), o.0.2 ∙ (p.2 ∙ sym i.0.2), o.0.3 ∙ (p.3 ∙ sym i.0.3))
 
-pub edges_made : (id : BookId) (start : Page) (side side' : SideThread) (painter painter' : PainterThread) (put put' : PipeIn) (writer writer' : WriterThread) (left left' was now : Option (List ℕ)) (c d : ℕ) → AreMade id start side painter put writer
-    → HasSentOn side side' left left' → HasDrawn painter painter' put put' → HasWritten writer writer' was now c d → AreMade id start side' painter' put' writer'
+pub edges_made : (id : BookId) (start : Page) (side side' : SideThread) (painter painter' : PainterThread) (put put' : PipeIn) (writer writer' : WriterThread)
+    (left left' was now : Option (List ℕ)) (c d : ℕ)
+    → AreMade id start side painter put writer
+    → HasSentOn side side' left left' → HasDrawn painter painter' put put' → HasWritten writer writer' was now c d
+    → AreMade id start side' painter' put' writer'
 edges_made id start side side' painter painter' put put' writer writer' left left' was now c d m hs hp hw = record {
   side_at = served_at id start 1000 side.scribe side'.scribe m.side_at hs.same;
   side_is = hs.is;
@@ -325,8 +368,11 @@ edges_made id start side side' painter painter' put put' writer writer' left lef
   pipe = pipe_then put put' writer.take writer'.take m.pipe hp.pipe hw.pipe;
 }
 
-pub edges_go_on : (bg : Begun) (id : BookId) (start : Page) (side side' : SideThread) (painter painter' : PainterThread) (put put' : PipeIn) (writer writer' : WriterThread) (before left left' old was now : Option (List ℕ)) (c d : ℕ) → start.state ≡ bg.state → AreMade id start side painter put writer
-    → HasSentOn side side' left left' → HasDrawn painter painter' put put' → HasWritten writer writer' was now c d → EdgesGo bg before left old was side painter put writer → EdgesGo bg before left' old now side' painter' put' writer'
+pub edges_go_on : (bg : Begun) (id : BookId) (start : Page) (side side' : SideThread) (painter painter' : PainterThread) (put put' : PipeIn)
+    (writer writer' : WriterThread) (before left left' old was now : Option (List ℕ)) (c d : ℕ)
+    → start.state ≡ bg.state → AreMade id start side painter put writer
+    → HasSentOn side side' left left' → HasDrawn painter painter' put put' → HasWritten writer writer' was now c d
+    → EdgesGo bg before left old was side painter put writer → EdgesGo bg before left' old now side' painter' put' writer'
 edges_go_on bg id start side side' painter painter' put put' writer writer' before left left' old was now c d e m hs hp hw k = record {
   side' = hs.goes bg before (ap (λ (p : Page). p.state) m.side_at.begins ∙ e) k.side';
   painter' = hp.drawn bg bg.session.size (ap (λ (p : Page). p.state) m.painter_at.begins ∙ e) k.painter';
@@ -341,12 +387,17 @@ not_term faults.TooLong e = cc
 not_term (faults.Bad place kind) e = cc
 not_term faults.OutOfMemory e = cc
 
-pub side_not_term : (b : Begun) (h : List Entry) (side : Side) (hung broken : Bool) (before left : Option (List ℕ)) (taken : ℕ) → SideGoes b h side hung broken before left taken → side.end ≡ ends.Term → broken ≡ false → ⊥
+pub side_not_term : (b : Begun) (h : List Entry) (side : Side) (hung broken : Bool) (before left : Option (List ℕ)) (taken : ℕ)
+    → SideGoes b h side hung broken before left taken → side.end ≡ ends.Term → broken ≡ false → ⊥
 side_not_term b h side hung broken before left taken k t e = let q = (k.link e).fault (ap is_cut t) in not_term q.0 (sym t ∙ q.2)
 
-pub all_back : {M R A Room : Type 0} {g : Ghosts M Page Event R A Room} {C : Type 0} (view : C → ClientView) (id : BookId) (n : ℕ) (opening : Pass M Page Event R A Room g) (side side' : SideThread) (painter painter' : PainterThread) (put put' : PipeIn) (writer writer' : WriterThread) (os cs : List C)
-    (left left' was now : Option (List ℕ)) (c d : ℕ) → IsOpening id (view_of opening).start (1001 ∷ 1000 ∷ down_from n) opening → (view_of opening).start.replies ≡ [] → AreMade id (view_of opening).start side painter put writer
-    → HasSentOn side side' left left' → HasDrawn painter painter' put put' → HasWritten writer writer' was now c d → IsCrew view id (view_of opening).start os → AllServed view os cs → length os ≡ n → n ≤ 64
+pub all_back : {M R A Room : Type 0} {g : Ghosts M Page Event R A Room} {C : Type 0} (view : C → ClientView) (id : BookId) (n : ℕ)
+    (opening : Pass M Page Event R A Room g) (side side' : SideThread) (painter painter' : PainterThread) (put put' : PipeIn) (writer writer' : WriterThread)
+    (os cs : List C)
+    (left left' was now : Option (List ℕ)) (c d : ℕ) → IsOpening id (view_of opening).start (1001 ∷ 1000 ∷ down_from n) opening
+    → (view_of opening).start.replies ≡ [] → AreMade id (view_of opening).start side painter put writer
+    → HasSentOn side side' left left' → HasDrawn painter painter' put put' → HasWritten writer writer' was now c d → IsCrew view id (view_of opening).start os
+    → AllServed view os cs → length os ≡ n → n ≤ 64
     → AreBack view id n opening side' painter' put' writer' cs
 all_back view id n opening side side' painter painter' put put' writer writer' os cs left left' was now c d o none m hs hp hw crew all len few = record {
   opening' = o;

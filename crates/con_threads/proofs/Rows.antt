@@ -80,7 +80,10 @@ count = events.Call (calls.Count 1)
 -- No read was begun: nothing is collected. A Paint is due at first, and behind an Ask, and until then the terminal's side waits. The painter calls
 -- nothing, and 300 is nobody. Who has left is refused, and may be refused at any time.
 abbrev tried : List (Logged Event)
-tried = logged 1 events.Collect ∷ logged 1 count ∷ logged 1001 events.Paint ∷ logged 1000 events.Ask ∷ logged 1000 (events.Feed (codes "x")) ∷ logged 1001 events.Paint ∷ logged 1001 count ∷ logged 300 events.Ask ∷ logged 1 (events.Exit 0) ∷ logged 1 events.Collect ∷ []
+tried =
+    logged 1 events.Collect ∷ logged 1 count ∷ logged 1001 events.Paint ∷ logged 1000 events.Ask ∷ logged 1000
+    (events.Feed (codes "x")) ∷ logged 1001 events.Paint ∷ logged 1001 count ∷ logged 300 events.Ask ∷ logged 1
+    (events.Exit 0) ∷ logged 1 events.Collect ∷ []
 
 -- those of them that are ready where they stand
 abbrev taken : List (Logged Event)
@@ -90,41 +93,63 @@ abbrev entered : List Entry
 entered = by 1 count ∷ paints ∷ side events.Ask ∷ paints ∷ by 1 (events.Exit 0) ∷ by 1 events.Collect ∷ []
 
 tried_entries : entries_of one tried ≡ entered
-unfolding step effect called settled_state closing began collected took_ctrl left fed quiet resized painted is_due is_ready line_front settled served units_of rest_of is_front whole broken next split_after drawn_by changed ended down shown part_lifted lifted written_on unit_written written heard split_in switches refitted filled free_from ids_from same_view
+unfolding step effect called settled_state closing began collected took_ctrl left fed quiet resized painted is_due is_ready line_front settled served units_of
+    rest_of is_front whole broken next split_after drawn_by changed ended down shown part_lifted lifted written_on unit_written written heard split_in switches
+    refitted filled free_from ids_from same_view
 tried_entries = refl
 
 taken_entries : entries_of one taken ≡ entered
-unfolding step effect called settled_state closing began collected took_ctrl left fed quiet resized painted is_due is_ready line_front settled served units_of rest_of is_front whole broken next split_after drawn_by changed ended down shown part_lifted lifted written_on unit_written written heard split_in switches refitted filled free_from ids_from same_view
+unfolding step effect called settled_state closing began collected took_ctrl left fed quiet resized painted is_due is_ready line_front settled served units_of
+    rest_of is_front whole broken next split_after drawn_by changed ended down shown part_lifted lifted written_on unit_written written heard split_in switches
+    refitted filled free_from ids_from same_view
 taken_entries = refl
 
 -- a Paint is listed as done
-tried_replies : (after next_page start tried).replies ≡ replies.Number 0 ∷ replies.Done ∷ replies.Done ∷ replies.Done ∷ replies.Done ∷ replies.Fail code.BadHandle ∷ []
-unfolding step effect called settled_state closing began collected took_ctrl left fed quiet resized painted is_due is_ready line_front settled served units_of rest_of is_front whole broken next split_after drawn_by changed ended down shown part_lifted lifted written_on unit_written written heard split_in switches refitted filled free_from ids_from same_view
+tried_replies : (after next_page start tried).replies
+    ≡ replies.Number 0 ∷ replies.Done ∷ replies.Done ∷ replies.Done ∷ replies.Done ∷ replies.Fail code.BadHandle ∷ []
+unfolding step effect called settled_state closing began collected took_ctrl left fed quiet resized painted is_due is_ready line_front settled served units_of
+    rest_of is_front whole broken next split_after drawn_by changed ended down shown part_lifted lifted written_on unit_written written heard split_in switches
+    refitted filled free_from ids_from same_view
 tried_replies = refl
 
-taken_is_log : IsLogOf start taken (record { state = run one entered; replies = replies.Number 0 ∷ replies.Done ∷ replies.Done ∷ replies.Done ∷ replies.Done ∷ replies.Fail code.BadHandle ∷ [] })
-unfolding step effect called settled_state closing began collected took_ctrl left fed quiet resized painted is_due is_ready line_front settled served units_of rest_of is_front whole broken next split_after drawn_by changed ended down shown part_lifted lifted written_on unit_written written heard split_in switches refitted filled free_from ids_from same_view
+taken_is_log : IsLogOf start taken (record {
+  state = run one entered;
+  replies = replies.Number 0 ∷ replies.Done ∷ replies.Done ∷ replies.Done ∷ replies.Done ∷ replies.Fail code.BadHandle ∷ [];
+})
+unfolding step effect called settled_state closing began collected took_ctrl left fed quiet resized painted is_due is_ready line_front settled served units_of
+    rest_of is_front whole broken next split_after drawn_by changed ended down shown part_lifted lifted written_on unit_written written heard split_in switches
+    refitted filled free_from ids_from same_view
 taken_is_log = record { none_before = refl; page' = refl; legal = refl }
 
 tried_is_none : (page : Page) → IsLogOf start tried page → ⊥
-unfolding step effect called settled_state closing began collected took_ctrl left fed quiet resized painted is_due is_ready line_front settled served units_of rest_of is_front whole broken next split_after drawn_by changed ended down shown part_lifted lifted written_on unit_written written heard split_in switches refitted filled free_from ids_from same_view
+unfolding step effect called settled_state closing began collected took_ctrl left fed quiet resized painted is_due is_ready line_front settled served units_of
+    rest_of is_front whole broken next split_after drawn_by changed ended down shown part_lifted lifted written_on unit_written written heard split_in switches
+    refitted filled free_from ids_from same_view
 tried_is_none page x = absurd (let wrong : false ≡ true = x.legal in cc)
 
 -- ---- what is ready, what is told, and whose entry it is
 
-ready_first : page_ready start 1 events.Collect ∷ page_ready start 1 count ∷ page_ready start 2 events.Collect ∷ page_ready start 1000 events.Paint ∷ page_ready start 1000 events.Quiet ∷ page_ready start 1001 events.Paint ∷ page_ready start 1001 count ∷ page_ready start 300 count ∷ []
+ready_first : page_ready start 1 events.Collect ∷ page_ready start 1 count ∷ page_ready start 2 events.Collect ∷ page_ready start 1000 events.Paint
+    ∷ page_ready start 1000 events.Quiet ∷ page_ready start 1001 events.Paint ∷ page_ready start 1001 count ∷ page_ready start 300 count ∷ []
     ≡ false ∷ true ∷ true ∷ false ∷ true ∷ true ∷ false ∷ false ∷ []
-unfolding step effect called settled_state closing began collected took_ctrl left fed quiet resized painted is_due is_ready line_front settled served units_of rest_of is_front whole broken next split_after drawn_by changed ended down shown part_lifted lifted written_on unit_written written heard split_in switches refitted filled free_from ids_from same_view
+unfolding step effect called settled_state closing began collected took_ctrl left fed quiet resized painted is_due is_ready line_front settled served units_of
+    rest_of is_front whole broken next split_after drawn_by changed ended down shown part_lifted lifted written_on unit_written written heard split_in switches
+    refitted filled free_from ids_from same_view
 ready_first = refl
 
-brief_first : page_brief start 1 count ∷ page_brief start 1 (events.Call (calls.Count 9)) ∷ page_brief start 2 count ∷ page_brief start 300 count ∷ [] ≡ briefs.Fine ∷ briefs.Refused ∷ briefs.Refused ∷ briefs.Fine ∷ []
-unfolding step effect called settled_state closing began collected took_ctrl left fed quiet resized painted is_due is_ready line_front settled served units_of rest_of is_front whole broken next split_after drawn_by changed ended down shown part_lifted lifted written_on unit_written written heard split_in switches refitted filled free_from ids_from same_view
+brief_first : page_brief start 1 count ∷ page_brief start 1 (events.Call (calls.Count 9)) ∷ page_brief start 2 count ∷ page_brief start 300 count ∷ []
+    ≡ briefs.Fine ∷ briefs.Refused ∷ briefs.Refused ∷ briefs.Fine ∷ []
+unfolding step effect called settled_state closing began collected took_ctrl left fed quiet resized painted is_due is_ready line_front settled served units_of
+    rest_of is_front whole broken next split_after drawn_by changed ended down shown part_lifted lifted written_on unit_written written heard split_in switches
+    refitted filled free_from ids_from same_view
 brief_first = refl
 
-told_each : told_of (replies.Fail code.Closed) ∷ told_of (replies.Ctrl 1) ∷ told_of (replies.Number 5) ∷ [] ≡ tolds.Brief briefs.Refused ∷ tolds.Brief (briefs.Ctrl 1) ∷ tolds.Brief briefs.Fine ∷ []
+told_each : told_of (replies.Fail code.Closed) ∷ told_of (replies.Ctrl 1) ∷ told_of (replies.Number 5) ∷ []
+    ≡ tolds.Brief briefs.Refused ∷ tolds.Brief (briefs.Ctrl 1) ∷ tolds.Brief briefs.Fine ∷ []
 told_each = refl
 
-told_picture : (v : View) (marks : List Bool) (fresh : Bool) → told_of (replies.View v marks fresh) ≡ tolds.Picture (record { view = v; marks = marks; fresh = fresh })
+told_picture : (v : View) (marks : List Bool) (fresh : Bool)
+    → told_of (replies.View v marks fresh) ≡ tolds.Picture (record { view = v; marks = marks; fresh = fresh })
 told_picture v marks fresh = refl
 
 -- 1 to 255 are clients
@@ -134,12 +159,15 @@ entries_each = refl
 
 -- ---- what an actor has seen
 
-same_each : is_same (actors.Client 1) (actors.Client 1) ∷ is_same (actors.Client 1) (actors.Client 2) ∷ is_same actors.Terminal actors.Terminal ∷ is_same actors.Painter actors.Terminal ∷ is_same actors.Terminal (actors.Client 1) ∷ []
+same_each : is_same (actors.Client 1) (actors.Client 1) ∷ is_same (actors.Client 1) (actors.Client 2) ∷ is_same actors.Terminal actors.Terminal
+    ∷ is_same actors.Painter actors.Terminal ∷ is_same actors.Terminal (actors.Client 1) ∷ []
     ≡ true ∷ false ∷ true ∷ false ∷ false ∷ []
 same_each = refl
 
 sees_paint : SeesMore one (actors.Client 1) (by 1 count ∷ []) (by 1 count ∷ paints ∷ [])
-unfolding step effect called settled_state closing began collected took_ctrl left fed quiet resized painted is_due is_ready line_front settled served units_of rest_of is_front whole broken next split_after drawn_by changed ended down shown part_lifted lifted written_on unit_written written heard split_in switches refitted filled free_from ids_from same_view
+unfolding step effect called settled_state closing began collected took_ctrl left fed quiet resized painted is_due is_ready line_front settled served units_of
+    rest_of is_front whole broken next split_after drawn_by changed ended down shown part_lifted lifted written_on unit_written written heard split_in switches
+    refitted filled free_from ids_from same_view
 sees_paint = record { between = paints ∷ []; others = refl; legal = refl; entries' = refl }
 
 -- not an entry of its own
@@ -150,7 +178,9 @@ sees_own x =
 
 -- nor one that was not ready: behind an Ask the terminal's side waits
 sees_unready : SeesMore one (actors.Client 1) [] (paints ∷ side events.Ask ∷ side events.Quiet ∷ []) → ⊥
-unfolding step effect called settled_state closing began collected took_ctrl left fed quiet resized painted is_due is_ready line_front settled served units_of rest_of is_front whole broken next split_after drawn_by changed ended down shown part_lifted lifted written_on unit_written written heard split_in switches refitted filled free_from ids_from same_view
+unfolding step effect called settled_state closing began collected took_ctrl left fed quiet resized painted is_due is_ready line_front settled served units_of
+    rest_of is_front whole broken next split_after drawn_by changed ended down shown part_lifted lifted written_on unit_written written heard split_in switches
+    refitted filled free_from ids_from same_view
 sees_unready x = let wrong : false ≡ true = subst (λ (z : List Entry). is_legal one z ≡ true) (sym x.entries') x.legal in absurd (cc)
 
 -- ctrl+C is typed, and the client takes it
@@ -158,7 +188,9 @@ abbrev broken_in : List Entry
 broken_in = side (events.Feed (3 ∷ [])) ∷ by 1 events.TakeCtrl ∷ []
 
 takes_ctrl : HasEntered one (actors.Client 1) events.TakeCtrl (tolds.Brief (briefs.Ctrl 0)) [] broken_in
-unfolding step effect called settled_state closing began collected took_ctrl left fed quiet resized painted is_due is_ready line_front settled served units_of rest_of is_front whole broken next split_after drawn_by changed ended down shown part_lifted lifted written_on unit_written written heard split_in switches refitted filled free_from ids_from same_view
+unfolding step effect called settled_state closing began collected took_ctrl left fed quiet resized painted is_due is_ready line_front settled served units_of
+    rest_of is_front whole broken next split_after drawn_by changed ended down shown part_lifted lifted written_on unit_written written heard split_in switches
+    refitted filled free_from ids_from same_view
 takes_ctrl = record { between = side (events.Feed (3 ∷ [])) ∷ []; others = refl; legal = refl; entries' = refl; ready = refl; brief = refl; tells = tt }
 
 front_of_two : (a b c : Entry) (xs : List Entry) → a ∷ b ∷ [] ≡ xs ++ c ∷ [] → xs ≡ a ∷ []
@@ -169,7 +201,9 @@ front_of_two a b c (x ∷ y ∷ z ∷ zs) e = absurd (cc)
 
 -- it has no reply that the console did not give it
 takes_another : (reply : Brief) → HasEntered one (actors.Client 1) events.TakeCtrl (tolds.Brief reply) [] broken_in → reply ≡ briefs.Ctrl 0
-unfolding step effect called settled_state closing began collected took_ctrl left fed quiet resized painted is_due is_ready line_front settled served units_of rest_of is_front whole broken next split_after drawn_by changed ended down shown part_lifted lifted written_on unit_written written heard split_in switches refitted filled free_from ids_from same_view
+unfolding step effect called settled_state closing began collected took_ctrl left fed quiet resized painted is_due is_ready line_front settled served units_of
+    rest_of is_front whole broken next split_after drawn_by changed ended down shown part_lifted lifted written_on unit_written written heard split_in switches
+    refitted filled free_from ids_from same_view
 takes_another reply x =
     let gave : List Entry → Type 0 = λ z. reply ≡ brief_of (step (run one z) (actors.Client 1) events.TakeCtrl).reply in
     subst gave (front_of_two _ _ _ x.between x.entries') x.brief

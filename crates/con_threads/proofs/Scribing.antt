@@ -37,7 +37,8 @@ module _ (start : State) (n : ℕ) (a : Actor) (named : numbers.actor_of n ≡ S
   }
 
 -- its own event, which was ready
-one_entered : (s : State) (n : ℕ) (a : Actor) (e : Event) → numbers.actor_of n ≡ Some a → is_ready s a e ≡ true → entries_of s (entry n e ∷ []) ≡ desk.entry a e ∷ []
+one_entered : (s : State) (n : ℕ) (a : Actor) (e : Event) → numbers.actor_of n ≡ Some a → is_ready s a e ≡ true
+    → entries_of s (entry n e ∷ []) ≡ desk.entry a e ∷ []
 one_entered s n a e named ready =
     append-nil (front_of s (numbers.actor_of n) e)
     ∙ (ap (λ (o : Option Actor). front_of s o e) named ∙ front_whole s (Some a) e ready)
@@ -55,7 +56,8 @@ module _ (p : Page) (n : ℕ) (a : Actor) (named : numbers.actor_of n ≡ Some a
   tells_there e t told = let P : State × Option Actor → Type 0 = λ z. TellsPicture t z.0 z.1 e in subst P (λ i. (after_state p log i, named i)) told
 
 -- an event that is ready in every state is so for its number
-pub always_ready : (old : Scribe) → IsScribe old → (e : Event) → ((s : State) → is_ready s old.actor e ≡ true) → (p : Page) → page_ready p (actor_of old.pass) e ≡ true
+pub always_ready : (old : Scribe) → IsScribe old → (e : Event) → ((s : State) → is_ready s old.actor e ≡ true) → (p : Page)
+    → page_ready p (actor_of old.pass) e ≡ true
 always_ready old is e always p = ap (λ (o : Option Actor). ready_by p.state o e) is.named ∙ always p.state
 
 -- ---- of a scribe before and after
@@ -91,18 +93,24 @@ module _ (old new : Scribe) (is : IsScribe old) (same : IsSamePass old.pass new.
   }
 
   pub saw_is : new.actor ≡ old.actor → SeesOthers (view_of old.pass) (view_of new.pass) → IsScribe new
-  saw_is e s = is_still e ((λ i. own (same.1.1 i) (s.2 i)) ∙ (own-append n seen s.0 ∙ (ap (λ (l : List Event). own n seen ++ l) s.1 ∙ (append-nil (own n seen) ∙ (is.own_mine ∙ sym s.3)))))
+  saw_is e s =
+      is_still e
+      ((λ i. own (same.1.1 i) (s.2 i)) ∙ (own-append n seen s.0 ∙ (ap (λ (l : List Event). own n seen ++ l) s.1 ∙ (append-nil (own n seen) ∙ (is.own_mine ∙ sym s.3)))))
 
-  pub entered_is : (event : Event) (told : Told) → new.actor ≡ old.actor → Enters next_page page_ready brief_told page_brief page_tells (view_of old.pass) event told (view_of new.pass) → IsScribe new
+  pub entered_is : (event : Event) (told : Told) → new.actor ≡ old.actor
+      → Enters next_page page_ready brief_told page_brief page_tells (view_of old.pass) event told (view_of new.pass) → IsScribe new
   entered_is event told e x = is_still e (ap (λ (k : ℕ). own k (view_of new.pass).seen) same.1.1 ∙ x.all_mine)
 
-  pub entered : (event : Event) (told : Told) → Enters next_page page_ready brief_told page_brief page_tells (view_of old.pass) event told (view_of new.pass) → HasEntered (opened old) old.actor event told (history old) (history new)
+  pub entered : (event : Event) (told : Told) → Enters next_page page_ready brief_told page_brief page_tells (view_of old.pass) event told (view_of new.pass)
+      → HasEntered (opened old) old.actor event told (history old) (history new)
   entered event told x =
       let all : List (Logged Event) = seen ++ x.between in
       let m : SeesMore (opened old) old.actor (history old) (entries_of start.state all) = more_seen start.state n old.actor is.named seen x.between x.others in
       let there : entries_of start.state all ≡ history old ++ m.between = m.entries' in
-      let ready : is_ready (run start.state (entries_of start.state all)) old.actor event ≡ true = sym (ready_there start n old.actor is.named all event) ∙ x.was_ready in
-      let brief : brief_told told ≡ brief_of (step (run start.state (entries_of start.state all)) old.actor event).reply = x.reply_is ∙ brief_there start n old.actor is.named all event in
+      let ready : is_ready (run start.state (entries_of start.state all)) old.actor event ≡ true = sym (ready_there start n old.actor is.named all event)
+      ∙ x.was_ready in
+      let brief : brief_told told ≡ brief_of (step (run start.state (entries_of start.state all)) old.actor event).reply = x.reply_is
+      ∙ brief_there start n old.actor is.named all event in
       let R : List Entry → Type 0 = λ z. is_ready (run start.state z) old.actor event ≡ true in
       let B : List Entry → Type 0 = λ z. brief_told told ≡ brief_of (step (run start.state z) old.actor event).reply in
       let T : List Entry → Type 0 = λ z. TellsPicture told (run start.state z) (Some old.actor) event in
@@ -118,14 +126,18 @@ module _ (old new : Scribe) (is : IsScribe old) (same : IsSamePass old.pass new.
         tells = subst T there (tells_there start n old.actor is.named all event told x.told);
       }
 
-  pub ready_now : (event : Event) → new.actor ≡ old.actor → page_ready (after next_page (view_of new.pass).start (view_of new.pass).seen) (actor_of new.pass) event ≡ is_ready (run (opened new) (history new)) new.actor event
+  pub ready_now : (event : Event) → new.actor ≡ old.actor
+      → page_ready (after next_page (view_of new.pass).start (view_of new.pass).seen) (actor_of new.pass) event
+      ≡ is_ready (run (opened new) (history new)) new.actor event
   ready_now event e = ready_there (view_of new.pass).start (actor_of new.pass) new.actor (still_named e) (view_of new.pass).seen event
 
   -- what it has seen begins with what it had seen
   pub saw_more : SeesOthers (view_of old.pass) (view_of new.pass) → StartsWith (view_of new.pass).seen (view_of old.pass).seen
   saw_more s = (s.0, s.2)
 
-  pub entered_more : (event : Event) (told : Told) → Enters next_page page_ready brief_told page_brief page_tells (view_of old.pass) event told (view_of new.pass) → StartsWith (view_of new.pass).seen (view_of old.pass).seen
+  pub entered_more : (event : Event) (told : Told)
+      → Enters next_page page_ready brief_told page_brief page_tells (view_of old.pass) event told (view_of new.pass)
+      → StartsWith (view_of new.pass).seen (view_of old.pass).seen
   entered_more event told x = (x.between ++ entry n event ∷ [], x.seen ∙ append_assoc seen x.between (entry n event ∷ []))
 
 -- ---- behind a turn, whatever came of it
@@ -151,7 +163,8 @@ module _ (old new : Scribe) (is : IsScribe old) (same : IsSamePass old.pass new.
   turn_is (Ok t) x s = entered_is old new is same event t actor x
   turn_is (Err e) x s = saw_is old new is same actor s
 
-  pub turn_entered : (r : Result Told OutOfMemory) → IfOk r (λ t. Entered t) → IfOk r (λ t. HasEntered (opened old) old.actor event t (history old) (history new))
+  pub turn_entered : (r : Result Told OutOfMemory) → IfOk r (λ t. Entered t)
+      → IfOk r (λ t. HasEntered (opened old) old.actor event t (history old) (history new))
   turn_entered (Ok t) x = entered old new is same event t x
   turn_entered (Err e) x = tt
 
@@ -163,23 +176,27 @@ module _ (old new : Scribe) (is : IsScribe old) (same : IsSamePass old.pass new.
   abbrev Blocked : Type 0
   Blocked = Saw × IsBlocked next_page page_ready (view_of new.pass) event
 
-  pub may_same : (r : Result (Option Told) OutOfMemory) → IfOk r (λ o. IfSome o (λ t. Entered t)) → IfOk r (λ o. IfNone o Blocked) → IfErr r (λ _. Saw) → IsSameScribe old new
+  pub may_same : (r : Result (Option Told) OutOfMemory) → IfOk r (λ o. IfSome o (λ t. Entered t)) → IfOk r (λ o. IfNone o Blocked) → IfErr r (λ _. Saw)
+      → IsSameScribe old new
   may_same (Ok (Some t)) x b s = same_entered t x
   may_same (Ok None) x b s = same_saw b.0
   may_same (Err e) x b s = same_saw s
 
-  pub may_is : (r : Result (Option Told) OutOfMemory) → IfOk r (λ o. IfSome o (λ t. Entered t)) → IfOk r (λ o. IfNone o Blocked) → IfErr r (λ _. Saw) → IsScribe new
+  pub may_is : (r : Result (Option Told) OutOfMemory) → IfOk r (λ o. IfSome o (λ t. Entered t)) → IfOk r (λ o. IfNone o Blocked) → IfErr r (λ _. Saw)
+      → IsScribe new
   may_is (Ok (Some t)) x b s = entered_is old new is same event t actor x
   may_is (Ok None) x b s = saw_is old new is same actor b.0
   may_is (Err e) x b s = saw_is old new is same actor s
 
-  pub may_entered : (r : Result (Option Told) OutOfMemory) → IfOk r (λ o. IfSome o (λ t. Entered t)) → IfOk r (λ o. IfSome o (λ t. HasEntered (opened old) old.actor event t (history old) (history new)))
+  pub may_entered : (r : Result (Option Told) OutOfMemory) → IfOk r (λ o. IfSome o (λ t. Entered t))
+      → IfOk r (λ o. IfSome o (λ t. HasEntered (opened old) old.actor event t (history old) (history new)))
   may_entered (Ok (Some t)) x = entered old new is same event t x
   may_entered (Ok None) x = tt
   may_entered (Err e) x = tt
 
   pub may_blocked : (r : Result (Option Told) OutOfMemory) → IfOk r (λ o. IfNone o Blocked)
-      → IfOk r (λ o. IfNone o (SeesMore (opened old) old.actor (history old) (history new) × (is_ready (run (opened new) (history new)) new.actor event ≡ false)))
+      → IfOk r
+      (λ o. IfNone o (SeesMore (opened old) old.actor (history old) (history new) × (is_ready (run (opened new) (history new)) new.actor event ≡ false)))
   may_blocked (Ok (Some t)) b = tt
   may_blocked (Ok None) b = (saw old new is same b.0, sym (ready_now old new is same event actor) ∙ b.1)
   may_blocked (Err e) b = tt

@@ -43,7 +43,8 @@ sent_then s t u was mid left j k = record {
 
 -- why the link could not be read
 pub cause_then : (P Q R : Type 0) (a b c : ℕ) → (Q → P ⊎ Rose a b) → (R → Q ⊎ Rose b c) → a ≤ b → b ≤ c → R → P ⊎ Rose a c
-cause_then P Q R a b c f g l m r = elim (g r) [ inl q ↦ elim (f q) [ inl p ↦ inl p | inr x ↦ inr (rose_later a b c x m) ] | inr x ↦ inr (rose_sooner a b c l x) ]
+cause_then P Q R a b c f g l m r =
+    elim (g r) [ inl q ↦ elim (f q) [ inl p ↦ inl p | inr x ↦ inr (rose_later a b c x m) ] | inr x ↦ inr (rose_sooner a b c l x) ]
 
 -- ---- a turn
 
@@ -51,11 +52,13 @@ cause_then P Q R a b c f g l m r = elim (g r) [ inl q ↦ elim (f q) [ inl p ↦
 abbrev pub with_scribe : SideThread → Scribe → Bool → ℕ → SideThread
 with_scribe t s broken taken = record { scribe = s; reader = taken; side = t.side; hung = t.hung; broken = broken }
 
-is_with : (t : SideThread) (s : Scribe) (broken : Bool) (taken : ℕ) → IsSideThread t → IsSameScribe t.scribe s → IsScribe s → (t.side.ended ≡ false → broken ≡ false → taken ≤ 16777216) → IsSideThread (with_scribe t s broken taken)
+is_with : (t : SideThread) (s : Scribe) (broken : Bool) (taken : ℕ) → IsSideThread t → IsSameScribe t.scribe s → IsScribe s
+    → (t.side.ended ≡ false → broken ≡ false → taken ≤ 16777216) → IsSideThread (with_scribe t s broken taken)
 is_with t s broken taken i m n f = record { scribe = n; actor = m.actor ∙ i.actor; few = f }
 
 -- it has seen more, and did nothing
-pub saw : (t : SideThread) (s : Scribe) (left : Option (List ℕ)) → IsSideThread t → IsSameScribe t.scribe s → IsScribe s → SeesMore (opened t.scribe) actors.Terminal (history t.scribe) (history s) → HasSentOn t (with_scribe t s t.broken t.reader) left left
+pub saw : (t : SideThread) (s : Scribe) (left : Option (List ℕ)) → IsSideThread t → IsSameScribe t.scribe s → IsScribe s
+    → SeesMore (opened t.scribe) actors.Terminal (history t.scribe) (history s) → HasSentOn t (with_scribe t s t.broken t.reader) left left
 saw t s left i m k more = record {
   same = m;
   is = is_with t s t.broken t.reader i m k i.few;
@@ -63,7 +66,8 @@ saw t s left i m k more = record {
 }
 
 -- it hung up, since the terminal has failed
-pub hung_up : (t : SideThread) (s : Scribe) (left : Option (List ℕ)) → t.side.ended ≡ false → t.broken ≡ false → IsSideThread t → IsSameScribe t.scribe s → IsScribe s → HasSent (opened t.scribe) events.Hangup (history t.scribe) (history s)
+pub hung_up : (t : SideThread) (s : Scribe) (left : Option (List ℕ)) → t.side.ended ≡ false → t.broken ≡ false → IsSideThread t → IsSameScribe t.scribe s
+    → IsScribe s → HasSent (opened t.scribe) events.Hangup (history t.scribe) (history s)
     → HasSentOn t (record { scribe = s; reader = t.reader; side = record { ended = true; end = t.side.end }; hung = true; broken = t.broken }) left left
 hung_up t s left open' whole i m k r = record {
   same = m;
@@ -99,7 +103,8 @@ pub record Looked (t : SideThread) (s : Scribe) : Type 0 where
   pub served : (run (opened s) (history s)).asked ≡ false
 
 -- what it was goes on to the moment of the look
-looked_goes : (t : SideThread) (s : Scribe) (b : Begun) (before was : Option (List ℕ)) → Looked t s → opened t.scribe ≡ b.state → ThreadGoes b t before was → SideGoes b (history s) t.side t.hung false before was t.reader
+looked_goes : (t : SideThread) (s : Scribe) (b : Begun) (before was : Option (List ℕ)) → Looked t s → opened t.scribe ≡ b.state → ThreadGoes b t before was
+    → SideGoes b (history s) t.side t.hung false before was t.reader
 looked_goes t s b before was k e g =
     let P : Bool → Type 0 = λ z. SideGoes b (history s) t.side t.hung z before was t.reader in
     subst P k.whole (goes_seen b (opened t.scribe) (history t.scribe) (history s) t.side t.hung t.broken before was t.reader k.sees g)
@@ -108,22 +113,28 @@ looked_start : (t : SideThread) (s : Scribe) (b : Begun) → Looked t s → open
 looked_start t s b k e = same_opened t.scribe s k.same ∙ e
 
 -- nothing was asked for when its own event was entered
-still_served : (s : Scribe) (b : Begun) (event : Event) (g : List Entry) → opened s ≡ b.state → (run (opened s) (history s)).asked ≡ false → (r : HasSent (opened s) event (history s) g) → (run b.state (history s ++ r.between)).asked ≡ false
+still_served : (s : Scribe) (b : Begun) (event : Event) (g : List Entry) → opened s ≡ b.state → (run (opened s) (history s)).asked ≡ false
+    → (r : HasSent (opened s) event (history s) g) → (run b.state (history s ++ r.between)).asked ≡ false
 still_served s b event g e n r =
     let P : State → Type 0 = λ z. (run z (history s ++ r.between)).asked ≡ false in
     subst P e (served_then (opened s) (history s) r.between r.others r.legal n)
 
 -- the event of a frame is ready then
-pub never_blocked : (s u : Scribe) (event : Event) (f : Frame) (was left : Option (List ℕ)) (taken later : ℕ) → IsSameScribe s u → (run (opened s) (history s)).asked ≡ false → SeesMore (opened s) actors.Terminal (history s) (history u) → event ≡ sent_by f
+pub never_blocked : (s u : Scribe) (event : Event) (f : Frame) (was left : Option (List ℕ)) (taken later : ℕ) → IsSameScribe s u
+    → (run (opened s) (history s)).asked ≡ false → SeesMore (opened s) actors.Terminal (history s) (history u) → event ≡ sent_by f
     → Took (Ok f) was left taken later → is_ready (run (opened u) (history u)) actors.Terminal event ≡ false → ⊥
 never_blocked s u event f was left taken later same n more e (text, l, c, a) blocked =
-    let there : (run (opened s) (history u)).asked ≡ false = ap (λ (z : List Entry). (run (opened s) z).asked) more.entries' ∙ served_then (opened s) (history s) more.between more.others more.legal n in
+    let there : (run (opened s) (history u)).asked ≡ false = ap (λ (z : List Entry). (run (opened s) z).asked) more.entries'
+    ∙ served_then (opened s) (history s) more.between more.others more.legal n in
     let now : (run (opened u) (history u)).asked ≡ false = ap (λ (z : State). (run z (history u)).asked) (same_opened s u same) ∙ there in
-    let ready : is_ready (run (opened u) (history u)) actors.Terminal event ≡ true = ap (λ (z : Event). is_ready (run (opened u) (history u)) actors.Terminal z) e ∙ frame_ready (run (opened u) (history u)) f a.1 now in
+    let ready : is_ready (run (opened u) (history u)) actors.Terminal event ≡ true =
+    ap (λ (z : Event). is_ready (run (opened u) (history u)) actors.Terminal z) e
+    ∙ frame_ready (run (opened u) (history u)) f a.1 now in
     let both : true ≡ false = sym ready ∙ blocked in cc
 
 -- it entered the event of a frame
-pub passed_on : (t : SideThread) (s u : Scribe) (was left : Option (List ℕ)) (later : ℕ) (f : Frame) (event : Event) (ended : Bool) → Looked t s → IsSameScribe s u → IsScribe u → event ≡ sent_by f → HasSent (opened s) event (history s) (history u)
+pub passed_on : (t : SideThread) (s u : Scribe) (was left : Option (List ℕ)) (later : ℕ) (f : Frame) (event : Event) (ended : Bool) → Looked t s
+    → IsSameScribe s u → IsScribe u → event ≡ sent_by f → HasSent (opened s) event (history s) (history u)
     → ended ≡ ends_link f → Took (Ok f) was left t.reader later
     → HasSentOn t (record { scribe = u; reader = later; side = record { ended = ended; end = t.side.end }; hung = t.hung; broken = false }) was left
 passed_on t s u was left later f event ended k same is e r d took = record {
@@ -134,11 +145,13 @@ passed_on t s u was left later f event ended k same is e r d took = record {
       let E : Event → Type 0 = λ z. HasSent (opened s) z (history s) (history u) in
       let sent = subst E e r in
       let on = goes_on b (history s) sent.between t.side t.hung false before was t.reader sent.others (looked_goes t s b before was k start g) in
-      subst R (sym sent.entries') (frame_goes b (history s ++ sent.between) t.side t.hung ended before was left t.reader later f k.open' (still_served s b (sent_by f) (history u) (looked_start t s b k start) k.served sent) d took on);
+      subst R (sym sent.entries')
+      (frame_goes b (history s ++ sent.between) t.side t.hung ended before was left t.reader later f k.open' (still_served s b (sent_by f) (history u) (looked_start t s b k start) k.served sent) d took on);
 }
 
 -- it hung up where no frame was read
-pub gave_up : (t : SideThread) (s u : Scribe) (was left : Option (List ℕ)) (later : ℕ) (f : LinkFault) (end : End) → Looked t s → IsSameScribe s u → IsScribe u → HasSent (opened s) events.Hangup (history s) (history u)
+pub gave_up : (t : SideThread) (s u : Scribe) (was left : Option (List ℕ)) (later : ℕ) (f : LinkFault) (end : End) → Looked t s → IsSameScribe s u → IsScribe u
+    → HasSent (opened s) events.Hangup (history s) (history u)
     → end ≡ end_for f → Took (Err f) was left t.reader later
     → HasSentOn t (record { scribe = u; reader = later; side = record { ended = true; end = end }; hung = t.hung; broken = false }) was left
 gave_up t s u was left later f end k same is r d took = record {
@@ -147,11 +160,13 @@ gave_up t s u was left later f end k same is r d took = record {
   goes = λ b before start g.
       let R : List Entry → Type 0 = λ z. SideGoes b z (record { ended = true; end = end }) t.hung false before left later in
       let on = goes_on b (history s) r.between t.side t.hung false before was t.reader r.others (looked_goes t s b before was k start g) in
-      subst R (sym r.entries') (fault_goes b (history s ++ r.between) t.side t.hung before was left t.reader later f end k.open' (still_served s b events.Hangup (history u) (looked_start t s b k start) k.served r) d took on);
+      subst R (sym r.entries')
+      (fault_goes b (history s ++ r.between) t.side t.hung before was left t.reader later f end k.open' (still_served s b events.Hangup (history u) (looked_start t s b k start) k.served r) d took on);
 }
 
 -- it had no memory behind what it took
-pub stopped : (t : SideThread) (s u : Scribe) (was left : Option (List ℕ)) (later : ℕ) (read : Result Frame LinkFault) → Looked t s → IsSameScribe s u → IsScribe u → SeesMore (opened s) actors.Terminal (history s) (history u)
+pub stopped : (t : SideThread) (s u : Scribe) (was left : Option (List ℕ)) (later : ℕ) (read : Result Frame LinkFault) → Looked t s → IsSameScribe s u
+    → IsScribe u → SeesMore (opened s) actors.Terminal (history s) (history u)
     → Took read was left t.reader later → HasSentOn t (with_scribe t u true later) was left
 stopped t s u was left later read k same is more took = record {
   same = same_then t.scribe s u k.same same;

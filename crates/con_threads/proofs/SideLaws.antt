@@ -49,17 +49,20 @@ not_terminal actors.Terminal o = absurd (let e : false ≡ true = o in cc)
 not_terminal actors.Painter o = refl
 
 -- what stays behind one of them stays behind all
-pub along_others : (P : List Entry → Type 0) → ((h : List Entry) (x : Entry) → is_terminal x.actor ≡ false → P h → P (h ++ x ∷ [])) → (h r : List Entry) → are_others r ≡ true → P h → P (h ++ r)
+pub along_others : (P : List Entry → Type 0) → ((h : List Entry) (x : Entry) → is_terminal x.actor ≡ false → P h → P (h ++ x ∷ [])) → (h r : List Entry)
+    → are_others r ≡ true → P h → P (h ++ r)
 along_others P one h [] o k = subst P (sym (append_none h)) k
 along_others P one h (x ∷ xs) o k =
     let q = and_parts (not (is_same actors.Terminal x.actor)) (are_others xs) o in
     subst P (append_assoc h (x ∷ []) xs) (along_others P one (h ++ x ∷ []) xs q.1 (one h x (not_terminal x.actor q.0) k))
 
-link_on : (h r : List Entry) (side : Side) (failed : Bool) (before now : Option (List ℕ)) (taken : ℕ) → are_others r ≡ true → LinkIs h side failed before now taken → LinkIs (h ++ r) side failed before now taken
+link_on : (h r : List Entry) (side : Side) (failed : Bool) (before now : Option (List ℕ)) (taken : ℕ) → are_others r ≡ true
+    → LinkIs h side failed before now taken → LinkIs (h ++ r) side failed before now taken
 link_on h r side failed before now taken o k =
     along_others (λ z. LinkIs z side failed before now taken) (λ z x n i. link_other z (z ++ x ∷ []) x side failed before now taken refl n i) h r o k
 
-ends_other : (h : List Entry) (x : Entry) (before now : Option (List ℕ)) → is_terminal x.actor ≡ false → LinkEnds h before now → LinkEnds (h ++ x ∷ []) before now
+ends_other : (h : List Entry) (x : Entry) (before now : Option (List ℕ)) → is_terminal x.actor ≡ false → LinkEnds h before now
+    → LinkEnds (h ++ x ∷ []) before now
 ends_other h x before now n k = record {
   frames = k.frames;
   extra = k.extra;
@@ -78,9 +81,12 @@ ends_on h r before now o k = along_others (λ z. LinkEnds z before now) (λ z x 
 
 -- ---- what is asked for
 
-asked_more : (b : Begun) (h : List Entry) (x : Entry) → after asks false h ≡ (run b.state h).asked → after asks false (h ++ x ∷ []) ≡ (run b.state (h ++ x ∷ [])).asked
+asked_more : (b : Begun) (h : List Entry) (x : Entry) → after asks false h ≡ (run b.state h).asked
+    → after asks false (h ++ x ∷ []) ≡ (run b.state (h ++ x ∷ [])).asked
 asked_more b h x e =
-    after-append asks false h (x ∷ []) ∙ (ap (λ (o : Bool). asks_by o x.event) e ∙ (sym (step_moves (run b.state h) x.actor x.event).asks ∙ ap (λ (z : State). z.asked) (sym (run-append b.state h (x ∷ [])))))
+    after-append asks false h (x ∷ [])
+    ∙
+    (ap (λ (o : Bool). asks_by o x.event) e ∙ (sym (step_moves (run b.state h) x.actor x.event).asks ∙ ap (λ (z : State). z.asked) (sym (run-append b.state h (x ∷ [])))))
 
 may_other : (l out : Bool) (a : Actor) → is_terminal a ≡ false → MayAct l out a
 may_other l true (actors.Client p) n = tt
@@ -93,7 +99,8 @@ may_terminal l true (inl e) = absurd (cc)
 may_terminal l true (inr e) = e
 may_terminal l false k = tt
 
-asks_more : (b : Begun) (h : List Entry) (x : Entry) (lost : Bool) → ((l : Bool) → (lost ≡ true → l ≡ true) → MayAct l (after asks false h) x.actor) → AsksStand b h lost → AsksStand b (h ++ x ∷ []) lost
+asks_more : (b : Begun) (h : List Entry) (x : Entry) (lost : Bool) → ((l : Bool) → (lost ≡ true → l ≡ true) → MayAct l (after asks false h) x.actor)
+    → AsksStand b h lost → AsksStand b (h ++ x ∷ []) lost
 asks_more b h x lost may k = record {
   answered = λ l i. along-one (λ out y. MayAct l out y.actor) asks false h x (k.answered l i) (may l i);
   asked' = asked_more b h x k.asked';
@@ -103,9 +110,11 @@ asks_on : (b : Begun) (h r : List Entry) (lost : Bool) → are_others r ≡ true
 asks_on b h r lost o k = along_others (λ z. AsksStand b z lost) (λ z x n i. asks_more b z x lost (λ l j. may_other l (after asks false z) x.actor n) i) h r o k
 
 -- behind its own entry, if nothing was asked for, or a Paint may be missing
-asks_own : (b : Begun) (h : List Entry) (event : Event) (lost : Bool) → ((run b.state h).asked ≡ false) ⊎ (lost ≡ true) → AsksStand b h lost → AsksStand b (h ++ entry actors.Terminal event ∷ []) lost
+asks_own : (b : Begun) (h : List Entry) (event : Event) (lost : Bool) → ((run b.state h).asked ≡ false) ⊎ (lost ≡ true) → AsksStand b h lost
+    → AsksStand b (h ++ entry actors.Terminal event ∷ []) lost
 asks_own b h event lost served k =
-    asks_more b h (entry actors.Terminal event) lost (λ l i. may_terminal l (after asks false h) (elim served [ inl n ↦ inl (k.asked' ∙ n) | inr f ↦ inr (i f) ])) k
+    asks_more b h (entry actors.Terminal event) lost
+    (λ l i. may_terminal l (after asks false h) (elim served [ inl n ↦ inl (k.asked' ∙ n) | inr f ↦ inr (i f) ])) k
 
 asks_lost : (b : Begun) (h : List Entry) (lost more : Bool) → (lost ≡ true → more ≡ true) → AsksStand b h lost → AsksStand b h more
 asks_lost b h lost more i k = record { answered = λ l j. k.answered l (λ e. j (i e)); asked' = k.asked' }
@@ -133,9 +142,11 @@ served_on s [] o l n = n
 served_on s (x ∷ xs) o l n =
     let q = and_parts (not (is_same actors.Terminal x.actor)) (are_others xs) o in
     let p = and_parts (is_ready s x.actor x.event) (is_legal (moved s x) xs) l in
-    served_on (moved s x) xs q.1 p.1 ((step_moves s x.actor x.event).asks ∙ (ap (λ (out : Bool). asks_by out x.event) n ∙ no_ask s x.actor x.event p.0 (not_terminal x.actor q.0)))
+    served_on (moved s x) xs q.1 p.1
+    ((step_moves s x.actor x.event).asks ∙ (ap (λ (out : Bool). asks_by out x.event) n ∙ no_ask s x.actor x.event p.0 (not_terminal x.actor q.0)))
 
-pub served_then : (start : State) (h r : List Entry) → are_others r ≡ true → is_legal (run start h) r ≡ true → (run start h).asked ≡ false → (run start (h ++ r)).asked ≡ false
+pub served_then : (start : State) (h r : List Entry) → are_others r ≡ true → is_legal (run start h) r ≡ true → (run start h).asked ≡ false
+    → (run start (h ++ r)).asked ≡ false
 served_then start h r o l n = ap (λ (z : State). z.asked) (run-append start h r) ∙ served_on (run start h) r o l n
 
 -- whether a Quiet is ready tells whether anything is asked for
@@ -148,17 +159,20 @@ asked_by s a served r e = r ∙ (ap (λ (z : Actor). is_ready s z events.Quiet) 
 
 -- ---- its own entry, by what was told of it
 
-told_sent : (start : State) (a : Actor) (event : Event) (told : Told) (h g : List Entry) → HasEntered start a event told h g → a ≡ actors.Terminal → HasSent start event h g
+told_sent : (start : State) (a : Actor) (event : Event) (told : Told) (h g : List Entry) → HasEntered start a event told h g → a ≡ actors.Terminal
+    → HasSent start event h g
 told_sent start a event told h g k e =
     let P : Actor → Type 0 = λ z. HasEntered start z event told h g in
     let m = subst P e k in
     record { between = m.between; others = m.others; legal = m.legal; entries' = m.entries' }
 
-pub entered_sent : (start : State) (a : Actor) (event : Event) (answer : Option Told) (h g : List Entry) → IfSome answer (λ told. HasEntered start a event told h g) → a ≡ actors.Terminal → is_some answer ≡ true → HasSent start event h g
+pub entered_sent : (start : State) (a : Actor) (event : Event) (answer : Option Told) (h g : List Entry)
+    → IfSome answer (λ told. HasEntered start a event told h g) → a ≡ actors.Terminal → is_some answer ≡ true → HasSent start event h g
 entered_sent start a event None h g k e i = absurd (let both : false ≡ true = i in cc)
 entered_sent start a event (Some told) h g k e i = told_sent start a event told h g k e
 
-pub entered_blocked : (start s : State) (a b : Actor) (event : Event) (answer : Option Told) (h g : List Entry) → IfNone answer (SeesMore start a h g × (is_ready s b event ≡ false)) → a ≡ actors.Terminal → b ≡ actors.Terminal → is_some answer ≡ false
+pub entered_blocked : (start s : State) (a b : Actor) (event : Event) (answer : Option Told) (h g : List Entry)
+    → IfNone answer (SeesMore start a h g × (is_ready s b event ≡ false)) → a ≡ actors.Terminal → b ≡ actors.Terminal → is_some answer ≡ false
     → SeesMore start actors.Terminal h g × (is_ready s actors.Terminal event ≡ false)
 entered_blocked start s a b event None h g k d e i =
     let P : Actor → Type 0 = λ z. SeesMore start z h g in
@@ -168,7 +182,8 @@ entered_blocked start s a b event (Some told) h g k d e i = absurd (let both : t
 
 -- ---- the side
 
-pub goes_on : (b : Begun) (h r : List Entry) (side : Side) (hung broken : Bool) (before left : Option (List ℕ)) (taken : ℕ) → are_others r ≡ true → SideGoes b h side hung broken before left taken → SideGoes b (h ++ r) side hung broken before left taken
+pub goes_on : (b : Begun) (h r : List Entry) (side : Side) (hung broken : Bool) (before left : Option (List ℕ)) (taken : ℕ) → are_others r ≡ true
+    → SideGoes b h side hung broken before left taken → SideGoes b (h ++ r) side hung broken before left taken
 goes_on b h r side hung broken before left taken o k = record {
   link = λ e. link_on h r side hung before left taken o (k.link e);
   link_ends = ends_on h r before left o k.link_ends;
@@ -176,39 +191,58 @@ goes_on b h r side hung broken before left taken o k = record {
 }
 
 -- what others entered meanwhile
-pub goes_seen : (b : Begun) (start : State) (h g : List Entry) (side : Side) (hung broken : Bool) (before left : Option (List ℕ)) (taken : ℕ) → SeesMore start actors.Terminal h g → SideGoes b h side hung broken before left taken → SideGoes b g side hung broken before left taken
+pub goes_seen : (b : Begun) (start : State) (h g : List Entry) (side : Side) (hung broken : Bool) (before left : Option (List ℕ)) (taken : ℕ)
+    → SeesMore start actors.Terminal h g → SideGoes b h side hung broken before left taken → SideGoes b g side hung broken before left taken
 goes_seen b start h g side hung broken before left taken m k =
     let P : List Entry → Type 0 = λ z. SideGoes b z side hung broken before left taken in
     subst P (sym m.entries') (goes_on b h m.between side hung broken before left taken m.others k)
 
 -- the event of a frame that was read
-pub frame_goes : (b : Begun) (h : List Entry) (side : Side) (hung ended : Bool) (before was now : Option (List ℕ)) (taken later : ℕ) (f : Frame) → side.ended ≡ false → (run b.state h).asked ≡ false → ended ≡ ends_link f
+pub frame_goes : (b : Begun) (h : List Entry) (side : Side) (hung ended : Bool) (before was now : Option (List ℕ)) (taken later : ℕ) (f : Frame)
+    → side.ended ≡ false → (run b.state h).asked ≡ false → ended ≡ ends_link f
     → ((text : List ℕ) × (was ≡ then_left text now) × (later ≡ taken + length text) × Answers (Ok f) taken text now)
-    → SideGoes b h side hung false before was taken → SideGoes b (h ++ entry actors.Terminal (sent_by f) ∷ []) (record { ended = ended; end = side.end }) hung false before now later
+    → SideGoes b h side hung false before was taken
+    → SideGoes b (h ++ entry actors.Terminal (sent_by f) ∷ []) (record { ended = ended; end = side.end }) hung false before now later
 frame_goes b h side hung ended before was now taken later f n served d took k =
     let g = h ++ entry actors.Terminal (sent_by f) ∷ [] in
     let l = link_frame h g side hung before was now taken later f ended n refl d took (k.link refl) in
-    record { link = λ e. l; link_ends = link_stays g (record { ended = ended; end = side.end }) hung before now later l; asks = asks_own b h (sent_by f) hung (inl served) k.asks }
+    record {
+      link = λ e. l;
+      link_ends = link_stays g (record { ended = ended; end = side.end }) hung before now later l;
+      asks = asks_own b h (sent_by f) hung (inl served) k.asks;
+    }
 
 -- a hangup where no frame was read
-pub fault_goes : (b : Begun) (h : List Entry) (side : Side) (hung : Bool) (before was now : Option (List ℕ)) (taken later : ℕ) (f : LinkFault) (end : End) → side.ended ≡ false → (run b.state h).asked ≡ false → end ≡ end_for f
+pub fault_goes : (b : Begun) (h : List Entry) (side : Side) (hung : Bool) (before was now : Option (List ℕ)) (taken later : ℕ) (f : LinkFault) (end : End)
+    → side.ended ≡ false → (run b.state h).asked ≡ false → end ≡ end_for f
     → ((text : List ℕ) × (was ≡ then_left text now) × (later ≡ taken + length text) × Answers (Err f) taken text now)
-    → SideGoes b h side hung false before was taken → SideGoes b (h ++ entry actors.Terminal events.Hangup ∷ []) (record { ended = true; end = end }) hung false before now later
+    → SideGoes b h side hung false before was taken
+    → SideGoes b (h ++ entry actors.Terminal events.Hangup ∷ []) (record { ended = true; end = end }) hung false before now later
 fault_goes b h side hung before was now taken later f end n served d took k =
     let g = h ++ entry actors.Terminal events.Hangup ∷ [] in
     let l = link_fault h g side hung before was now taken later f end n refl d took (k.link refl) in
-    record { link = λ e. l; link_ends = link_stays g (record { ended = true; end = end }) hung before now later l; asks = asks_own b h events.Hangup hung (inl served) k.asks }
+    record {
+      link = λ e. l;
+      link_ends = link_stays g (record { ended = true; end = end }) hung before now later l;
+      asks = asks_own b h events.Hangup hung (inl served) k.asks;
+    }
 
 -- a hangup where the terminal has failed
 pub hung_goes : (b : Begun) (h : List Entry) (side : Side) (hung : Bool) (before left : Option (List ℕ)) (taken : ℕ) → side.ended ≡ false
-    → SideGoes b h side hung false before left taken → SideGoes b (h ++ entry actors.Terminal events.Hangup ∷ []) (record { ended = true; end = side.end }) true false before left taken
+    → SideGoes b h side hung false before left taken
+    → SideGoes b (h ++ entry actors.Terminal events.Hangup ∷ []) (record { ended = true; end = side.end }) true false before left taken
 hung_goes b h side hung before left taken n k =
     let g = h ++ entry actors.Terminal events.Hangup ∷ [] in
     let l = link_hung h g side true before left taken n refl refl (link_failed h side hung true before left taken (λ e. refl) (k.link refl)) in
-    record { link = λ e. l; link_ends = link_stays g (record { ended = true; end = side.end }) true before left taken l; asks = asks_own b h events.Hangup true (inr refl) (asks_lost b h hung true (λ e. refl) k.asks) }
+    record {
+      link = λ e. l;
+      link_ends = link_stays g (record { ended = true; end = side.end }) true before left taken l;
+      asks = asks_own b h events.Hangup true (inr refl) (asks_lost b h hung true (λ e. refl) k.asks);
+    }
 
 -- no memory behind what was taken
-pub stops_goes : (b : Begun) (h : List Entry) (side : Side) (hung : Bool) (before was now : Option (List ℕ)) (taken later : ℕ) (r : Result Frame LinkFault) → side.ended ≡ false
+pub stops_goes : (b : Begun) (h : List Entry) (side : Side) (hung : Bool) (before was now : Option (List ℕ)) (taken later : ℕ) (r : Result Frame LinkFault)
+    → side.ended ≡ false
     → ((text : List ℕ) × (was ≡ then_left text now) × (later ≡ taken + length text) × Answers r taken text now)
     → SideGoes b h side hung false before was taken → SideGoes b h side hung true before now later
 stops_goes b h side hung before was now taken later r n took k = record {

@@ -14,7 +14,18 @@ use Rattle.con_threads.specs.Taking.{HasTaken, Covers, kept_all}
 
 module _ {M S E R A Room : Type 0} {g : Ghosts M S E R A Room} where
   pub taken_none : (p : Pass M S E R A Room g) → OwnIsMine (view_of p) → HasTaken (view_of p).kept p p
-  taken_none p mine = record { book = refl; start = refl; actor = refl; opens = refl; made = refl; mine = refl; kept_is = refl; seen = begins_itself (view_of p).seen; own_mine = mine }
+  taken_none p mine =
+      record {
+        book = refl;
+        start = refl;
+        actor = refl;
+        opens = refl;
+        made = refl;
+        mine = refl;
+        kept_is = refl;
+        seen = begins_itself (view_of p).seen;
+        own_mine = mine;
+      }
 
   pub taken_on : (p q r : Pass M S E R A Room g) (ks ls : List (Joined E)) → HasTaken ks p q → HasTaken ls q r → HasTaken ls p r
   taken_on p q r ks ls a b = record {
@@ -30,10 +41,32 @@ module _ {M S E R A Room : Type 0} {g : Ghosts M S E R A Room} where
   }
 
   pub taken_is : (p q : Pass M S E R A Room g) (ks : List (Joined E)) → HasTaken ks p q → HasTaken (view_of q).kept p q
-  taken_is p q ks h = record { book = h.book; start = h.start; actor = h.actor; opens = h.opens; made = h.made; mine = h.mine; kept_is = refl; seen = h.seen; own_mine = h.own_mine }
+  taken_is p q ks h =
+      record {
+        book = h.book;
+        start = h.start;
+        actor = h.actor;
+        opens = h.opens;
+        made = h.made;
+        mine = h.mine;
+        kept_is = refl;
+        seen = h.seen;
+        own_mine = h.own_mine;
+      }
 
   pub taken_as : (p q : Pass M S E R A Room g) (ks ls : List (Joined E)) → ks ≡ ls → HasTaken ks p q → HasTaken ls p q
-  taken_as p q ks ls e h = record { book = h.book; start = h.start; actor = h.actor; opens = h.opens; made = h.made; mine = h.mine; kept_is = h.kept_is ∙ e; seen = h.seen; own_mine = h.own_mine }
+  taken_as p q ks ls e h =
+      record {
+        book = h.book;
+        start = h.start;
+        actor = h.actor;
+        opens = h.opens;
+        made = h.made;
+        mine = h.mine;
+        kept_is = h.kept_is ∙ e;
+        seen = h.seen;
+        own_mine = h.own_mine;
+      }
 
 in_split : {A : Type 0} (k : A) (xs ys : List A) → In k (xs ++ ys) → In k xs ⊎ In k ys
 in_split k [] ys h = inr h
@@ -70,7 +103,8 @@ module _ {C M S E R A Room : Type 0} {g : Ghosts M S E R A Room} (pass : C → P
     pub single : All (λ c. ((view_of (pass c)).opens ≡ false) × ((view_of (pass c)).kept ≡ [])) rest
     pub whole : all ≡ true → All (λ c. (gone c ≡ true) × (broken c ≡ false)) rest → All (λ c. (gone c ≡ true) × (broken c ≡ false)) items
 
-  pub gather_first : (first : Pass M S E R A Room g) (rest items : List C) → OwnIsMine (view_of first) → All (λ c. pass_id (pass c) ≡ pass_id first) items → All (λ c. ((view_of (pass c)).opens ≡ false) × ((view_of (pass c)).kept ≡ [])) items
+  pub gather_first : (first : Pass M S E R A Room g) (rest items : List C) → OwnIsMine (view_of first) → All (λ c. pass_id (pass c) ≡ pass_id first) items
+      → All (λ c. ((view_of (pass c)).opens ≡ false) × ((view_of (pass c)).kept ≡ [])) items
       → rest ≡ items → Gathers first first true rest items
   gather_first first rest items mine books single is = record {
     taken = taken_none first mine;
@@ -82,38 +116,58 @@ module _ {C M S E R A Room : Type 0} {g : Ghosts M S E R A Room} (pass : C → P
   }
 
   -- the first of the rest
-  pub gather_book : (first into : Pass M S E R A Room g) (all : Bool) (rest more items : List C) (x : C) → rest ≡ x ∷ more → Gathers first into all rest items → pass_id (pass x) ≡ pass_id first
-  gather_book first into all rest more items x is h = All-head (λ c. pass_id (pass c) ≡ pass_id first) x more (subst (λ (l : List C). All (λ c. pass_id (pass c) ≡ pass_id first) l) is h.books)
+  pub gather_book : (first into : Pass M S E R A Room g) (all : Bool) (rest more items : List C) (x : C) → rest ≡ x ∷ more → Gathers first into all rest items
+      → pass_id (pass x) ≡ pass_id first
+  gather_book first into all rest more items x is h =
+      All-head (λ c. pass_id (pass c) ≡ pass_id first) x more (subst (λ (l : List C). All (λ c. pass_id (pass c) ≡ pass_id first) l) is h.books)
 
-  pub gather_single : (first into : Pass M S E R A Room g) (all : Bool) (rest more items : List C) (x : C) → rest ≡ x ∷ more → Gathers first into all rest items → ((view_of (pass x)).opens ≡ false) × ((view_of (pass x)).kept ≡ [])
-  gather_single first into all rest more items x is h = All-head (λ c. ((view_of (pass c)).opens ≡ false) × ((view_of (pass c)).kept ≡ [])) x more (subst (λ (l : List C). All (λ c. ((view_of (pass c)).opens ≡ false) × ((view_of (pass c)).kept ≡ [])) l) is h.single)
+  pub gather_single : (first into : Pass M S E R A Room g) (all : Bool) (rest more items : List C) (x : C) → rest ≡ x ∷ more → Gathers first into all rest items
+      → ((view_of (pass x)).opens ≡ false) × ((view_of (pass x)).kept ≡ [])
+  gather_single first into all rest more items x is h =
+      All-head (λ c. ((view_of (pass c)).opens ≡ false) × ((view_of (pass c)).kept ≡ [])) x more
+      (subst (λ (l : List C). All (λ c. ((view_of (pass c)).opens ≡ false) × ((view_of (pass c)).kept ≡ [])) l) is h.single)
 
-  pub gather_next : (first into new : Pass M S E R A Room g) (all still : Bool) (rest more items : List C) (x : C) → rest ≡ x ∷ more → Gathers first into all rest items
-      → HasTaken (joined (view_of (pass x)) ∷ (view_of (pass x)).kept ++ (view_of into).kept) into new → (Covers (view_of (pass x)) → Covers (view_of into) → Covers (view_of new))
+  pub gather_next : (first into new : Pass M S E R A Room g) (all still : Bool) (rest more items : List C) (x : C) → rest ≡ x ∷ more
+      → Gathers first into all rest items
+      → HasTaken (joined (view_of (pass x)) ∷ (view_of (pass x)).kept ++ (view_of into).kept) into new
+      → (Covers (view_of (pass x)) → Covers (view_of into) → Covers (view_of new))
       → (still ≡ true → (all ≡ true) × (gone x ≡ true) × (broken x ≡ false)) → Gathers first new still more items
   gather_next first into new all still rest more items x is h taken covers keeps =
       let single = gather_single first into all rest more items x is h in
       record {
-        taken = taken_is first new (joined (view_of (pass x)) ∷ (view_of (pass x)).kept ++ (view_of into).kept) (taken_on first into new (view_of into).kept (joined (view_of (pass x)) ∷ (view_of (pass x)).kept ++ (view_of into).kept) h.taken taken);
+        taken =
+            taken_is first new (joined (view_of (pass x)) ∷ (view_of (pass x)).kept ++ (view_of into).kept)
+            (taken_on first into new (view_of into).kept (joined (view_of (pass x)) ∷ (view_of (pass x)).kept ++ (view_of into).kept) h.taken taken);
         covers = λ k. covers (covers_none (view_of (pass x)) single.1) (h.covers k);
-        kept = ap (λ (ks : List (Joined E)). kept_all (map (λ c. view_of (pass c)) more) ks) (taken.kept_is ∙ kept_step (view_of (pass x)) (view_of into).kept single.1)
+        kept =
+            ap (λ (ks : List (Joined E)). kept_all (map (λ c. view_of (pass c)) more) ks)
+            (taken.kept_is ∙ kept_step (view_of (pass x)) (view_of into).kept single.1)
             ∙ (sym (ap (λ (l : List C). kept_all (map (λ c. view_of (pass c)) l) (view_of into).kept) is) ∙ h.kept);
         books = All-tail (λ c. pass_id (pass c) ≡ pass_id first) x more (subst (λ (l : List C). All (λ c. pass_id (pass c) ≡ pass_id first) l) is h.books);
-        single = All-tail (λ c. ((view_of (pass c)).opens ≡ false) × ((view_of (pass c)).kept ≡ [])) x more (subst (λ (l : List C). All (λ c. ((view_of (pass c)).opens ≡ false) × ((view_of (pass c)).kept ≡ [])) l) is h.single);
-        whole = λ e rest'. let s = keeps e in h.whole s.0 (subst (λ (l : List C). All (λ c. (gone c ≡ true) × (broken c ≡ false)) l) (sym is) (All-cons (λ c. (gone c ≡ true) × (broken c ≡ false)) x more (s.1, s.2) rest'));
+        single =
+            All-tail (λ c. ((view_of (pass c)).opens ≡ false) × ((view_of (pass c)).kept ≡ [])) x more
+            (subst (λ (l : List C). All (λ c. ((view_of (pass c)).opens ≡ false) × ((view_of (pass c)).kept ≡ [])) l) is h.single);
+        whole =
+            λ e rest'. let s =
+            keeps e in h.whole s.0
+            (subst (λ (l : List C). All (λ c. (gone c ≡ true) × (broken c ≡ false)) l) (sym is) (All-cons (λ c. (gone c ≡ true) × (broken c ≡ false)) x more (s.1, s.2) rest'));
       }
 
   -- none is left
-  pub gather_taken : (first into : Pass M S E R A Room g) (all : Bool) (rest items : List C) → rest ≡ [] → Gathers first into all rest items → HasTaken (kept_all (map (λ c. view_of (pass c)) items) (view_of first).kept) first into
+  pub gather_taken : (first into : Pass M S E R A Room g) (all : Bool) (rest items : List C) → rest ≡ [] → Gathers first into all rest items
+      → HasTaken (kept_all (map (λ c. view_of (pass c)) items) (view_of first).kept) first into
   gather_taken first into all rest items none h = taken_as first into (view_of into).kept (kept_all (map (λ c. view_of (pass c)) items) (view_of first).kept)
       (sym (ap (λ (l : List C). kept_all (map (λ c. view_of (pass c)) l) (view_of into).kept) none) ∙ h.kept) h.taken
 
-  pub gather_gone : (first into : Pass M S E R A Room g) (all : Bool) (rest items : List C) → rest ≡ [] → Gathers first into all rest items → all ≡ true → All (λ c. (gone c ≡ true) × (broken c ≡ false)) items
-  gather_gone first into all rest items none h e = h.whole e (subst (λ (l : List C). All (λ c. (gone c ≡ true) × (broken c ≡ false)) l) (sym none) (All-nil (λ c. (gone c ≡ true) × (broken c ≡ false))))
+  pub gather_gone : (first into : Pass M S E R A Room g) (all : Bool) (rest items : List C) → rest ≡ [] → Gathers first into all rest items → all ≡ true
+      → All (λ c. (gone c ≡ true) × (broken c ≡ false)) items
+  gather_gone first into all rest items none h e =
+      h.whole e (subst (λ (l : List C). All (λ c. (gone c ≡ true) × (broken c ≡ false)) l) (sym none) (All-nil (λ c. (gone c ≡ true) × (broken c ≡ false))))
 
 module _ {M S E R A Room : Type 0} {g : Ghosts M S E R A Room} where
   -- these, and one more
-  pub all_taken : (into mid new : Pass M S E R A Room g) (ws : List (View S E)) (w : View S E) → HasTaken (kept_all ws (view_of into).kept) into mid → HasTaken (joined w ∷ w.kept ++ (view_of mid).kept) mid new
+  pub all_taken : (into mid new : Pass M S E R A Room g) (ws : List (View S E)) (w : View S E) → HasTaken (kept_all ws (view_of into).kept) into mid
+      → HasTaken (joined w ∷ w.kept ++ (view_of mid).kept) mid new
       → (view_of into).kept ≡ [] → w.kept ≡ [] → HasTaken (joined w ∷ kept_all ws []) into new
   all_taken into mid new ws w a b none one = taken_as into new (joined w ∷ w.kept ++ (view_of mid).kept) (joined w ∷ kept_all ws [])
       (kept_step w (view_of mid).kept one ∙ ap (λ (ks : List (Joined E)). joined w ∷ ks) (a.kept_is ∙ ap (λ (ks : List (Joined E)). kept_all ws ks) none))

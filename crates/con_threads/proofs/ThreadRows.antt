@@ -93,7 +93,9 @@ whole_script = by count ∷ side events.Quiet ∷ by (events.Exit 0) ∷ []
 
 -- while it is here a step is still to come
 here_goes : ClientGoes counting 1 (by count ∷ side events.Quiet ∷ []) session_steps false (worker 1 false) [] [] []
-unfolding step effect called settled_state closing began collected took_ctrl left fed quiet resized painted is_due is_ready line_front settled served units_of rest_of is_front whole broken next split_after drawn_by changed ended down shown part_lifted lifted written_on unit_written written heard split_in switches refitted filled free_from ids_from same_view
+unfolding step effect called settled_state closing began collected took_ctrl left fed quiet resized painted is_due is_ready line_front settled served units_of
+    rest_of is_front whole broken next split_after drawn_by changed ended down shown part_lifted lifted written_on unit_written written heard split_in switches
+    refitted filled free_from ids_from same_view
 here_goes = record {
   stands = record {
     follows = (inr refl, tt);
@@ -111,7 +113,9 @@ here_goes = record {
 }
 
 gone_goes : ClientGoes counting 1 whole_script session_steps false (worker 1 true) [] [] []
-unfolding step effect called settled_state closing began collected took_ctrl left fed quiet resized painted is_due is_ready line_front settled served units_of rest_of is_front whole broken next split_after drawn_by changed ended down shown part_lifted lifted written_on unit_written written heard split_in switches refitted filled free_from ids_from same_view
+unfolding step effect called settled_state closing began collected took_ctrl left fed quiet resized painted is_due is_ready line_front settled served units_of
+    rest_of is_front whole broken next split_after drawn_by changed ended down shown part_lifted lifted written_on unit_written written heard split_in switches
+    refitted filled free_from ids_from same_view
 gone_goes = record {
   stands = record {
     follows = (inr refl, (inr refl, tt));
@@ -127,12 +131,16 @@ gone_goes = record {
 
 -- a thread that is gone has entered its exit
 gone_too_early : ClientGoes counting 1 (by count ∷ []) session_steps false (worker 1 true) [] [] [] → ⊥
-unfolding step effect called settled_state closing began collected took_ctrl left fed quiet resized painted is_due is_ready line_front settled served units_of rest_of is_front whole broken next split_after drawn_by changed ended down shown part_lifted lifted written_on unit_written written heard split_in switches refitted filled free_from ids_from same_view
+unfolding step effect called settled_state closing began collected took_ctrl left fed quiet resized painted is_due is_ready line_front settled served units_of
+    rest_of is_front whole broken next split_after drawn_by changed ended down shown part_lifted lifted written_on unit_written written heard split_in switches
+    refitted filled free_from ids_from same_view
 gone_too_early x = let wrong : true ≡ false = (x.worker refl).stance.1 in absurd (cc)
 
 -- and knows which step comes next
 a_step_again : ClientGoes counting 1 (by count ∷ []) session_steps false (worker 0 false) [] [] [] → ⊥
-unfolding step effect called settled_state closing began collected took_ctrl left fed quiet resized painted is_due is_ready line_front settled served units_of rest_of is_front whole broken next split_after drawn_by changed ended down shown part_lifted lifted written_on unit_written written heard split_in switches refitted filled free_from ids_from same_view
+unfolding step effect called settled_state closing began collected took_ctrl left fed quiet resized painted is_due is_ready line_front settled served units_of
+    rest_of is_front whole broken next split_after drawn_by changed ended down shown part_lifted lifted written_on unit_written written heard split_in switches
+    refitted filled free_from ids_from same_view
 a_step_again x = let wrong : [] ≡ session_steps = (x.worker refl).left in absurd (cc)
 
 -- and keeps no handlers
@@ -142,7 +150,9 @@ handlers_kept slot x = let wrong : slot ∷ [] ≡ [] = (x.dropped refl).1 in ab
 -- ---- the terminal's side
 
 sent_behind : HasSent counting.state (events.Feed (codes "x")) [] (by count ∷ side (events.Feed (codes "x")) ∷ [])
-unfolding step effect called settled_state closing began collected took_ctrl left fed quiet resized painted is_due is_ready line_front settled served units_of rest_of is_front whole broken next split_after drawn_by changed ended down shown part_lifted lifted written_on unit_written written heard split_in switches refitted filled free_from ids_from same_view
+unfolding step effect called settled_state closing began collected took_ctrl left fed quiet resized painted is_due is_ready line_front settled served units_of
+    rest_of is_front whole broken next split_after drawn_by changed ended down shown part_lifted lifted written_on unit_written written heard split_in switches
+    refitted filled free_from ids_from same_view
 sent_behind = record { between = by count ∷ []; others = refl; legal = refl; entries' = refl }
 
 -- it hung up while an Ask stood without its Paint, which it may once the terminal has failed
@@ -153,7 +163,9 @@ hung_up_early : AsksStand counting asked_and_gone false → ⊥
 hung_up_early x = let wrong : false ≡ true = (x.answered false (λ e. e)).1.0 in absurd (cc)
 
 hung_up_failed : AsksStand counting asked_and_gone true
-unfolding step effect called settled_state closing began collected took_ctrl left fed quiet resized painted is_due is_ready line_front settled served units_of rest_of is_front whole broken next split_after drawn_by changed ended down shown part_lifted lifted written_on unit_written written heard split_in switches refitted filled free_from ids_from same_view
+unfolding step effect called settled_state closing began collected took_ctrl left fed quiet resized painted is_due is_ready line_front settled served units_of
+    rest_of is_front whole broken next split_after drawn_by changed ended down shown part_lifted lifted written_on unit_written written heard split_in switches
+    refitted filled free_from ids_from same_view
 hung_up_failed = record { answered = λ l e. (tt, (e refl, tt)); asked' = refl }
 
 -- It hung up behind the frame of the link's one byte, though the link was no longer than that: the end is none of a whole link.
@@ -189,7 +201,8 @@ neither : (false ≡ true) ⊎ (false ≡ true) → ⊥
 neither (inl e) = absurd (cc)
 neither (inr e) = absurd (cc)
 
-no_link : (cut : Bool) (fs : List Frame) (extra : List ℕ) → events.Quiet ∷ events.Hangup ∷ [] ≡ map sent_by fs ++ hung cut → Some (81 ∷ []) ≡ then_left (flat_map spelling fs ++ extra) (Some []) → (cut ≡ true → (false ≡ true) ⊎ (false ≡ true)) → ⊥
+no_link : (cut : Bool) (fs : List Frame) (extra : List ℕ) → events.Quiet ∷ events.Hangup ∷ [] ≡ map sent_by fs ++ hung cut
+    → Some (81 ∷ []) ≡ then_left (flat_map spelling fs ++ extra) (Some []) → (cut ≡ true → (false ≡ true) ⊎ (false ≡ true)) → ⊥
 no_link true fs extra a r why = neither (why refl)
 no_link false [] extra a r why = absurd (cc)
 no_link false (f ∷ []) extra a r why = absurd (cc)
@@ -207,7 +220,9 @@ side_not_done x = not_done (x.link refl)
 
 -- a Paint without its frame, where there was no memory
 one_unpainted : DrawsLess counting (paints ∷ []) session.size [] []
-unfolding step effect called settled_state closing began collected took_ctrl left fed quiet resized painted is_due is_ready line_front settled served units_of rest_of is_front whole broken next split_after drawn_by changed ended down shown part_lifted lifted written_on unit_written written heard split_in switches refitted filled free_from ids_from same_view
+unfolding step effect called settled_state closing began collected took_ctrl left fed quiet resized painted is_due is_ready line_front settled served units_of
+    rest_of is_front whole broken next split_after drawn_by changed ended down shown part_lifted lifted written_on unit_written written heard split_in switches
+    refitted filled free_from ids_from same_view
 one_unpainted = record {
   canvas = record {
     pieces = [];
@@ -231,7 +246,9 @@ two_unpainted x = two_counts x.canvas.pieces x.canvas.ends' x.canvas.count
 
 -- where there was memory each Paint has its frame
 frame_dropped : (kept : Kept) → Draws counting (paints ∷ []) session.size kept [] [] 0 → ⊥
-unfolding step effect called settled_state closing began collected took_ctrl left fed quiet resized painted is_due is_ready line_front settled served units_of rest_of is_front whole broken next split_after drawn_by changed ended down shown part_lifted lifted written_on unit_written written heard split_in switches refitted filled free_from ids_from same_view
+unfolding step effect called settled_state closing began collected took_ctrl left fed quiet resized painted is_due is_ready line_front settled served units_of
+    rest_of is_front whole broken next split_after drawn_by changed ended down shown part_lifted lifted written_on unit_written written heard split_in switches
+    refitted filled free_from ids_from same_view
 frame_dropped kept x = x.stands.matched
 
 -- ---- the writer

@@ -41,20 +41,25 @@ module _ {E : Type 0} where
   -- behind all that was seen there is nothing of an actor whose events were all seen
   pub no_rest : (a : ℕ) (log seen rest : List (Logged E)) (mine : List E) → log ≡ seen ++ rest → own a log ≡ mine → own a seen ≡ mine → own a rest ≡ []
   no_rest a log seen rest mine is all some =
-      append_cancel_left (own a seen) (own a rest) [] (sym (own-append a seen rest) ∙ (ap (own a) (sym is) ∙ (all ∙ (sym some ∙ sym (append-nil (own a seen))))))
+      append_cancel_left (own a seen) (own a rest) []
+      (sym (own-append a seen rest) ∙ (ap (own a) (sym is) ∙ (all ∙ (sym some ∙ sym (append-nil (own a seen))))))
 
-  no_rest_after : (a : ℕ) (log seen part rest : List (Logged E)) (mine : List E) → log ≡ seen ++ rest → StartsWith seen part → own a log ≡ mine → own a part ≡ mine → own a rest ≡ []
+  no_rest_after : (a : ℕ) (log seen part rest : List (Logged E)) (mine : List E) → log ≡ seen ++ rest → StartsWith seen part → own a log ≡ mine
+      → own a part ≡ mine → own a rest ≡ []
   no_rest_after a log seen part rest mine is more all some =
-      nil_right (own a more.0) (own a rest) (sym (own-append a more.0 rest) ∙ no_rest a log part (more.0 ++ rest) mine (is ∙ (ap (λ l. l ++ rest) more.1 ∙ append_assoc part more.0 rest)) all some)
+      nil_right (own a more.0) (own a rest)
+      (sym (own-append a more.0 rest) ∙ no_rest a log part (more.0 ++ rest) mine (is ∙ (ap (λ l. l ++ rest) more.1 ∙ append_assoc part more.0 rest)) all some)
 
   none_at_all : (xs : List (Logged E)) → ((a : ℕ) → own a xs ≡ []) → xs ≡ []
   none_at_all [] h = refl
   none_at_all (x ∷ xs) h =
-      let e : cond (eqb x.actor x.actor) (x.event ∷ own x.actor xs) (own x.actor xs) ≡ x.event ∷ own x.actor xs = ap (λ b. cond b (x.event ∷ own x.actor xs) (own x.actor xs)) (eq-eqb x.actor x.actor refl) in
+      let e : cond (eqb x.actor x.actor) (x.event ∷ own x.actor xs) (own x.actor xs) ≡ x.event ∷ own x.actor xs =
+      ap (λ b. cond b (x.event ∷ own x.actor xs) (own x.actor xs)) (eq-eqb x.actor x.actor refl) in
       let k : x.event ∷ own x.actor xs ≡ [] = sym e ∙ h x.actor in cc
 
 -- what a scribe sees more of, by its pass
-pub sees_raw : (n : ℕ) (a : Actor) (s : State) (seen log : List (Logged Event)) (mine : List Event) → numbers.actor_of n ≡ Some a → StartsWith log seen → own n log ≡ mine → own n seen ≡ mine → SeesMore s a (entries_of s seen) (entries_of s log)
+pub sees_raw : (n : ℕ) (a : Actor) (s : State) (seen log : List (Logged Event)) (mine : List Event) → numbers.actor_of n ≡ Some a → StartsWith log seen
+    → own n log ≡ mine → own n seen ≡ mine → SeesMore s a (entries_of s seen) (entries_of s log)
 sees_raw n a s seen log mine is more all some =
     let none = no_rest n log seen more.0 mine more.1 all some in
     let t = run s (entries_of s seen) in
@@ -75,7 +80,8 @@ in_crew (d ∷ ds) ks zero w h = let same : w ≡ d = cc in in_later (joined w) 
 in_crew (d ∷ ds) ks (suc k) w h = in_crew ds (joined d ∷ ks) k w h
 
 -- who is among n, .. 1
-counted_by : (a n : ℕ) (b : Bool) → eqb a (suc n) ≡ b → (cond b true (is_among a (down_from n))) ≡ true → (is_among a (down_from n) ≡ true → (j : ℕ) × (j < n) × (a ≡ j + 1)) → (j : ℕ) × (j < suc n) × (a ≡ j + 1)
+counted_by : (a n : ℕ) (b : Bool) → eqb a (suc n) ≡ b → (cond b true (is_among a (down_from n))) ≡ true
+    → (is_among a (down_from n) ≡ true → (j : ℕ) × (j < n) × (a ≡ j + 1)) → (j : ℕ) × (j < suc n) × (a ≡ j + 1)
 counted_by a n true is h rest = (n, omega arith, (let e : a ≡ suc n = grind (arith, nat_tests) in omega arith))
 counted_by a n false is h rest = let r = rest h in let lt : r.0 < n = r.1 in (r.0, omega arith, r.2)
 
@@ -120,11 +126,13 @@ client_one n p l m = grind (arith, nat_tests)
 abbrev AreOurs : ℕ → List (Logged Event) → Type 0
 AreOurs n log = (x : Logged Event) → In x log → (a : Actor) → numbers.actor_of x.actor ≡ Some a → is_one_of n a ≡ true
 
-front_by : (n : ℕ) (a : Actor) (e : Event) (rest : List Entry) (b : Bool) → is_one_of n a ≡ true → are_of_session n rest ≡ true → are_of_session n ((if b then entry a e ∷ [] else []) ++ rest) ≡ true
+front_by : (n : ℕ) (a : Actor) (e : Event) (rest : List Entry) (b : Bool) → is_one_of n a ≡ true → are_of_session n rest ≡ true
+    → are_of_session n ((if b then entry a e ∷ [] else []) ++ rest) ≡ true
 front_by n a e rest true one k = both_true (is_one_of n a) (are_of_session n rest) one k
 front_by n a e rest false one k = k
 
-front_ours : (n : ℕ) (s : State) (o : Option Actor) (e : Event) → ((a : Actor) → o ≡ Some a → is_one_of n a ≡ true) → (rest : List Entry) → are_of_session n rest ≡ true → are_of_session n (front_of s o e ++ rest) ≡ true
+front_ours : (n : ℕ) (s : State) (o : Option Actor) (e : Event) → ((a : Actor) → o ≡ Some a → is_one_of n a ≡ true) → (rest : List Entry)
+    → are_of_session n rest ≡ true → are_of_session n (front_of s o e ++ rest) ≡ true
 front_ours n s None e f rest k = k
 front_ours n s (Some a) e f rest k = front_by n a e rest (is_ready s a e) (f a refl) k
 
@@ -140,7 +148,8 @@ own_later a y ys false some h = some h
 
 own_first : (x y : Logged Event) (ys : List (Logged Event)) → x ≡ y → own x.actor (y ∷ ys) ≡ [] → ⊥
 own_first x y ys e h =
-    let i : cond (eqb y.actor y.actor) (y.event ∷ own y.actor ys) (own y.actor ys) ≡ y.event ∷ own y.actor ys = ap (λ b. cond b (y.event ∷ own y.actor ys) (own y.actor ys)) (eq-eqb y.actor y.actor refl) in
+    let i : cond (eqb y.actor y.actor) (y.event ∷ own y.actor ys) (own y.actor ys) ≡ y.event ∷ own y.actor ys =
+    ap (λ b. cond b (y.event ∷ own y.actor ys) (own y.actor ys)) (eq-eqb y.actor y.actor refl) in
     let k : y.event ∷ own y.actor ys ≡ [] = sym i ∙ (ap (λ (z : Logged Event). own z.actor (y ∷ ys)) (sym e) ∙ h) in cc
 
 own_in : (x : Logged Event) (xs : List (Logged Event)) → In x xs → own x.actor xs ≡ [] → ⊥
@@ -150,7 +159,8 @@ own_in x (y ∷ ys) i h = ⊎_elim (λ e. own_first x y ys e h) (λ t. own_later
 some_is : (a b : Actor) (o : Option Actor) → o ≡ Some a → o ≡ Some b → b ≡ a
 some_is a b o p q = let e : Some b ≡ Some a = sym q ∙ p in cc
 
-module _ {M R A Room : Type 0} {g : Ghosts M Page Event R A Room} (state : M → Page) (id : BookId) (n : ℕ) (opening new last : Pass M Page Event R A Room g) (side : View Page Event) (clients : List (View Page Event))
+module _ {M R A Room : Type 0} {g : Ghosts M Page Event R A Room} (state : M → Page) (id : BookId) (n : ℕ) (opening new last : Pass M Page Event R A Room g)
+    (side : View Page Event) (clients : List (View Page Event))
     (h : IsGathered id (view_of opening).start n opening last side clients) (taken : HasTaken (joined (view_of last) ∷ (view_of last).kept ++ (view_of opening).kept) opening new)
     (log : List (Logged Event)) (machine : M) (ends : Ends state next_page page_ready (view_of new) log machine) where
   abbrev start : Page
@@ -160,7 +170,10 @@ module _ {M R A Room : Type 0} {g : Ghosts M Page Event R A Room} (state : M →
   pv = view_of last
 
   kept_is : (view_of new).kept ≡ joined pv ∷ pv.kept
-  kept_is = taken.kept_is ∙ (ap (λ (l : List (Joined Event)). joined pv ∷ pv.kept ++ l) h.opening'.none_kept ∙ ap (λ (l : List (Joined Event)). joined pv ∷ l) (append-nil pv.kept))
+  kept_is =
+      taken.kept_is
+      ∙
+      (ap (λ (l : List (Joined Event)). joined pv ∷ pv.kept ++ l) h.opening'.none_kept ∙ ap (λ (l : List (Joined Event)). joined pv ∷ l) (append-nil pv.kept))
 
   own_log : (k : Joined Event) → In k (joined pv ∷ pv.kept) → own k.actor log ≡ k.mine
   own_log k i = ends.joined_mine k (subst (λ (l : List (Joined Event)). In k l) (sym kept_is) i)
@@ -216,7 +229,8 @@ module _ {M R A Room : Type 0} {g : Ghosts M Page Event R A Room} (state : M →
       (or_cases (eqb a 0) (is_among a (view_of new).made) is)
 
   pub all_seen : log ≡ pv.seen
-  all_seen = seen_is.1 ∙ (ap (λ (l : List (Logged Event)). pv.seen ++ l) (none_at_all seen_is.0 (λ a. of_any a (has_pass a (view_of new)) refl)) ∙ append-nil pv.seen)
+  all_seen =
+      seen_is.1 ∙ (ap (λ (l : List (Logged Event)). pv.seen ++ l) (none_at_all seen_is.0 (λ a. of_any a (has_pass a (view_of new)) refl)) ∙ append-nil pv.seen)
 
   -- whose the entries are
   ours_made : (a : ℕ) (b : Actor) → numbers.actor_of a ≡ Some b → is_among a (1001 ∷ 1000 ∷ down_from n) ≡ true → is_one_of n b ≡ true
@@ -227,11 +241,13 @@ module _ {M R A Room : Type 0} {g : Ghosts M Page Event R A Room} (state : M →
       (λ u. let r = counted a n u in
       let lt : r.0 < n = r.1 in
       let few = h.few in
-      ap (is_one_of n) (some_is (actors.Client (r.0 + 1)) b (numbers.actor_of a) (ap numbers.actor_of r.2 ∙ client_number r.0 (omega arith)) is) ∙ client_one n (r.0 + 1) (omega arith) (omega arith))
+      ap (is_one_of n) (some_is (actors.Client (r.0 + 1)) b (numbers.actor_of a) (ap numbers.actor_of r.2 ∙ client_number r.0 (omega arith)) is)
+      ∙ client_one n (r.0 + 1) (omega arith) (omega arith))
       (or_cases (eqb a 1000) (is_among a (down_from n)) t))
       (or_cases (eqb a 1001) (is_among a (1000 ∷ down_from n)) m)
 
-  ours_by : (x : Logged Event) → In x log → (b : Actor) → numbers.actor_of x.actor ≡ Some b → (c : Bool) → has_pass x.actor (view_of new) ≡ c → is_one_of n b ≡ true
+  ours_by : (x : Logged Event) → In x log → (b : Actor) → numbers.actor_of x.actor ≡ Some b → (c : Bool) → has_pass x.actor (view_of new) ≡ c
+      → is_one_of n b ≡ true
   ours_by x i b is false e = absurd (own_in x log i (ends.no_others x.actor e))
   ours_by x i b is true e = ⊎_elim
       (λ z. absurd (own_in x log i (ap (λ (m : ℕ). own m log) (test_is x.actor 0 z) ∙ of_first)))
@@ -241,11 +257,15 @@ module _ {M R A Room : Type 0} {g : Ghosts M Page Event R A Room} (state : M →
   numbered : are_of_session n (entries_of start.state log) ≡ true
   numbered = all_ours n start.state log (λ x i b is. ours_by x i b is (has_pass x.actor (view_of new)) refl)
 
-  sees : (m : ℕ) (a : Actor) (w : View Page Event) → In (joined w) pv.kept → IsOf start m w → numbers.actor_of m ≡ Some a → SeesMore start.state a (entries_of start.state w.seen) (entries_of start.state log)
-  sees m a w i k is = sees_raw m a start.state w.seen log w.mine is (seen_log (joined w) (inr i)) (ap (λ (z : ℕ). own z log) (sym k.actor) ∙ own_log (joined w) (inr i)) (ap (λ (z : ℕ). own z w.seen) (sym k.actor) ∙ k.own_mine)
+  sees : (m : ℕ) (a : Actor) (w : View Page Event) → In (joined w) pv.kept → IsOf start m w → numbers.actor_of m ≡ Some a
+      → SeesMore start.state a (entries_of start.state w.seen) (entries_of start.state log)
+  sees m a w i k is =
+      sees_raw m a start.state w.seen log w.mine is (seen_log (joined w) (inr i)) (ap (λ (z : ℕ). own z log) (sym k.actor) ∙ own_log (joined w) (inr i))
+      (ap (λ (z : ℕ). own z w.seen) (sym k.actor) ∙ k.own_mine)
 
   -- all that is said of it
-  pub history : (es : List Entry) (rs : List Reply) → es ≡ entries_of start.state log → rs ≡ map listed (replies_of start.state (entries_of start.state log)) → IsHistory start n pv side clients es rs
+  pub history : (es : List Entry) (rs : List Reply) → es ≡ entries_of start.state log → rs ≡ map listed (replies_of start.state (entries_of start.state log))
+      → IsHistory start n pv side clients es rs
   history es rs e r =
       let P : List Entry → Type 0 = λ z. IsHistory start n pv side clients z rs in
       subst P (sym e) (record {
@@ -254,11 +274,15 @@ module _ {M R A Room : Type 0} {g : Ghosts M Page Event R A Room} (state : M →
         replies = r;
         numbered = numbered;
         side' = sees 1000 actors.Terminal side in_side h.side' refl;
-        clients' = λ k w is. let lt : k < length clients = slice_get_within clients k w is in let m = h.len in let few = h.few in sees (k + 1) (actors.Client (k + 1)) w (in_client k w is) (h.clients' k w is) (client_number k (omega arith));
+        clients' =
+            λ k w is. let lt : k < length clients =
+            slice_get_within clients k w is in let m =
+            h.len in let few = h.few in sees (k + 1) (actors.Client (k + 1)) w (in_client k w is) (h.clients' k w is) (client_number k (omega arith));
       })
 
 -- as many passes were taken in as were given
-pub may_close : {M R A Room : Type 0} {g : Ghosts M Page Event R A Room} (id : BookId) (opening new last : Pass M Page Event R A Room g) → MayClose id opening last → HasTaken (joined (view_of last) ∷ (view_of last).kept ++ (view_of opening).kept) opening new
+pub may_close : {M R A Room : Type 0} {g : Ghosts M Page Event R A Room} (id : BookId) (opening new last : Pass M Page Event R A Room g)
+    → MayClose id opening last → HasTaken (joined (view_of last) ∷ (view_of last).kept ++ (view_of opening).kept) opening new
     → length (view_of new).kept ≡ length (view_of new).made
 may_close id opening new last h taken =
     let ks = (view_of last).kept in
@@ -270,7 +294,9 @@ may_close id opening new last h taken =
     omega (arith, a, b, m, n)
 
 -- the log of the ledger that a closed book leaves
-pub log_is : {M R A Room : Type 0} {g : Ghosts M Page Event R A Room} (state : M → Page) (ks : List (Joined Event)) (opening new : Pass M Page Event R A Room g) (log : List (Logged Event)) (machine : M) → HasTaken ks opening new → (view_of opening).start.replies ≡ []
+pub log_is : {M R A Room : Type 0} {g : Ghosts M Page Event R A Room} (state : M → Page) (ks : List (Joined Event))
+    (opening new : Pass M Page Event R A Room g) (log : List (Logged Event)) (machine : M)
+    → HasTaken ks opening new → (view_of opening).start.replies ≡ []
     → Ends state next_page page_ready (view_of new) log machine → IsLogOf (view_of opening).start log (state machine)
 log_is state ks opening new log machine taken none ends = record {
   none_before = none;

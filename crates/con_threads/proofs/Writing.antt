@@ -32,13 +32,15 @@ pub written_any : (before now : Option (List ℕ)) (ps : List (List ℕ)) (faile
 written_any before now ps failed w = record { count = w.count; most = w.most; front = w.front; whole = λ e. absurd (cc) }
 
 -- one that was written whole
-pub written_whole : (before now later : Option (List ℕ)) (ps : List (List ℕ)) (p slice : List ℕ) → slice ≡ p → Written before now ps false → later ≡ then_written now slice → Written before later (ps ++ p ∷ []) false
+pub written_whole : (before now later : Option (List ℕ)) (ps : List (List ℕ)) (p slice : List ℕ) → slice ≡ p → Written before now ps false
+    → later ≡ then_written now slice → Written before later (ps ++ p ∷ []) false
 written_whole before now later ps p slice s w e =
     let n : ℕ = length p in
     written_more before now later ps p n false w (omega arith) (e ∙ ap (λ (x : List ℕ). then_written now x) (s ∙ sym (take-length p))) (λ f. refl)
 
 -- one of which a front was written
-pub written_part : (before now later : Option (List ℕ)) (ps : List (List ℕ)) (p slice : List ℕ) → slice ≡ p → Written before now ps false → WroteFront slice now later → Written before later (ps ++ p ∷ []) true
+pub written_part : (before now later : Option (List ℕ)) (ps : List (List ℕ)) (p slice : List ℕ) → slice ≡ p → Written before now ps false
+    → WroteFront slice now later → Written before later (ps ++ p ∷ []) true
 written_part before now later ps p slice s w f =
     let P : List ℕ → Type 0 = λ x. WroteFront x now later in
     let q = subst P s f in
@@ -57,39 +59,48 @@ or_none : (failed broken : Bool) → failed ≡ false → broken ≡ false → (
 or_none failed broken e f = ap (λ (b : Bool). b || broken) e ∙ f
 
 -- it writes none
-pub writes_none : (before now : Option (List ℕ)) (ps : List (List ℕ)) (p : List ℕ) (done : Bool) → done ≡ true → Written before now ps done → Written before now (ps ++ p ∷ []) done
+pub writes_none : (before now : Option (List ℕ)) (ps : List (List ℕ)) (p : List ℕ) (done : Bool) → done ≡ true → Written before now ps done
+    → Written before now (ps ++ p ∷ []) done
 writes_none before now ps p done e w =
     let P : Bool → Type 0 = λ b. Written before now ps b in
     let Q : Bool → Type 0 = λ b. Written before now (ps ++ p ∷ []) b in
     subst Q (sym e) (written_less before now ps p (subst P e w))
 
-pub writes_failed : (before now : Option (List ℕ)) (ps : List (List ℕ)) (p : List ℕ) (failed broken : Bool) → failed ≡ true → Writes before now ps failed broken → Writes before now (ps ++ p ∷ []) failed broken
+pub writes_failed : (before now : Option (List ℕ)) (ps : List (List ℕ)) (p : List ℕ) (failed broken : Bool) → failed ≡ true → Writes before now ps failed broken
+    → Writes before now (ps ++ p ∷ []) failed broken
 writes_failed before now ps p failed broken e w = writes_none before now ps p (failed || broken) (or_left failed broken e) w
 
-pub writes_broken : (before now : Option (List ℕ)) (ps : List (List ℕ)) (p : List ℕ) (failed broken : Bool) → broken ≡ true → Writes before now ps failed broken → Writes before now (ps ++ p ∷ []) failed broken
+pub writes_broken : (before now : Option (List ℕ)) (ps : List (List ℕ)) (p : List ℕ) (failed broken : Bool) → broken ≡ true → Writes before now ps failed broken
+    → Writes before now (ps ++ p ∷ []) failed broken
 writes_broken before now ps p failed broken e w = writes_none before now ps p (failed || broken) (or_right failed broken e) w
 
-fine : (before now : Option (List ℕ)) (ps : List (List ℕ)) (failed broken : Bool) → failed ≡ false → broken ≡ false → Writes before now ps failed broken → Written before now ps false
+fine : (before now : Option (List ℕ)) (ps : List (List ℕ)) (failed broken : Bool) → failed ≡ false → broken ≡ false → Writes before now ps failed broken
+    → Written before now ps false
 fine before now ps failed broken e f w = let P : Bool → Type 0 = λ b. Written before now ps b in subst P (or_none failed broken e f) w
 
 -- it writes one whole
-pub writes_whole : (before now later : Option (List ℕ)) (ps : List (List ℕ)) (p slice : List ℕ) (failed broken : Bool) → failed ≡ false → broken ≡ false → slice ≡ p → later ≡ then_written now slice → Writes before now ps failed broken → Writes before later (ps ++ p ∷ []) failed broken
+pub writes_whole : (before now later : Option (List ℕ)) (ps : List (List ℕ)) (p slice : List ℕ) (failed broken : Bool) → failed ≡ false → broken ≡ false
+    → slice ≡ p → later ≡ then_written now slice → Writes before now ps failed broken → Writes before later (ps ++ p ∷ []) failed broken
 writes_whole before now later ps p slice failed broken e f s l w =
     let Q : Bool → Type 0 = λ b. Written before later (ps ++ p ∷ []) b in
     subst Q (sym (or_none failed broken e f)) (written_whole before now later ps p slice s (fine before now ps failed broken e f w) l)
 
 -- it writes one in part, at most
-pub writes_part : (before now later : Option (List ℕ)) (ps : List (List ℕ)) (p slice : List ℕ) (failed broken done : Bool) → done ≡ true → failed ≡ false → broken ≡ false → slice ≡ p → WroteFront slice now later → Writes before now ps failed broken → Written before later (ps ++ p ∷ []) done
+pub writes_part : (before now later : Option (List ℕ)) (ps : List (List ℕ)) (p slice : List ℕ) (failed broken done : Bool) → done ≡ true → failed ≡ false
+    → broken ≡ false → slice ≡ p → WroteFront slice now later → Writes before now ps failed broken → Written before later (ps ++ p ∷ []) done
 writes_part before now later ps p slice failed broken done d e f s l w =
     let Q : Bool → Type 0 = λ b. Written before later (ps ++ p ∷ []) b in
     subst Q (sym d) (written_part before now later ps p slice s (fine before now ps failed broken e f w) l)
 
 -- it goes on taking
 pub writes_on : (before was now : Option (List ℕ)) (ps qs : List (List ℕ)) (p : List ℕ) (failed broken failed' broken' : Bool) → qs ≡ ps ++ p ∷ []
-    → (Writes before was ps failed broken → Writes before now (ps ++ p ∷ []) failed' broken') → Writes before was ps failed broken → Writes before now qs failed' broken'
-writes_on before was now ps qs p failed broken failed' broken' e f w = let P : List (List ℕ) → Type 0 = λ x. Writes before now x failed' broken' in subst P (sym e) (f w)
+    → (Writes before was ps failed broken → Writes before now (ps ++ p ∷ []) failed' broken') → Writes before was ps failed broken
+    → Writes before now qs failed' broken'
+writes_on before was now ps qs p failed broken failed' broken' e f w =
+    let P : List (List ℕ) → Type 0 = λ x. Writes before now x failed' broken' in subst P (sym e) (f w)
 
-pub writes_still : (before now : Option (List ℕ)) (ps qs : List (List ℕ)) (failed broken : Bool) → qs ≡ ps → Writes before now ps failed broken → Writes before now qs failed broken
+pub writes_still : (before now : Option (List ℕ)) (ps qs : List (List ℕ)) (failed broken : Bool) → qs ≡ ps → Writes before now ps failed broken
+    → Writes before now qs failed broken
 writes_still before now ps qs failed broken e w = let P : List (List ℕ) → Type 0 = λ x. Writes before now x failed broken in subst P (sym e) w
 
 rose_later : (a b c : ℕ) → Rose a b → b ≤ c → Rose a c
@@ -99,35 +110,49 @@ pub rose_before : (a b c : ℕ) → a ≤ b → Rose b c → Rose a c
 rose_before a b c l r = elim r [ inl x ↦ inl (omega arith) | inr x ↦ inr x ]
 
 -- a failure has its cause
-pub fails_on : (old was now : Bool) (a b c : ℕ) → (was ≡ true → (old ≡ true) ⊎ Rose a b) → a ≤ b → (now ≡ true → (was ≡ true) ⊎ Rose b c) → b ≤ c → now ≡ true → (old ≡ true) ⊎ Rose a c
-fails_on old was now a b c f l k m e = elim (k e) [ inl x ↦ elim (f x) [ inl y ↦ inl y | inr r ↦ inr (rose_later a b c r m) ] | inr r ↦ inr (rose_before a b c l r) ]
+pub fails_on : (old was now : Bool) (a b c : ℕ) → (was ≡ true → (old ≡ true) ⊎ Rose a b) → a ≤ b → (now ≡ true → (was ≡ true) ⊎ Rose b c) → b ≤ c → now ≡ true
+    → (old ≡ true) ⊎ Rose a c
+fails_on old was now a b c f l k m e =
+    elim (k e) [ inl x ↦ elim (f x) [ inl y ↦ inl y | inr r ↦ inr (rose_later a b c r m) ] | inr r ↦ inr (rose_before a b c l r) ]
 
 -- ---- the pieces of a painter, written
 
 -- all of them, to a sink that had nothing
 pub all_written : (ps : List (List ℕ)) → Written (Some []) (Some (joined ps)) ps false
-all_written ps = let n : ℕ = length (joined ps) in record { count = n; most = omega arith; front = ap (λ (x : List ℕ). Some x) (sym (take-length (joined ps))); whole = λ e. refl }
+all_written ps =
+    let n : ℕ = length (joined ps) in
+    record { count = n; most = omega arith; front = ap (λ (x : List ℕ). Some x) (sym (take-length (joined ps))); whole = λ e. refl }
 
-pub drawn_written : (b : Begun) (h : List Entry) (size : Size) (kept : Kept) (ps : List (List ℕ)) (ends : List ℕ) (end : ℕ) (before now : Option (List ℕ)) (failed : Bool) → Draws b h size kept ps ends end → Written before now ps failed → CanvasIs b h size kept ps ends end before now failed
+pub drawn_written : (b : Begun) (h : List Entry) (size : Size) (kept : Kept) (ps : List (List ℕ)) (ends : List ℕ) (end : ℕ) (before now : Option (List ℕ))
+    (failed : Bool)
+    → Draws b h size kept ps ends end → Written before now ps failed → CanvasIs b h size kept ps ends end before now failed
 drawn_written b h size kept ps ends end before now failed k w = record { stands = k.stands; written = w; ends' = k.ends'; end' = k.end' }
 
-pub written_drawn : (b : Begun) (h : List Entry) (size : Size) (kept : Kept) (ps : List (List ℕ)) (ends : List ℕ) (end : ℕ) (before now : Option (List ℕ)) (failed : Bool) → CanvasIs b h size kept ps ends end before now failed → Draws b h size kept ps ends end
+pub written_drawn : (b : Begun) (h : List Entry) (size : Size) (kept : Kept) (ps : List (List ℕ)) (ends : List ℕ) (end : ℕ) (before now : Option (List ℕ))
+    (failed : Bool)
+    → CanvasIs b h size kept ps ends end before now failed → Draws b h size kept ps ends end
 written_drawn b h size kept ps ends end before now failed k = record { stands = k.stands; written = all_written ps; ends' = k.ends'; end' = k.end' }
 
-pub less_written : (b : Begun) (h : List Entry) (size : Size) (ps : List (List ℕ)) (ends : List ℕ) (before now : Option (List ℕ)) (failed : Bool) → DrawsLess b h size ps ends → Written before now ps failed → CanvasEnds b h size ends before now
+pub less_written : (b : Begun) (h : List Entry) (size : Size) (ps : List (List ℕ)) (ends : List ℕ) (before now : Option (List ℕ)) (failed : Bool)
+    → DrawsLess b h size ps ends → Written before now ps failed → CanvasEnds b h size ends before now
 less_written b h size ps ends before now failed k w =
     let P : List (List ℕ) → Type 0 = λ x. Written before now x failed in
     let c = k.canvas in
     record { pieces = c.pieces; each = c.each; ends' = c.ends'; count = c.count; failed = failed; written = subst P (sym k.pieces') w }
 
 -- Behind a pipe whose pieces were all taken: what the painter put is written by the writer.
-pub piped : (b : Begun) (h : List Entry) (size : Size) (kept : Kept) (put taken : List (List ℕ)) (ends : List ℕ) (end : ℕ) (before now : Option (List ℕ)) (failed broken : Bool) → taken ≡ put
+pub piped : (b : Begun) (h : List Entry) (size : Size) (kept : Kept) (put taken : List (List ℕ)) (ends : List ℕ) (end : ℕ) (before now : Option (List ℕ))
+    (failed broken : Bool)
+    → taken ≡ put
     → Draws b h size kept put ends end → Writes before now taken failed broken → CanvasIs b h size kept put ends end before now (failed || broken)
 piped b h size kept put taken ends end before now failed broken e k w =
-    let P : List (List ℕ) → Type 0 = λ x. Written before now x (failed || broken) in drawn_written b h size kept put ends end before now (failed || broken) k (subst P e w)
+    let P : List (List ℕ) → Type 0 = λ x. Written before now x (failed || broken) in
+    drawn_written b h size kept put ends end before now (failed || broken) k (subst P e w)
 
 -- and where there was no memory
-pub piped_less : (b : Begun) (h : List Entry) (size : Size) (put taken : List (List ℕ)) (ends : List ℕ) (before now : Option (List ℕ)) (failed broken : Bool) → taken ≡ put
+pub piped_less : (b : Begun) (h : List Entry) (size : Size) (put taken : List (List ℕ)) (ends : List ℕ) (before now : Option (List ℕ)) (failed broken : Bool)
+    → taken ≡ put
     → DrawsLess b h size put ends → Writes before now taken failed broken → CanvasEnds b h size ends before now
 piped_less b h size put taken ends before now failed broken e k w =
-    let P : List (List ℕ) → Type 0 = λ x. Written before now x (failed || broken) in less_written b h size put ends before now (failed || broken) k (subst P e w)
+    let P : List (List ℕ) → Type 0 = λ x. Written before now x (failed || broken) in
+    less_written b h size put ends before now (failed || broken) k (subst P e w)

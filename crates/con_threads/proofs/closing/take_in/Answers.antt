@@ -18,4 +18,5 @@ returns-clause-taken c =
     }
 
 pub returns-clause-covers : goal.returns-clause-covers
-returns-clause-covers c = λ w v. covers_both (view_of c.args.into.now) (view_of c.args.other) (view_of c.join.new.into) w v (λ i. (c.join.ensures.both i).kept) c.join.ensures.seen
+returns-clause-covers c =
+    λ w v. covers_both (view_of c.args.into.now) (view_of c.args.other) (view_of c.join.new.into) w v (λ i. (c.join.ensures.both i).kept) c.join.ensures.seen

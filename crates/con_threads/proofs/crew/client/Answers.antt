@@ -11,4 +11,7 @@ pub new-requires-clause-named : goal.new-requires-clause-named
 new-requires-clause-named g c = client_named c.args.number c.requires.real (search rules)
 
 pub returns-clause-client : goal.returns-clause-client
-returns-clause-client g c = client_begins c.args.number c.args.opening.now c.args.script.now _ c.requires.real c.new.ensures.book c.new.ensures.view c.new.ensures.scribe c.new.ensures.actor.0 c.new.ensures.history.1 refl (search rules) refl
+returns-clause-client g c =
+    client_begins c.args.number c.args.opening.now c.args.script.now _ c.requires.real c.new.ensures.book c.new.ensures.view c.new.ensures.scribe
+    c.new.ensures.actor.0 c.new.ensures.history.1 refl
+    (search rules) refl

@@ -4,4 +4,5 @@ use Rattle.con_threads.proofs.Taking.{Gathers}
 use Rattle.con_threads.proofs.gather.gather.Given as goal
 
 abbrev pub invariant-loop-client : goal.invariant-loop-client
-invariant-loop-client g l = Gathers (λ c. c.scribe.pass) (λ c. c.seat.worker.gone) (λ c. c.broken) l.fn.into l.into l.all (into_iter_items l.client-iterator) l.fn.crew.items
+invariant-loop-client g l =
+    Gathers (λ c. c.scribe.pass) (λ c. c.seat.worker.gone) (λ c. c.broken) l.fn.into l.into l.all (into_iter_items l.client-iterator) l.fn.crew.items

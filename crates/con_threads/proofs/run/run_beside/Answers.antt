@@ -28,8 +28,12 @@ beside-requires-send-F g c κs within = closure_send 1 _ no _ (
     ∷ ShrRef (named 8) κs.1.1.1.1.1.1.1.1.0 (book.the_row ledger.the_row page.the_row event.the_row told.the_row brief.the_row room.the_row machine.ghosts)
     ∷ ShrRef (named 9) κs.1.1.1.1.1.1.1.1.1.0 signals.the_row
     ∷ ShrRef (named 10) κs.1.1.1.1.1.1.1.1.1.1.0 (param 3 g.row.G)
-    ∷ MutSlice (named 11) κs.1.1.1.1.1.1.1.1.1.1.1.0 (client.the_row (record { mir = named 12; lft = κs.1.1.1.1.1.1.1.1.1.1.1.1.0 }) (Vt (dyn.slots g.row.R g.row.I g.row.O g.row.G) g.dyn-1.0) (ghosts_of (dyn.slots g.row.R g.row.I g.row.O g.row.G) g.dyn-1.0 g.dyn-1.1))
-    ∷ []) (shr_send _ _ _ c.type_bounds.sync-R, (shr_send _ _ _ book_sync, (shr_send _ _ _ signals_sync, (shr_send _ _ _ c.type_bounds.sync-G, (mut_slice_send _ _ _ (client_send (Vt (dyn.slots g.row.R g.row.I g.row.O g.row.G) g.dyn-1.0) (ghosts_of (dyn.slots g.row.R g.row.I g.row.O g.row.G) g.dyn-1.0 g.dyn-1.1) g.dyn-1.2 (search sendable depth 20) _), tt)))))
+    ∷ MutSlice (named 11) κs.1.1.1.1.1.1.1.1.1.1.1.0
+    (client.the_row (record { mir = named 12; lft = κs.1.1.1.1.1.1.1.1.1.1.1.1.0 }) (Vt (dyn.slots g.row.R g.row.I g.row.O g.row.G) g.dyn-1.0) (ghosts_of (dyn.slots g.row.R g.row.I g.row.O g.row.G) g.dyn-1.0 g.dyn-1.1))
+    ∷ []) (
+      shr_send _ _ _ c.type_bounds.sync-R,
+      (shr_send _ _ _ book_sync, (shr_send _ _ _ signals_sync, (shr_send _ _ _ c.type_bounds.sync-G, (mut_slice_send _ _ _ (client_send (Vt (dyn.slots g.row.R g.row.I g.row.O g.row.G) g.dyn-1.0) (ghosts_of (dyn.slots g.row.R g.row.I g.row.O g.row.G) g.dyn-1.0 g.dyn-1.1) g.dyn-1.2 (search sendable depth 20) _), tt)))),
+    )
 
 pub returns-clause-clients : goal.returns-clause-clients
 returns-clause-clients g c = let m = c.beside.ensures.0.met in served_lent _ _ _ _ _ _ m.0.4 c.clients-1.given.1.1 m.1

@@ -23,7 +23,9 @@ use Rattle.con_threads.proofs.Crosses.{book_sync, client_send, signals_sync}
 use Rattle.con_threads.proofs.run.run_clients.Goals as goal
 
 pub each_beside-requires-send-T : goal.each_beside-requires-send-T
-each_beside-requires-send-T g c κs within = param_send 1 _ (arg_send _ no (client.the_row (record { mir = named 5; lft = κs.1.1.1.1.1.0 }) (Vt (dyn.slots g.row.R g.row.G) g.dyn-1.0) (ghosts_of (dyn.slots g.row.R g.row.G) g.dyn-1.0 g.dyn-1.1)) (client_send (Vt (dyn.slots g.row.R g.row.G) g.dyn-1.0) (ghosts_of (dyn.slots g.row.R g.row.G) g.dyn-1.0 g.dyn-1.1) g.dyn-1.2 (search sendable depth 20) _))
+each_beside-requires-send-T g c κs within =
+    param_send 1 _
+    (arg_send _ no (client.the_row (record { mir = named 5; lft = κs.1.1.1.1.1.0 }) (Vt (dyn.slots g.row.R g.row.G) g.dyn-1.0) (ghosts_of (dyn.slots g.row.R g.row.G) g.dyn-1.0 g.dyn-1.1)) (client_send (Vt (dyn.slots g.row.R g.row.G) g.dyn-1.0) (ghosts_of (dyn.slots g.row.R g.row.G) g.dyn-1.0 g.dyn-1.1) g.dyn-1.2 (search sendable depth 20) _))
 
 pub each_beside-requires-sync-F : goal.each_beside-requires-sync-F
 each_beside-requires-sync-F g c κs within = closure_sync 2 _ no _ (

@@ -25,4 +25,7 @@ beside-requires-send-F g c κs within = closure_send 1 _ no _ (
     ∷ ShrRef (named 9) κs.1.1.1.1.1.1.1.1.1.0 (book.the_row ledger.the_row page.the_row event.the_row told.the_row brief.the_row room.the_row machine.ghosts)
     ∷ ShrRef (named 10) κs.1.1.1.1.1.1.1.1.1.1.0 signals.the_row
     ∷ MutRef (named 11) κs.1.1.1.1.1.1.1.1.1.1.1.0 (param 1 g.row.I)
-    ∷ []) (mut_send _ _ _ side_thread_send, (shr_send _ _ _ c.type_bounds.sync-R, (shr_send _ _ _ book_sync, (shr_send _ _ _ signals_sync, (mut_send _ _ _ c.type_bounds.send-I, tt)))))
+    ∷ []) (
+      mut_send _ _ _ side_thread_send,
+      (shr_send _ _ _ c.type_bounds.sync-R, (shr_send _ _ _ book_sync, (shr_send _ _ _ signals_sync, (mut_send _ _ _ c.type_bounds.send-I, tt)))),
+    )

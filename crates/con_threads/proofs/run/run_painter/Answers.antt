@@ -29,4 +29,7 @@ beside-requires-send-F g c κs within = closure_send 1 _ no _ (
     ∷ ShrRef (named 10) κs.1.1.1.1.1.1.1.1.1.1.0 (book.the_row ledger.the_row page.the_row event.the_row told.the_row brief.the_row room.the_row machine.ghosts)
     ∷ ShrRef (named 11) κs.1.1.1.1.1.1.1.1.1.1.1.0 signals.the_row
     ∷ MutRef (named 12) κs.1.1.1.1.1.1.1.1.1.1.1.1.0 put.the_row
-    ∷ []) (mut_send _ _ _ painter_thread_send, (shr_send _ _ _ c.type_bounds.sync-R, (search (sendable, crosses) depth 40, (shr_send _ _ _ book_sync, (shr_send _ _ _ signals_sync, (mut_send _ _ _ put_send, tt))))))
+    ∷ []) (
+      mut_send _ _ _ painter_thread_send,
+      (shr_send _ _ _ c.type_bounds.sync-R, (search (sendable, crosses) depth 40, (shr_send _ _ _ book_sync, (shr_send _ _ _ signals_sync, (mut_send _ _ _ put_send, tt))))),
+    )

@@ -7,17 +7,26 @@ use Rattle.con_threads.proofs.Making.{few_scripts, state_begun, was_fine}
 use Rattle.con_threads.proofs.session.run_session.Goals as goal
 
 pub returns-in_default-clause-outcome : goal.returns-in_default-clause-outcome
-returns-in_default-clause-outcome g c = none_left _ _ _ _ _ _ _ _ c.nothing_left.ensures.entries c.nothing_left.ensures.replies c.nothing_left.ensures.ends c.nothing_left.ensures.end
+returns-in_default-clause-outcome g c =
+    none_left _ _ _ _ _ _ _ _ c.nothing_left.ensures.entries c.nothing_left.ensures.replies c.nothing_left.ensures.ends c.nothing_left.ensures.end
 
 pub returns-in_default-made-clause-outcome : goal.returns-in_default-made-clause-outcome
-returns-in_default-made-clause-outcome g c = none_left _ _ _ _ _ _ _ _ c.nothing_left-in_default-made.ensures.entries c.nothing_left-in_default-made.ensures.replies c.nothing_left-in_default-made.ensures.ends c.nothing_left-in_default-made.ensures.end
+returns-in_default-made-clause-outcome g c =
+    none_left _ _ _ _ _ _ _ _ c.nothing_left-in_default-made.ensures.entries c.nothing_left-in_default-made.ensures.replies
+    c.nothing_left-in_default-made.ensures.ends c.nothing_left-in_default-made.ensures.end
 
 pub play-requires-clause-few : goal.play-requires-clause-few
 play-requires-clause-few g c κs within = let f = few_scripts c.scripts-scripts.result.now c.scripts-scripts.ensures.within in omega (arith, f)
 
 pub returns-clause-outcome : goal.returns-clause-outcome
-returns-clause-outcome g c = c.play.ensures.outcome c.args.session.now _ (ap (λ (p : Page). p.state) c.in-Ok-made.ensures.start ∙ (state_begun _ _ _ _ c.in-Ok.ensures.state (sizes_same _ _ c.args.racks.items))) (search rules) (c.in-Ok-made.ensures.go _ _ _ _ (state_begun _ _ _ _ c.in-Ok.ensures.state (sizes_same _ _ c.args.racks.items)))
+returns-clause-outcome g c =
+    c.play.ensures.outcome c.args.session.now _
+    (ap (λ (p : Page). p.state) c.in-Ok-made.ensures.start ∙ (state_begun _ _ _ _ c.in-Ok.ensures.state (sizes_same _ _ c.args.racks.items))) (search rules)
+    (c.in-Ok-made.ensures.go _ _ _ _ (state_begun _ _ _ _ c.in-Ok.ensures.state (sizes_same _ _ c.args.racks.items)))
     (c.in-Ok-made.ensures.crew_goes _ _ (state_begun _ _ _ _ c.in-Ok.ensures.state (sizes_same _ _ c.args.racks.items)) c.scripts-scripts.ensures.value c.in-Ok.ensures.fresh)
 
 pub returns-clause-term : goal.returns-clause-term
-returns-clause-term g c = λ t. was_fine _ _ c.in-Ok-made.ensures.fine.1 (c.play.ensures.term c.args.session.now _ (ap (λ (p : Page). p.state) c.in-Ok-made.ensures.start ∙ (state_begun _ (map (λ rack. map (λ x. told_kind ((goal.CtrlHandler-dyn g (x.vtable, x.value)).memory x.value)) rack.items) c.args.racks.items) _ _ c.in-Ok.ensures.state (sizes_same _ _ c.args.racks.items))) (c.in-Ok-made.ensures.go _ _ _ _ (state_begun _ (map (λ rack. map (λ x. told_kind ((goal.CtrlHandler-dyn g (x.vtable, x.value)).memory x.value)) rack.items) c.args.racks.items) _ _ c.in-Ok.ensures.state (sizes_same _ _ c.args.racks.items))) t)
+returns-clause-term g c =
+    λ t.
+    was_fine _ _ c.in-Ok-made.ensures.fine.1
+    (c.play.ensures.term c.args.session.now _ (ap (λ (p : Page). p.state) c.in-Ok-made.ensures.start ∙ (state_begun _ (map (λ rack. map (λ x. told_kind ((goal.CtrlHandler-dyn g (x.vtable, x.value)).memory x.value)) rack.items) c.args.racks.items) _ _ c.in-Ok.ensures.state (sizes_same _ _ c.args.racks.items))) (c.in-Ok-made.ensures.go _ _ _ _ (state_begun _ (map (λ rack. map (λ x. told_kind ((goal.CtrlHandler-dyn g (x.vtable, x.value)).memory x.value)) rack.items) c.args.racks.items) _ _ c.in-Ok.ensures.state (sizes_same _ _ c.args.racks.items))) t)

@@ -19,7 +19,8 @@ returns-clause-same g c =
     subst P c.at-post.ensures.scribe.0 s.0
 
 pub returns-clause-turned : goal.returns-clause-turned
-returns-clause-turned g c = λ b. turned_at _ _ b _ _ _ _ _ _ _ _ _ _ _ _ _ c.at-post.ensures.scribe.0 (λ i. c.act-done.ensures.turned c.at-post.result.scribe b (same_self _, refl) i)
+returns-clause-turned g c =
+    λ b. turned_at _ _ b _ _ _ _ _ _ _ _ _ _ _ _ _ c.at-post.ensures.scribe.0 (λ i. c.act-done.ensures.turned c.at-post.result.scribe b (same_self _, refl) i)
 
 pub shape_of-self : goal.shape_of-self
 shape_of-self g c = sym ((c.act-done.ensures.stands c.at-post.result.scribe (same_self _, refl)).1 ∙ c.at-post.ensures.scribe.1)

@@ -11,4 +11,5 @@ returns-clause-tells c =
     let s : State = c.args.self.now.console.state in
     let w = c.view_is_whole.ensures in
     let P : Told → Type 0 = λ t. TellsPicture t s (actor_of c.args.actor) c.args.event.now in
-    subst P (sym c.of-told.ensures.0) (tells_on s w.whole w.wide w.high w.window (actor_of c.args.actor) c.args.event.now c.apply-reply.result c.requires.ready c.apply-reply.ensures.answer c.apply-reply.ensures.tells)
+    subst P (sym c.of-told.ensures.0)
+    (tells_on s w.whole w.wide w.high w.window (actor_of c.args.actor) c.args.event.now c.apply-reply.result c.requires.ready c.apply-reply.ensures.answer c.apply-reply.ensures.tells)

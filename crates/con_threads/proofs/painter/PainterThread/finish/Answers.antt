@@ -5,7 +5,8 @@ use Rattle.con_threads.proofs.painter.PainterThread.finish.Goals as goal
 
 pub returns-in_err-paint_to-clause-finished : goal.returns-in_err-paint_to-clause-finished
 returns-in_err-paint_to-clause-finished g c =
-    finished_err c.from_residual.result c.args.self.now c.paint_to.new.self (g.O.Sink.written c.args.term.now) (g.O.Sink.written c.paint_to.new.term) c.args.failed c.from_residual.ensures.0 c.if-failed.false
+    finished_err c.from_residual.result c.args.self.now c.paint_to.new.self (g.O.Sink.written c.args.term.now)
+    (g.O.Sink.written c.paint_to.new.term) c.args.failed c.from_residual.ensures.0 c.if-failed.false
     (to_ends c.args.self.now c.loop.self c.paint_to.new.self (g.O.Sink.written c.args.term.now) (g.O.Sink.written c.loop.term) (g.O.Sink.written c.paint_to.new.term) c.loop.invariant.same c.loop.invariant.canvas c.in_err-paint_to.ensures.drew)
 
 pub returns-in-None-2-clause-finished : goal.returns-in-None-2-clause-finished
@@ -17,7 +18,8 @@ returns-in-None-2-clause-finished g c =
 pub returns-in-Some-true-clause-finished : goal.returns-in-Some-true-clause-finished
 returns-in-Some-true-clause-finished g c =
     let t = rw c.in-Some-true.is at c.in_ok-paint_to.ensures.drew in
-    finished_some c.args.self.now c.paint_to.new.self (g.O.Sink.written c.args.term.now) (g.O.Sink.written c.paint_to.new.term) c.args.failed true c.if-failed.false
+    finished_some c.args.self.now c.paint_to.new.self (g.O.Sink.written c.args.term.now)
+    (g.O.Sink.written c.paint_to.new.term) c.args.failed true c.if-failed.false
     (to_some c.args.self.now c.loop.self c.paint_to.new.self (g.O.Sink.written c.args.term.now) (g.O.Sink.written c.loop.term) (g.O.Sink.written c.paint_to.new.term) c.in-Some-true.field-0 true c.in-Some-true.field-0-test c.loop.invariant.same c.loop.invariant.canvas t)
 
 pub loop-preserved : goal.loop-preserved
@@ -28,7 +30,9 @@ loop-preserved g c =
       is_painter = c.paint_to.ensures.is;
       whole = c.in_ok-paint_to.ensures.whole;
       never_falls = omega (arith, c.loop.invariant.never_falls, c.paint_to.ensures.never_falls);
-      canvas = to_some c.args.self.now c.loop.self c.paint_to.new.self (g.O.Sink.written c.args.term.now) (g.O.Sink.written c.loop.term) (g.O.Sink.written c.paint_to.new.term) c.in-Some-false.field-0 false c.in-Some-false.field-0-test c.loop.invariant.same c.loop.invariant.canvas t;
+      canvas =
+          to_some c.args.self.now c.loop.self c.paint_to.new.self (g.O.Sink.written c.args.term.now) (g.O.Sink.written c.loop.term)
+          (g.O.Sink.written c.paint_to.new.term) c.in-Some-false.field-0 false c.in-Some-false.field-0-test c.loop.invariant.same c.loop.invariant.canvas t;
       next = tt;
       finite = tt;
     }

@@ -12,17 +12,20 @@ returns-then-is_err-clause-drew g c = λ b size ps i k. less_ends b _ size ps _ 
 
 pub returns-in_err-enter_if_ready-clause-drew : goal.returns-in_err-enter_if_ready-clause-drew
 returns-in_err-enter_if_ready-clause-drew g c =
-    turn_err _ _ _ c.from_residual.ensures.0 (λ b size ps i k. rests_less _ _ _ _ c.requires.actor c.in_err-enter_if_ready.ensures.refused b size _ ps _ _ _ i c.reserve.ensures.items k)
+    turn_err _ _ _ c.from_residual.ensures.0
+    (λ b size ps i k. rests_less _ _ _ _ c.requires.actor c.in_err-enter_if_ready.ensures.refused b size _ ps _ _ _ i c.reserve.ensures.items k)
 
 pub returns-in-None-clause-tied : goal.returns-in-None-clause-tied
 returns-in-None-clause-tied g c =
     let e = rw c.in-None.is at c.in_ok-enter_if_ready.ensures.blocked in
-    tied_from (opened c.args.self.now.scribe) (opened c.enter_if_ready.new.self) (history c.enter_if_ready.new.self) c.args.self.now.painter (same_opened c.args.self.now.scribe c.enter_if_ready.new.self c.enter_if_ready.ensures.same)
+    tied_from (opened c.args.self.now.scribe) (opened c.enter_if_ready.new.self) (history c.enter_if_ready.new.self) c.args.self.now.painter
+    (same_opened c.args.self.now.scribe c.enter_if_ready.new.self c.enter_if_ready.ensures.same)
     (rests_tied (opened c.args.self.now.scribe) _ (history c.args.self.now.scribe) (history c.enter_if_ready.new.self) c.args.self.now.painter c.requires.actor e.0 c.requires.tied)
 
 pub returns-in-None-clause-drew : goal.returns-in-None-clause-drew
 returns-in-None-clause-drew g c =
-    let e = rw c.in-None.is at c.in_ok-enter_if_ready.ensures.blocked in λ b size ps i k. rests_drawn _ _ _ _ c.requires.actor e.0 b size _ ps _ _ _ i c.reserve.ensures.items k
+    let e = rw c.in-None.is at c.in_ok-enter_if_ready.ensures.blocked in
+    λ b size ps i k. rests_drawn _ _ _ _ c.requires.actor e.0 b size _ ps _ _ _ i c.reserve.ensures.items k
 
 -- ---- the picture
 
@@ -34,29 +37,34 @@ draw-requires-clause-marks g c =
 pub draw-requires-clause-size : goal.draw-requires-clause-size
 draw-requires-clause-size g c =
     let e = rw c.in-Some-Picture.is at c.in_ok-enter_if_ready.ensures.entered in
-    let p = picture _ _ _ _ _ c.requires.actor e c.in-Some-Picture.picture c.in-Some-Picture.field-0-is in λ f. tied_size _ _ _ _ (tied_there _ _ _ _ _ c.requires.actor e _ c.requires.tied) p.0 f
+    let p = picture _ _ _ _ _ c.requires.actor e c.in-Some-Picture.picture c.in-Some-Picture.field-0-is in
+    λ f. tied_size _ _ _ _ (tied_there _ _ _ _ _ c.requires.actor e _ c.requires.tied) p.0 f
 
 pub draw-requires-clause-marked : goal.draw-requires-clause-marked
 draw-requires-clause-marked g c =
     let e = rw c.in-Some-Picture.is at c.in_ok-enter_if_ready.ensures.entered in
-    let p = picture _ _ _ _ _ c.requires.actor e c.in-Some-Picture.picture c.in-Some-Picture.field-0-is in λ f y l n. tied_rows _ _ _ _ _ (tied_there _ _ _ _ _ c.requires.actor e _ c.requires.tied) p.0 p.3 f y l n
+    let p = picture _ _ _ _ _ c.requires.actor e c.in-Some-Picture.picture c.in-Some-Picture.field-0-is in
+    λ f y l n. tied_rows _ _ _ _ _ (tied_there _ _ _ _ _ c.requires.actor e _ c.requires.tied) p.0 p.3 f y l n
 
 -- ---- its frame
 
 pub returns-in_err-draw-in-Some-Picture-clause-drew : goal.returns-in_err-draw-in-Some-Picture-clause-drew
 returns-in_err-draw-in-Some-Picture-clause-drew g c =
     let e = rw c.in-Some-Picture.is at c.in_ok-enter_if_ready.ensures.entered in
-    turn_err _ _ _ c.from_residual-in_err-draw-in-Some-Picture.ensures.0 (λ b size ps i k. paint_none _ _ _ _ _ c.requires.actor e b size _ ps _ _ _ i c.reserve.ensures.items k)
+    turn_err _ _ _ c.from_residual-in_err-draw-in-Some-Picture.ensures.0
+    (λ b size ps i k. paint_none _ _ _ _ _ c.requires.actor e b size _ ps _ _ _ i c.reserve.ensures.items k)
 
 pub returns-in_err-end-in-Some-Picture-clause-drew : goal.returns-in_err-end-in-Some-Picture-clause-drew
 returns-in_err-end-in-Some-Picture-clause-drew g c =
     let e = rw c.in-Some-Picture.is at c.in_ok-enter_if_ready.ensures.entered in
-    turn_err _ _ _ c.from_residual-in_err-end-in-Some-Picture.ensures.0 (λ b size ps i k. paint_none _ _ _ _ _ c.requires.actor e b size _ ps _ _ _ i c.reserve.ensures.items k)
+    turn_err _ _ _ c.from_residual-in_err-end-in-Some-Picture.ensures.0
+    (λ b size ps i k. paint_none _ _ _ _ _ c.requires.actor e b size _ ps _ _ _ i c.reserve.ensures.items k)
 
 pub returns-in_ok-end-in-Some-Picture-clause-tied : goal.returns-in_ok-end-in-Some-Picture-clause-tied
 returns-in_ok-end-in-Some-Picture-clause-tied g c =
     let e = rw c.in-Some-Picture.is at c.in_ok-enter_if_ready.ensures.entered in
-    tied_from (opened c.args.self.now.scribe) (opened c.enter_if_ready.new.self) (history c.enter_if_ready.new.self) c.draw.new.painter (same_opened c.args.self.now.scribe c.enter_if_ready.new.self c.enter_if_ready.ensures.same)
+    tied_from (opened c.args.self.now.scribe) (opened c.enter_if_ready.new.self) (history c.enter_if_ready.new.self) c.draw.new.painter
+    (same_opened c.args.self.now.scribe c.enter_if_ready.new.self c.enter_if_ready.ensures.same)
     (paint_tied (opened c.args.self.now.scribe) _ _ (history c.args.self.now.scribe) (history c.enter_if_ready.new.self) c.requires.actor e c.in-Some-Picture.picture c.draw.new.painter c.in-Some-Picture.field-0-is c.in_ok-draw-in-Some-Picture.ensures.shown c.in_ok-draw-in-Some-Picture.ensures.size)
 
 pub returns-in_ok-end-in-Some-Picture-clause-drew : goal.returns-in_ok-end-in-Some-Picture-clause-drew

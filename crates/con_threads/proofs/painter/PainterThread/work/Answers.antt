@@ -2,13 +2,16 @@ use Rattle.con_threads.proofs.Turning.{drawn_some, drawn_none, drawn_err, drawn_
 use Rattle.con_threads.proofs.painter.PainterThread.work.Goals as goal
 
 pub returns-then-is_over-clause-drawn : goal.returns-then-is_over-clause-drawn
-returns-then-is_over-clause-drawn g c = drawn_ended c.args.self.now c.loop.self c.args.put.now c.loop.put c.finish.new.self c.loop.invariant.drawn c.finish.ensures.pipe c.finish.ensures.put
+returns-then-is_over-clause-drawn g c =
+    drawn_ended c.args.self.now c.loop.self c.args.put.now c.loop.put c.finish.new.self c.loop.invariant.drawn c.finish.ensures.pipe c.finish.ensures.put
 
 pub loop-preserved-in-Ok-Some : goal.loop-preserved-in-Ok-Some
 loop-preserved-in-Ok-Some g c =
     let t = rw c.in-Ok-Some.field-0-is at c.in-Ok-Some.ensures.drew in
     record {
-      drawn = drawn_some c.args.self.now c.loop.self c.paint.new.self c.args.put.now c.loop.put c.push.new.self c.in-Ok-Some.piece c.loop.invariant.drawn (c.is_over.ensures c.if-is_over.false) c.paint.ensures.same c.paint.ensures.is c.push.ensures.pipe c.push.ensures.put t;
+      drawn =
+          drawn_some c.args.self.now c.loop.self c.paint.new.self c.args.put.now c.loop.put c.push.new.self c.in-Ok-Some.piece c.loop.invariant.drawn
+          (c.is_over.ensures c.if-is_over.false) c.paint.ensures.same c.paint.ensures.is c.push.ensures.pipe c.push.ensures.put t;
       unfinished = c.push.ensures.open;
       next = tt;
       finite = tt;
@@ -18,7 +21,9 @@ pub loop-preserved : goal.loop-preserved
 loop-preserved g c =
     let t = rw c.in-Ok-None.field-0-is at c.in-Ok-None.ensures.drew in
     record {
-      drawn = drawn_none c.args.self.now c.loop.self c.paint.new.self c.args.put.now c.loop.put c.loop.invariant.drawn (c.is_over.ensures c.if-is_over.false) c.paint.ensures.same c.paint.ensures.is t;
+      drawn =
+          drawn_none c.args.self.now c.loop.self c.paint.new.self c.args.put.now c.loop.put c.loop.invariant.drawn
+          (c.is_over.ensures c.if-is_over.false) c.paint.ensures.same c.paint.ensures.is t;
       unfinished = c.loop.invariant.unfinished;
       next = tt;
       finite = tt;

@@ -6,12 +6,14 @@ use Rattle.con_threads.proofs.scribe.Scribe.enter_if_ready.Goals as goal
 pub returns-clause-same : goal.returns-clause-same
 returns-clause-same g c =
     let new : Scribe = record c.args.self.now { pass = c.turn_if_ready.new.pass } in
-    may_same c.args.self.now new c.requires.scribe c.turn_if_ready.ensures.pass refl _ c.turn_if_ready.result c.turn_if_ready.ensures.entered c.turn_if_ready.ensures.blocked c.turn_if_ready.ensures.refused
+    may_same c.args.self.now new c.requires.scribe c.turn_if_ready.ensures.pass refl _ c.turn_if_ready.result c.turn_if_ready.ensures.entered
+    c.turn_if_ready.ensures.blocked c.turn_if_ready.ensures.refused
 
 pub returns-clause-scribe : goal.returns-clause-scribe
 returns-clause-scribe g c =
     let new : Scribe = record c.args.self.now { pass = c.turn_if_ready.new.pass } in
-    may_is c.args.self.now new c.requires.scribe c.turn_if_ready.ensures.pass refl _ c.turn_if_ready.result c.turn_if_ready.ensures.entered c.turn_if_ready.ensures.blocked c.turn_if_ready.ensures.refused
+    may_is c.args.self.now new c.requires.scribe c.turn_if_ready.ensures.pass refl _ c.turn_if_ready.result c.turn_if_ready.ensures.entered
+    c.turn_if_ready.ensures.blocked c.turn_if_ready.ensures.refused
 
 pub returns-clause-entered : goal.returns-clause-entered
 returns-clause-entered g c =

@@ -6,50 +6,109 @@ use Rattle.con_threads.proofs.SendingLaws.{Looked, gave_up, hung_up, never_block
 use Rattle.con_threads.proofs.side.SideThread.turn.Goals as goal
 
 pub returns-in_err-hang_up-clause-on : goal.returns-in_err-hang_up-clause-on
-returns-in_err-hang_up-clause-on g c = saw c.args.self.now c.hang_up.new.scribe _ c.requires.is c.in_err-hang_up.ensures.same c.in_err-hang_up.ensures.scribe c.in_err-hang_up.ensures.refused
+returns-in_err-hang_up-clause-on g c =
+    saw c.args.self.now c.hang_up.new.scribe _ c.requires.is c.in_err-hang_up.ensures.same c.in_err-hang_up.ensures.scribe c.in_err-hang_up.ensures.refused
 
 pub returns-then-failed-clause-on : goal.returns-then-failed-clause-on
-returns-then-failed-clause-on g c = hung_up c.args.self.now c.hang_up.new.scribe _ c.if-self.false c.if-self-2.false c.requires.is c.in_ok-hang_up.ensures.same c.in_ok-hang_up.ensures.scribe c.in_ok-hang_up.ensures.sent
+returns-then-failed-clause-on g c =
+    hung_up c.args.self.now c.hang_up.new.scribe _ c.if-self.false c.if-self-2.false c.requires.is c.in_ok-hang_up.ensures.same c.in_ok-hang_up.ensures.scribe
+    c.in_ok-hang_up.ensures.sent
 
 pub returns-then-not-is_served-clause-on : goal.returns-then-not-is_served-clause-on
-returns-then-not-is_served-clause-on g c = saw c.args.self.now c.is_served.new.scribe _ c.requires.is c.is_served.ensures.same c.is_served.ensures.scribe c.is_served.ensures.seen
+returns-then-not-is_served-clause-on g c =
+    saw c.args.self.now c.is_served.new.scribe _ c.requires.is c.is_served.ensures.same c.is_served.ensures.scribe c.is_served.ensures.seen
 
 pub returns-in_err-pass_on-in-Ok-clause-on : goal.returns-in_err-pass_on-in-Ok-clause-on
 returns-in_err-pass_on-in-Ok-clause-on g c =
-    let look : Looked c.args.self.now c.is_served.new.scribe = record { open' = c.if-self.false; whole = c.if-self-2.false; was = c.requires.is; same = c.is_served.ensures.same; is = c.is_served.ensures.scribe; sees = c.is_served.ensures.seen; served = served_by _ _ c.is_served.ensures.served c.if-not-is_served.false } in
-    stopped c.args.self.now c.is_served.new.scribe c.pass_on.new.scribe _ _ _ (Ok c.in-Ok.frame) look c.in_err-pass_on-in-Ok.ensures.same c.in_err-pass_on-in-Ok.ensures.scribe c.in_err-pass_on-in-Ok.ensures.refused c.in-Ok.ensures.took
+    let look : Looked c.args.self.now c.is_served.new.scribe =
+    record {
+      open' = c.if-self.false;
+      whole = c.if-self-2.false;
+      was = c.requires.is;
+      same = c.is_served.ensures.same;
+      is = c.is_served.ensures.scribe;
+      sees = c.is_served.ensures.seen;
+      served = served_by _ _ c.is_served.ensures.served c.if-not-is_served.false;
+    } in
+    stopped c.args.self.now c.is_served.new.scribe c.pass_on.new.scribe _ _ _
+    (Ok c.in-Ok.frame) look c.in_err-pass_on-in-Ok.ensures.same c.in_err-pass_on-in-Ok.ensures.scribe c.in_err-pass_on-in-Ok.ensures.refused
+    c.in-Ok.ensures.took
 
 pub unreachable-requires : goal.unreachable-requires
 unreachable-requires g c =
     let n = served_by _ _ c.is_served.ensures.served c.if-not-is_served.false in
     let blocked = c.in_ok-pass_on-in-Ok.ensures.blocked c.if-not-branch.true in
-    never_blocked c.is_served.new.scribe c.pass_on.new.scribe _ c.in-Ok.frame _ _ _ _ c.in_ok-pass_on-in-Ok.ensures.same n blocked.0 c.event_for.ensures c.in-Ok.ensures.took blocked.1
+    never_blocked c.is_served.new.scribe c.pass_on.new.scribe _ c.in-Ok.frame _ _ _ _ c.in_ok-pass_on-in-Ok.ensures.same n blocked.0 c.event_for.ensures
+    c.in-Ok.ensures.took blocked.1
 
 pub returns-else-not-branch-clause-on : goal.returns-else-not-branch-clause-on
 returns-else-not-branch-clause-on g c =
-    let look : Looked c.args.self.now c.is_served.new.scribe = record { open' = c.if-self.false; whole = c.if-self-2.false; was = c.requires.is; same = c.is_served.ensures.same; is = c.is_served.ensures.scribe; sees = c.is_served.ensures.seen; served = served_by _ _ c.is_served.ensures.served c.if-not-is_served.false } in
-    passed_on c.args.self.now c.is_served.new.scribe c.pass_on.new.scribe _ _ _ c.in-Ok.frame _ _ look c.in_ok-pass_on-in-Ok.ensures.same c.in_ok-pass_on-in-Ok.ensures.scribe c.event_for.ensures
+    let look : Looked c.args.self.now c.is_served.new.scribe =
+    record {
+      open' = c.if-self.false;
+      whole = c.if-self-2.false;
+      was = c.requires.is;
+      same = c.is_served.ensures.same;
+      is = c.is_served.ensures.scribe;
+      sees = c.is_served.ensures.seen;
+      served = served_by _ _ c.is_served.ensures.served c.if-not-is_served.false;
+    } in
+    passed_on c.args.self.now c.is_served.new.scribe c.pass_on.new.scribe _ _ _ c.in-Ok.frame _ _ look c.in_ok-pass_on-in-Ok.ensures.same
+    c.in_ok-pass_on-in-Ok.ensures.scribe c.event_for.ensures
     (c.in_ok-pass_on-in-Ok.ensures.sent c.if-not-branch.false) c.ends_the_link-ends.ensures c.in-Ok.ensures.took
 
 pub returns-in-Err-OutOfMemory-clause-on : goal.returns-in-Err-OutOfMemory-clause-on
 returns-in-Err-OutOfMemory-clause-on g c =
-    let look : Looked c.args.self.now c.is_served.new.scribe = record { open' = c.if-self.false; whole = c.if-self-2.false; was = c.requires.is; same = c.is_served.ensures.same; is = c.is_served.ensures.scribe; sees = c.is_served.ensures.seen; served = served_by _ _ c.is_served.ensures.served c.if-not-is_served.false } in
-    stopped c.args.self.now c.is_served.new.scribe c.is_served.new.scribe _ _ _ c.next.result look (same_self c.is_served.new.scribe) c.is_served.ensures.scribe (sees_here _ actors.Terminal _) c.next.ensures.took
+    let look : Looked c.args.self.now c.is_served.new.scribe =
+    record {
+      open' = c.if-self.false;
+      whole = c.if-self-2.false;
+      was = c.requires.is;
+      same = c.is_served.ensures.same;
+      is = c.is_served.ensures.scribe;
+      sees = c.is_served.ensures.seen;
+      served = served_by _ _ c.is_served.ensures.served c.if-not-is_served.false;
+    } in
+    stopped c.args.self.now c.is_served.new.scribe c.is_served.new.scribe _ _ _ c.next.result look (same_self c.is_served.new.scribe) c.is_served.ensures.scribe
+    (sees_here _ actors.Terminal _) c.next.ensures.took
 
 pub returns-in_err-hang_up-in-Err : goal.returns-in_err-hang_up-in-Err
 returns-in_err-hang_up-in-Err g c =
-    let look : Looked c.args.self.now c.is_served.new.scribe = record { open' = c.if-self.false; whole = c.if-self-2.false; was = c.requires.is; same = c.is_served.ensures.same; is = c.is_served.ensures.scribe; sees = c.is_served.ensures.seen; served = served_by _ _ c.is_served.ensures.served c.if-not-is_served.false } in
+    let look : Looked c.args.self.now c.is_served.new.scribe =
     record {
-      on = stopped c.args.self.now c.is_served.new.scribe c.hang_up-in-Err.new.scribe _ _ _ (Err c.in-Err.fault) look c.in_err-hang_up-in-Err.ensures.same c.in_err-hang_up-in-Err.ensures.scribe c.in_err-hang_up-in-Err.ensures.refused c.in-Err.ensures.took;
+      open' = c.if-self.false;
+      whole = c.if-self-2.false;
+      was = c.requires.is;
+      same = c.is_served.ensures.same;
+      is = c.is_served.ensures.scribe;
+      sees = c.is_served.ensures.seen;
+      served = served_by _ _ c.is_served.ensures.served c.if-not-is_served.false;
+    } in
+    record {
+      on =
+          stopped c.args.self.now c.is_served.new.scribe c.hang_up-in-Err.new.scribe _ _ _
+          (Err c.in-Err.fault) look c.in_err-hang_up-in-Err.ensures.same c.in_err-hang_up-in-Err.ensures.scribe c.in_err-hang_up-in-Err.ensures.refused
+          c.in-Err.ensures.took;
       failed = λ e. inl e;
       never_falls = c.in-Err.ensures.never_falls;
     }
 
 pub returns-in_ok-hang_up-in-Err : goal.returns-in_ok-hang_up-in-Err
 returns-in_ok-hang_up-in-Err g c =
-    let look : Looked c.args.self.now c.is_served.new.scribe = record { open' = c.if-self.false; whole = c.if-self-2.false; was = c.requires.is; same = c.is_served.ensures.same; is = c.is_served.ensures.scribe; sees = c.is_served.ensures.seen; served = served_by _ _ c.is_served.ensures.served c.if-not-is_served.false } in
+    let look : Looked c.args.self.now c.is_served.new.scribe =
     record {
-      on = gave_up c.args.self.now c.is_served.new.scribe c.hang_up-in-Err.new.scribe _ _ _ c.in-Err.fault _ look c.in_ok-hang_up-in-Err.ensures.same c.in_ok-hang_up-in-Err.ensures.scribe c.in_ok-hang_up-in-Err.ensures.sent c.end_by_fault-self.ensures c.in-Err.ensures.took;
+      open' = c.if-self.false;
+      whole = c.if-self-2.false;
+      was = c.requires.is;
+      same = c.is_served.ensures.same;
+      is = c.is_served.ensures.scribe;
+      sees = c.is_served.ensures.seen;
+      served = served_by _ _ c.is_served.ensures.served c.if-not-is_served.false;
+    } in
+    record {
+      on =
+          gave_up c.args.self.now c.is_served.new.scribe c.hang_up-in-Err.new.scribe _ _ _ c.in-Err.fault _ look c.in_ok-hang_up-in-Err.ensures.same
+          c.in_ok-hang_up-in-Err.ensures.scribe c.in_ok-hang_up-in-Err.ensures.sent c.end_by_fault-self.ensures c.in-Err.ensures.took;
       failed = λ e. inr (c.in-Err.ensures.failed (ap (λ f. Err f) (failed_for c.in-Err.fault (sym c.end_by_fault-self.ensures ∙ e))));
       never_falls = c.in-Err.ensures.never_falls;
     }

@@ -9,9 +9,15 @@ loop-preserved g c =
     let same : IsSameOut c.args.self.now.take c.write.new.self.take = search rules in
     record {
       pipe = same;
-      wrote = λ before w. writes_on before _ _ (pieces_taken c.loop.self.take) (pieces_taken c.write.new.self.take) c.in-Some-next.piece c.loop.self.failed c.loop.self.broken c.write.new.self.failed c.write.new.self.broken
-          (ap (λ (k : PipeOut). pieces_taken k) c.write.ensures.take ∙ c.in-Some-next.ensures.piece.0) (c.write.ensures.wrote before (pieces_taken c.loop.self.take)) (c.loop.invariant.wrote before w);
-      fails = fails_on c.args.self.now.failed c.loop.self.failed c.write.new.self.failed (g.O.Sink.faults c.args.term.now) (g.O.Sink.faults c.loop.term) (g.O.Sink.faults c.write.new.term) c.loop.invariant.fails c.loop.invariant.never_falls c.write.ensures.failed c.write.ensures.never_falls;
+      wrote =
+          λ before w.
+          writes_on before _ _ (pieces_taken c.loop.self.take) (pieces_taken c.write.new.self.take) c.in-Some-next.piece c.loop.self.failed
+          c.loop.self.broken c.write.new.self.failed c.write.new.self.broken
+          (ap (λ (k : PipeOut). pieces_taken k) c.write.ensures.take ∙ c.in-Some-next.ensures.piece.0)
+          (c.write.ensures.wrote before (pieces_taken c.loop.self.take)) (c.loop.invariant.wrote before w);
+      fails =
+          fails_on c.args.self.now.failed c.loop.self.failed c.write.new.self.failed (g.O.Sink.faults c.args.term.now) (g.O.Sink.faults c.loop.term)
+          (g.O.Sink.faults c.write.new.term) c.loop.invariant.fails c.loop.invariant.never_falls c.write.ensures.failed c.write.ensures.never_falls;
       never_falls = omega (arith, c.loop.invariant.never_falls, c.write.ensures.never_falls);
       next = tt;
       finite = tt;
@@ -23,7 +29,10 @@ returns-in-None-next g c =
     record {
       pipe = same;
       ended = c.in-None-next.ensures.end.1;
-      wrote = λ before w. writes_still before _ (pieces_taken c.loop.self.take) (pieces_taken c.next-in-loop.new.self) c.loop.self.failed c.loop.self.broken c.in-None-next.ensures.end.0 (c.loop.invariant.wrote before w);
+      wrote =
+          λ before w.
+          writes_still before _ (pieces_taken c.loop.self.take) (pieces_taken c.next-in-loop.new.self) c.loop.self.failed c.loop.self.broken
+          c.in-None-next.ensures.end.0 (c.loop.invariant.wrote before w);
       fails = c.loop.invariant.fails;
       never_falls = c.loop.invariant.never_falls;
     }

@@ -8,7 +8,9 @@ use Rattle.con_threads.proofs.writer.WriterThread.work.Given as goal
 abbrev pub invariant-loop : goal.invariant-loop
 invariant-loop g l = record {
   pipe : IsSameOut l.initial.self.take l.self.take;
-  wrote : (before : Option (List ℕ)) → Writes before (g.O.Sink.written l.initial.term) (pieces_taken l.initial.self.take) l.initial.self.failed l.initial.self.broken → Writes before (g.O.Sink.written l.term) (pieces_taken l.self.take) l.self.failed l.self.broken;
+  wrote : (before : Option (List ℕ))
+      → Writes before (g.O.Sink.written l.initial.term) (pieces_taken l.initial.self.take) l.initial.self.failed l.initial.self.broken
+      → Writes before (g.O.Sink.written l.term) (pieces_taken l.self.take) l.self.failed l.self.broken;
   fails : l.self.failed ≡ true → (l.initial.self.failed ≡ true) ⊎ Rose (g.O.Sink.faults l.initial.term) (g.O.Sink.faults l.term);
   never_falls : g.O.Sink.faults l.initial.term ≤ g.O.Sink.faults l.term;
   next : (goal.iterator-loop g).can_next l.iterator';

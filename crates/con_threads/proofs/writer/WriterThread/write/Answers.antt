@@ -12,7 +12,9 @@ pub returns-in-Ok-clause-wrote : goal.returns-in-Ok-clause-wrote
 returns-in-Ok-clause-wrote g c = λ before ps w. writes_whole before _ _ ps _ _ _ _ c.if-self.false c.if-self-2.false c.as_slice.ensures c.in-Ok.ensures.whole w
 
 pub returns-in-Err-Failed-clause-wrote : goal.returns-in-Err-Failed-clause-wrote
-returns-in-Err-Failed-clause-wrote g c = λ before ps w. writes_part before _ _ ps _ _ _ _ true refl c.if-self.false c.if-self-2.false c.as_slice.ensures c.write_whole.ensures.front w
+returns-in-Err-Failed-clause-wrote g c =
+    λ before ps w. writes_part before _ _ ps _ _ _ _ true refl c.if-self.false c.if-self-2.false c.as_slice.ensures c.write_whole.ensures.front w
 
 pub returns-in-Err-OutOfMemory-clause-wrote : goal.returns-in-Err-OutOfMemory-clause-wrote
-returns-in-Err-OutOfMemory-clause-wrote g c = λ before ps w. writes_part before _ _ ps _ _ _ _ _ (or_right _ true refl) c.if-self.false c.if-self-2.false c.as_slice.ensures c.write_whole.ensures.front w
+returns-in-Err-OutOfMemory-clause-wrote g c =
+    λ before ps w. writes_part before _ _ ps _ _ _ _ _ (or_right _ true refl) c.if-self.false c.if-self-2.false c.as_slice.ensures c.write_whole.ensures.front w
