@@ -94,7 +94,8 @@ screens_send = search (sendable, crosses, buffer_send) depth 40
 pub readers_send : IsSend readers.the_row
 readers_send =
     search
-    (sendable, crosses, cooked_editedline.the_send, readers_wantsrecords.the_send, readers_wantsunits.the_send, records_taken.the_send, units_units.the_send) depth 40
+    (sendable, crosses, cooked_editedline.the_send, readers_wantsrecords.the_send, readers_wantsunits.the_send, records_taken.the_send, units_units.the_send)
+    depth 40
 
 pub console_send : IsSend console.the_row
 console_send =
@@ -122,7 +123,8 @@ screens_sync = search (sendable, crosses, buffer_sync) depth 40
 pub readers_sync : IsSync readers.the_row
 readers_sync =
     search
-    (sendable, crosses, cooked_editedline.the_sync, readers_wantsrecords.the_sync, readers_wantsunits.the_sync, records_taken.the_sync, units_units.the_sync) depth 40
+    (sendable, crosses, cooked_editedline.the_sync, readers_wantsrecords.the_sync, readers_wantsunits.the_sync, records_taken.the_sync, units_units.the_sync)
+    depth 40
 
 pub console_sync : IsSync console.the_row
 console_sync =

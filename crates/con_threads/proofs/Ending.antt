@@ -1,5 +1,5 @@
 -- What a session by threads leaves behind.
-use Rattle.std.proofs.Common.{◌≡◌, ◌⊎◌, ℕ, ◌+◌, ◌<◌, ◌≤◌, Bool, true, false, List, [], length, Option, None, refl, sym, ap, ◌∙◌, subst, inl, inr, arith}
+use Rattle.std.proofs.Common.{◌≡◌, ◌⊎◌, ℕ, ◌+◌, ◌<◌, ◌≤◌, Bool, true, false, List, [], length, Option, None, refl, sym, ap, ◌∙◌, subst, inl, inr}
 use Rattle.con_outside.specs.Outside.{Rose}
 use Rattle.con_events.specs.Session.{Clients}
 use Rattle.con_events.specs.declared.end.End.{End}
@@ -9,25 +9,23 @@ use Rattle.con_events.specs.declared.reply.Reply.{Reply}
 use Rattle.con_machine.specs.Client.{Gone}
 use Rattle.con_machine.specs.Follows.{begun}
 use Rattle.con_machine.specs.History.{run}
-use Rattle.con_machine.specs.Rounds.{Begun, client_at}
+use Rattle.con_machine.specs.Rounds.{client_at}
 use Rattle.con_machine.specs.Turns.{paints}
 use Rattle.con_machine.specs.Whole.{HaveAllLeft}
 use Rattle.con_session.specs.CanvasLaws.{canvas_ends, painted_count}
 use Rattle.con_session.specs.EndLaws.{by_number, ends_count, leaves_none, leaves_stops, leaves_whole}
 use Rattle.con_session.specs.LinkLaws.{link_failed, link_stays}
 use Rattle.con_session.specs.Outcome.{Leaves}
-use Rattle.con_session.specs.Solo.{AsksStand, Moment, begins, end_by}
+use Rattle.con_session.specs.Solo.{Moment, begins, end_by}
 use Rattle.con_session.specs.declared.terminal.Side.{Side}
 use Rattle.con_threads.specs.Session.{IsBroken, IsDone}
+use Rattle.con_threads.proofs.Causes.{rose_later, rose_sooner}
+use Rattle.con_threads.proofs.SideLaws.{asks_lost}
 
 all_gone : (session : Clients) (racks : List (List ℕ)) (h : List Entry)
     → ((k : ℕ) → k < length session.scripts → (client_at (begins session racks None) h (k + 1)).stance ≡ Gone)
     → HaveAllLeft (begun session racks) h session racks
 all_gone session racks h f = λ p l m. by_number (λ q. (client_at (begins session racks None) h q).stance ≡ Gone) (length session.scripts) f p l m
-
--- where a hangup was heard the terminal has failed
-hung_lost : (b : Begun) (h : List Entry) (hung failed : Bool) → (hung ≡ true → failed ≡ true) → AsksStand b h hung → AsksStand b h failed
-hung_lost b h hung failed i k = record { answered = λ l f. k.answered l (λ e. f (i e)); asked' = k.asked' }
 
 -- nothing was lost
 done_whole : (session : Clients) (racks : List (List ℕ)) (h : List Entry) (rs : List Reply) (es : List ℕ) (side : Side) (hung failed : Bool)
@@ -61,7 +59,7 @@ done_whole session racks h rs es side hung failed before left old now f k =
       numbered = k.numbered;
       clients = λ j script w xs m' ys e a c d g. absurd (cc);
       link = link_failed h side hung failed before left k.taken k.hung' k.link;
-      asks = hung_lost b h hung failed k.hung' k.asks;
+      asks = asks_lost b h hung failed k.hung' k.asks;
       pieces = k.pieces;
       canvas = k.canvas;
       some = λ e. absurd (let z = sym f ∙ e in cc);
@@ -140,16 +138,10 @@ term_by A B true fine end other e w f t = elim (w refl) [ inl a ↦ inl a | inr 
 term_by A B false fine end other e w f t = inr (inr (sym e ∙ t, f))
 
 -- a failure in the one or the other part
-pub rose_after : (a b c : ℕ) → a ≤ b → Rose b c → Rose a c
-rose_after a b c l r = elim r [ inl x ↦ inl (omega arith) | inr x ↦ inr x ]
-
-pub rose_before : (a b c : ℕ) → b ≤ c → Rose a b → Rose a c
-rose_before a b c l r = elim r [ inl x ↦ inl (omega arith) | inr x ↦ inr (omega arith) ]
-
 pub failed_in : (P Q w : Type 0) (a b c : ℕ) → a ≤ b → b ≤ c → (P → w ⊎ Rose a b) → (Q → ⊥) → P ⊎ (Rose b c ⊎ Q) → w ⊎ Rose a c
 failed_in P Q w a b c l m from none there = elim there [
-  | inl p ↦ elim (from p) [ inl x ↦ inl x | inr x ↦ inr (rose_before a b c m x) ]
-  | inr q ↦ elim q [ inl x ↦ inr (rose_after a b c l x) | inr x ↦ absurd (none x) ]
+  | inl p ↦ elim (from p) [ inl x ↦ inl x | inr x ↦ inr (rose_later a b c x m) ]
+  | inr q ↦ elim q [ inl x ↦ inr (rose_sooner a b c l x) | inr x ↦ absurd (none x) ]
 ]
 
 -- there was no memory to begin with

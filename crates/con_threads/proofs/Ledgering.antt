@@ -9,7 +9,7 @@ use Rattle.con_events.specs.declared.event.Event.TheVariants as events
 use Rattle.con_events.specs.declared.reply.Reply.{Reply}
 use Rattle.con_events.specs.declared.reply.Reply.TheVariants as replies
 use Rattle.con_machine.specs.Marks.{told}
-use Rattle.con_machine.specs.Numbered.{next_of, answer_of, tells_of}
+use Rattle.con_machine.specs.Numbered.{next_of, answer_of, tells_of, ready_of}
 use Rattle.con_machine.specs.Painting.{view_now}
 use Rattle.con_machine.specs.PictureLaws.{paint_answers}
 use Rattle.con_machine.specs.State.{State}
@@ -17,7 +17,7 @@ use Rattle.con_machine.specs.Step.{step, is_ready}
 use Rattle.con_session.specs.Desk.{brief_of, listed}
 use Rattle.con_session.specs.PaintTurns.{picture_of, whole_of, window_of}
 use Rattle.con_session.specs.Replying.{listed_by, brief_by, view_is}
-use Rattle.con_threads.specs.Ledger.{front_of, paged, ready_by, brief_told, told_of, TellsPicture}
+use Rattle.con_threads.specs.Ledger.{front_of, paged, brief_told, told_of, TellsPicture}
 use Rattle.con_threads.specs.Ledger as ledger
 use Rattle.con_threads.specs.LedgerLaws.{front_whole}
 use Rattle.con_threads.specs.declared.ledger.Page.{Page}
@@ -33,7 +33,7 @@ brief_is : (r q : Reply) → told r ≡ q → brief_of r ≡ brief_of q
 brief_is r q e = brief_by false r q (λ k. absurd (let j : false ≡ true = k in cc)) (λ k. e)
 
 -- the console's next state, and one reply more
-pub page_on : (s t : State) (rs qs : List Reply) (o : Option Actor) (e : Event) (r : Reply) → ready_by s o e ≡ true → t ≡ next_of s o e
+pub page_on : (s t : State) (rs qs : List Reply) (o : Option Actor) (e : Event) (r : Reply) → ready_of s o e ≡ true → t ≡ next_of s o e
     → told r ≡ answer_of s o e → qs ≡ rs ++ listed r ∷ []
     → (let p : Page = record { state = t; replies = qs } in p) ≡ paged (record { state = s; replies = rs }) (front_of s o e)
 page_on s t rs qs None e r ready next answer put = absurd (let k : false ≡ true = ready in cc)
@@ -54,7 +54,7 @@ briefly (replies.Cells rect cells) = refl
 briefly (replies.Lines ls) = refl
 briefly (replies.Ctrl n) = refl
 
-pub brief_on : (s : State) (o : Option Actor) (e : Event) (r : Reply) → ready_by s o e ≡ true → told r ≡ answer_of s o e
+pub brief_on : (s : State) (o : Option Actor) (e : Event) (r : Reply) → ready_of s o e ≡ true → told r ≡ answer_of s o e
     → brief_told (told_of r) ≡ ledger.brief_by s o e
 brief_on s None e r ready answer = absurd (let k : false ≡ true = ready in cc)
 brief_on s (Some a) e r ready answer = briefly r ∙ brief_is r (step s a e).reply answer
@@ -86,7 +86,7 @@ module _ (s : State) (whole : IsWhole (view_now s)) (wide : (view_now s).size.w 
   pictured a (replies.Lines ls) ready answer tells = absurd tells
   pictured a (replies.Ctrl n) ready answer tells = absurd tells
 
-  pub tells_on : (o : Option Actor) (e : Event) (r : Reply) → ready_by s o e ≡ true → told r ≡ answer_of s o e → tells_of r s o e
+  pub tells_on : (o : Option Actor) (e : Event) (r : Reply) → ready_of s o e ≡ true → told r ≡ answer_of s o e → tells_of r s o e
       → TellsPicture (told_of r) s o e
   tells_on None e r ready answer tells = tt
   tells_on (Some a) events.Paint r ready answer tells = pictured a r ready answer tells

@@ -1,4 +1,5 @@
 pub mod Beginning
+pub mod Causes
 pub mod ClientEntries
 pub mod Closures
 pub mod Crewing

@@ -1,6 +1,7 @@
 -- What a session's threads begin with, put together.
 use Rattle.std.proofs.Common.{◌≡◌, ◌⊎◌, ℕ, ◌≤◌, Bool, true, false, ◌&&◌, List, length, map, sym, refl, ap, ◌∙◌, subst, inl, inr, arith}
 use Rattle.std.specs.Prelude.{nat_le}
+use Rattle.std.proofs.lemmas.Bool.{and_parts}
 use Rattle.std.proofs.lemmas.Bool.Decides.{nat_tests}
 use Rattle.con_events.specs.Session.{Clients, all_scripts, are_scripts, steps_of}
 use Rattle.con_events.specs.declared.script.Script.{Script}
@@ -42,21 +43,13 @@ pub state_begun : (session : Clients) (racks : List (List ℕ)) (sizes : List �
     → s ≡ begun session racks
 state_begun session racks sizes s e z = e ∙ ap (λ (ns : List ℕ). opening session ns) (sym z)
 
-both_left : (a b : Bool) → (a && b) ≡ true → a ≡ true
-both_left true b e = refl
-both_left false b e = absurd (cc)
-
-both_right : (a b : Bool) → (a && b) ≡ true → b ≡ true
-both_right true b e = e
-both_right false b e = absurd (cc)
-
 -- a session has few clients
 pub few_scripts : (ss : List Script) → are_scripts ss ≡ true → length ss ≤ 64
 few_scripts ss e =
-    let a : (nat_le 1 (length ss) && nat_le (length ss) 64) ≡ true =
-    both_left (nat_le 1 (length ss) && nat_le (length ss) 64) (all_scripts ss)
-    (both_left ((nat_le 1 (length ss) && nat_le (length ss) 64) && all_scripts ss) (nat_le (steps_of ss) 16384) e) in
-    let b : nat_le (length ss) 64 ≡ true = both_right (nat_le 1 (length ss)) (nat_le (length ss) 64) a in
+    let few : Bool = nat_le 1 (length ss) && nat_le (length ss) 64 in
+    let all = and_parts (few && all_scripts ss) (nat_le (steps_of ss) 16384) e in
+    let a = and_parts (nat_le 1 (length ss)) (nat_le (length ss) 64) (and_parts few (all_scripts ss) all.0).0 in
+    let b : nat_le (length ss) 64 ≡ true = a.1 in
     grind (arith, nat_tests)
 
 pub was_fine : (P : Type 0) (failed : Bool) → failed ≡ false → (failed ≡ true) ⊎ P → P

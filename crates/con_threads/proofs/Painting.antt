@@ -302,17 +302,21 @@ tied_from start from g kept e k = let P : State → Type 0 = λ z. IsTied (run z
 
 -- ---- an answer that is no value
 
-pub turn_err : (result : Result (Option (List ℕ)) OutOfMemory) (old new : PainterThread) → IsErr result
-    → ((b : Begun) (size : Size) (ps : List (List ℕ)) → opened old.scribe ≡ b.state
-    → Draws b (history old.scribe) size old.painter ps old.ends.items old.end → DrawsLess b (history new.scribe) size ps new.ends.items)
-    → PainterTurn result old new
+-- there is no memory behind a turn at the pipe
+abbrev pub Lessens : PainterThread → PainterThread → Type 0
+Lessens old new = (b : Begun) (size : Size) (ps : List (List ℕ)) → opened old.scribe ≡ b.state
+    → Draws b (history old.scribe) size old.painter ps old.ends.items old.end → DrawsLess b (history new.scribe) size ps new.ends.items
+
+pub turn_err : (result : Result (Option (List ℕ)) OutOfMemory) (old new : PainterThread) → IsErr result → Lessens old new → PainterTurn result old new
 turn_err (Ok x) old new i k = absurd (cc)
 turn_err (Err e) old new i k = k
 
-pub paints_err : (result : Result (Option Bool) OutOfMemory) (old new : PainterThread) (was now : Option (List ℕ)) → IsErr result
-    → ((b : Begun) (size : Size) (before : Option (List ℕ)) (ps : List (List ℕ)) → opened old.scribe ≡ b.state
-    → CanvasIs b (history old.scribe) size old.painter ps old.ends.items old.end before was false
-    → CanvasEnds b (history new.scribe) size new.ends.items before now)
+-- nor behind one at the sink
+abbrev pub EndsTo : PainterThread → PainterThread → Option (List ℕ) → Option (List ℕ) → Type 0
+EndsTo old new was now = (b : Begun) (size : Size) (before : Option (List ℕ)) (ps : List (List ℕ)) → opened old.scribe ≡ b.state
+    → CanvasIs b (history old.scribe) size old.painter ps old.ends.items old.end before was false → CanvasEnds b (history new.scribe) size new.ends.items before now
+
+pub paints_err : (result : Result (Option Bool) OutOfMemory) (old new : PainterThread) (was now : Option (List ℕ)) → IsErr result → EndsTo old new was now
     → PaintsTo result old new was now
 paints_err (Ok x) old new was now i k = absurd (cc)
 paints_err (Err e) old new was now i k = k

@@ -1,6 +1,7 @@
 -- Threads that have returned.
 use Rattle.std.proofs.Common.{◌≡◌, ℕ, zero, suc, ◌+◌, ◌<◌, ◌≤◌, Bool, true, false, ◌||◌, List, [], ◌∷◌, length, map, Option, Some, None, Ok, Err, sym, refl, ap, ◌∙◌, subst, All, arith}
 use Rattle.std.specs.Prelude.{slice_get}
+use Rattle.std.proofs.lemmas.List.{length-map}
 use Rattle.std.proofs.lemmas.Option.{slice_get_within, get_or_from_slice_get}
 use Rattle.con_units.specs.declared.code.OutOfMemory.{OutOfMemory}
 use Rattle.con_events.specs.Session.{Clients}
@@ -33,7 +34,6 @@ use Rattle.con_session.specs.Solo.{begins, end_by}
 use Rattle.con_session.specs.Standing.{ClientStands}
 use Rattle.con_session.specs.Worker.{IsStance}
 use Rattle.con_book.specs.History.{own}
-use Rattle.con_book.specs.Laws.{begins_itself}
 use Rattle.con_book.specs.Lock.{joined}
 use Rattle.con_book.specs.Passes.{BookId, pass_id, view_of, actor_of, seen}
 use Rattle.con_book.specs.declared.machine.Machine.{Ghosts}
@@ -97,19 +97,12 @@ taken_painter old new ks is h actor kept broken = record {
       (tied_sees (opened old.scribe) (history old.scribe) (history new.scribe) old.painter (taken_sees old.scribe new.scribe ks is.is_scribe is.actor h) (is.tied (sym broken ∙ e))));
 }
 
-pub same_self : (s : Scribe) → IsSameScribe s s
-same_self s = record { pass = (refl, (refl, refl, refl, refl, refl, refl)); actor = refl; more = begins_itself (seen s.pass) }
-
 -- ---- the whole history
 
 mapped_get : {A B : Type 0} (f : A → B) (xs : List A) (k : ℕ) (y : B) → slice_get (map f xs) k ≡ Some y → (x : A) × (slice_get xs k ≡ Some x) × (f x ≡ y)
 mapped_get f [] k y e = absurd (cc)
 mapped_get f (x ∷ xs) zero y e = (x, refl, (let q : f x ≡ y = cc in q))
 mapped_get f (x ∷ xs) (suc k) y e = mapped_get f xs k y e
-
-map_length : {A B : Type 0} (f : A → B) (xs : List A) → length (map f xs) ≡ length xs
-map_length f [] = refl
-map_length f (x ∷ xs) = ap suc (map_length f xs)
 
 at_of : (id : BookId) (start : Page) (n : ℕ) (s : Scribe) → IsAt id start n s → IsScribe s → IsOf start n (view_of s.pass)
 at_of id start n s a is = record { start' = a.begins; actor = a.actor'; own_mine = is.own_mine }
@@ -162,7 +155,7 @@ module _ {C : Type 0} (view : C → ClientView) (id : BookId) (n : ℕ) (opener 
       count =
           let a : length (view_of p2.scribe.pass).kept ≡ suc (length (kept_all vs [])) = ap length kept_is in
           let b : length (kept_all vs []) ≡ length vs + 0 = kept_length vs [] in
-          let c : length vs ≡ length cs = map_length (λ (x : C). view_of (view x).scribe.pass) cs in
+          let c : length vs ≡ length cs = length-map cs (λ (x : C). view_of (view x).scribe.pass) in
           let d : length cs ≡ n = back.len in
           let m : length (view_of opener.pass).made ≡ suc (suc (length (down_from n))) = ap length back.opening'.made' in
           let l : length (down_from n) ≡ n = down_length n in
@@ -179,7 +172,7 @@ module _ {C : Type 0} (view : C → ClientView) (id : BookId) (n : ℕ) (opener 
       painter = record { start' = start_is; actor = same.pass.1.1 ∙ (taken.actor ∙ back.edges.painter_at.actor'); own_mine = is.own_mine };
       side' = at_of id start 1000 side.scribe back.edges.side_at back.edges.side_is.scribe;
       clients' = vs_are;
-      len = map_length (λ (x : C). view_of (view x).scribe.pass) cs ∙ back.len;
+      len = length-map cs (λ (x : C). view_of (view x).scribe.pass) ∙ back.len;
       few = back.few;
       kept = kept_is;
       covers = covers_more (view_of p1.scribe.pass) (view_of p2.scribe.pass) covers same.pass.1.4 same.more;

@@ -13,11 +13,12 @@ use Rattle.con_events.specs.declared.entry.Entry.{Entry}
 use Rattle.con_events.specs.declared.event.Event.{Event}
 use Rattle.con_machine.specs.History.{run}
 use Rattle.con_machine.specs.Numbered as numbers
+use Rattle.con_machine.specs.Numbered.{ready_of}
 use Rattle.con_machine.specs.State.{State}
 use Rattle.con_machine.specs.Step.{step, is_ready}
 use Rattle.con_session.specs.Desk.{brief_of}
 use Rattle.con_session.specs.Desk as desk
-use Rattle.con_threads.specs.Ledger.{entries_of, front_of, next_page, page_ready, page_brief, page_tells, ready_by, brief_by, brief_told, TellsPicture}
+use Rattle.con_threads.specs.Ledger.{entries_of, front_of, next_page, page_ready, page_brief, page_tells, brief_by, brief_told, TellsPicture}
 use Rattle.con_threads.specs.LedgerLaws.{entries_of-append, after_state, history_legal, others_entered, front_whole}
 use Rattle.con_threads.specs.Scribe.{opened, history, IsScribe, IsSameScribe, SeesMore, HasEntered}
 use Rattle.con_threads.specs.declared.ledger.Page.{Page}
@@ -47,7 +48,7 @@ one_entered s n a e named ready =
 
 module _ (p : Page) (n : ℕ) (a : Actor) (named : numbers.actor_of n ≡ Some a) (log : List (Logged Event)) where
   pub ready_there : (e : Event) → page_ready (after next_page p log) n e ≡ is_ready (run p.state (entries_of p.state log)) a e
-  ready_there e = λ i. ready_by (after_state p log i) (named i) e
+  ready_there e = λ i. ready_of (after_state p log i) (named i) e
 
   brief_there : (e : Event) → page_brief (after next_page p log) n e ≡ brief_of (step (run p.state (entries_of p.state log)) a e).reply
   brief_there e = λ i. brief_by (after_state p log i) (named i) e
@@ -58,7 +59,7 @@ module _ (p : Page) (n : ℕ) (a : Actor) (named : numbers.actor_of n ≡ Some a
 -- an event that is ready in every state is so for its number
 pub always_ready : (old : Scribe) → IsScribe old → (e : Event) → ((s : State) → is_ready s old.actor e ≡ true) → (p : Page)
     → page_ready p (actor_of old.pass) e ≡ true
-always_ready old is e always p = ap (λ (o : Option Actor). ready_by p.state o e) is.named ∙ always p.state
+always_ready old is e always p = ap (λ (o : Option Actor). ready_of p.state o e) is.named ∙ always p.state
 
 -- ---- of a scribe before and after
 

@@ -1,8 +1,8 @@
 -- The thread of the terminal's side behind a turn, and behind several.
-use Rattle.std.proofs.Common.{◌≡◌, ◌⊎◌, ℕ, ◌+◌, ◌≤◌, Bool, true, false, List, ◌++◌, length, Option, Result, Ok, Err, refl, sym, ap, ◌∙◌, subst, inl, inr, arith}
+use Rattle.std.proofs.Common.{◌≡◌, ℕ, ◌+◌, ◌≤◌, Bool, true, false, List, ◌++◌, length, Option, Result, Ok, Err, refl, sym, ap, ◌∙◌, subst}
 use Rattle.std.specs.Prelude.{not}
 use Rattle.con_units.specs.declared.view.Frame.{Frame}
-use Rattle.con_outside.specs.Outside.{Rose, then_left}
+use Rattle.con_outside.specs.Outside.{then_left}
 use Rattle.con_link.specs.Frames.{Answers, ends_link}
 use Rattle.con_link.specs.declared.fault.LinkFault.{LinkFault}
 use Rattle.con_events.specs.declared.actor.Actor.TheVariants as actors
@@ -26,25 +26,12 @@ use Rattle.con_threads.proofs.SideLaws.{fault_goes, frame_goes, goes_on, goes_se
 
 -- ---- several turns
 
-rose_later : (a b c : ℕ) → Rose a b → b ≤ c → Rose a c
-rose_later a b c (inl l) m = inl (omega arith)
-rose_later a b c (inr l) m = inr (omega arith)
-
-rose_sooner : (a b c : ℕ) → a ≤ b → Rose b c → Rose a c
-rose_sooner a b c l (inl m) = inl (omega arith)
-rose_sooner a b c l (inr m) = inr m
-
 pub sent_then : (s t u : SideThread) (was mid left : Option (List ℕ)) → HasSentOn s t was mid → HasSentOn t u mid left → HasSentOn s u was left
 sent_then s t u was mid left j k = record {
   same = same_then s.scribe t.scribe u.scribe j.same k.same;
   is = k.is;
   goes = λ x before e g. k.goes x before (same_opened s.scribe t.scribe j.same ∙ e) (j.goes x before e g);
 }
-
--- why the link could not be read
-pub cause_then : (P Q R : Type 0) (a b c : ℕ) → (Q → P ⊎ Rose a b) → (R → Q ⊎ Rose b c) → a ≤ b → b ≤ c → R → P ⊎ Rose a c
-cause_then P Q R a b c f g l m r =
-    elim (g r) [ inl q ↦ elim (f q) [ inl p ↦ inl p | inr x ↦ inr (rose_later a b c x m) ] | inr x ↦ inr (rose_sooner a b c l x) ]
 
 -- ---- a turn
 
@@ -101,6 +88,18 @@ pub record Looked (t : SideThread) (s : Scribe) : Type 0 where
   pub is : IsScribe s
   pub sees : SeesMore (opened t.scribe) actors.Terminal (history t.scribe) (history s)
   pub served : (run (opened s) (history s)).asked ≡ false
+
+pub looked : (t : SideThread) (s : Scribe) (answer : Bool) → t.side.ended ≡ false → t.broken ≡ false → IsSideThread t → IsSameScribe t.scribe s → IsScribe s
+    → SeesMore (opened t.scribe) actors.Terminal (history t.scribe) (history s) → answer ≡ not (run (opened s) (history s)).asked → answer ≡ true → Looked t s
+looked t s answer o w i m n more e f = record {
+  open' = o;
+  whole = w;
+  was = i;
+  same = m;
+  is = n;
+  sees = more;
+  served = served_by (run (opened s) (history s)).asked answer e f;
+}
 
 -- what it was goes on to the moment of the look
 looked_goes : (t : SideThread) (s : Scribe) (b : Begun) (before was : Option (List ℕ)) → Looked t s → opened t.scribe ≡ b.state → ThreadGoes b t before was

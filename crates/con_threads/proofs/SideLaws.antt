@@ -25,6 +25,7 @@ use Rattle.con_machine.specs.Step.{is_due, is_ready}
 use Rattle.con_machine.specs.Turns.{is_terminal, moved}
 use Rattle.con_session.specs.Desk.{entry}
 use Rattle.con_session.specs.LinkLaws.{link_failed, link_fault, link_frame, link_hung, link_other, link_stays, link_stops}
+use Rattle.con_session.specs.RanLaws.{append_none}
 use Rattle.con_session.specs.Sender.{LinkEnds, LinkIs, end_for}
 use Rattle.con_session.specs.SenderLaws.{side_other}
 use Rattle.con_session.specs.Solo.{AsksStand}
@@ -32,10 +33,6 @@ use Rattle.con_session.specs.declared.terminal.Side.{Side}
 use Rattle.con_threads.specs.Scribe.{HasEntered, SeesMore, is_same}
 use Rattle.con_threads.specs.Sides.{HasSent, SideGoes}
 use Rattle.con_threads.specs.declared.ledger.Told.{Told}
-
-append_none : {A : Type 0} (xs : List A) → xs ++ [] ≡ xs
-append_none [] = refl
-append_none (x ∷ xs) = ap (λ ys. x ∷ ys) (append_none xs)
 
 -- ---- entries of others
 
@@ -116,7 +113,8 @@ asks_own b h event lost served k =
     asks_more b h (entry actors.Terminal event) lost
     (λ l i. may_terminal l (after asks false h) (elim served [ inl n ↦ inl (k.asked' ∙ n) | inr f ↦ inr (i f) ])) k
 
-asks_lost : (b : Begun) (h : List Entry) (lost more : Bool) → (lost ≡ true → more ≡ true) → AsksStand b h lost → AsksStand b h more
+-- and where more may be missing
+pub asks_lost : (b : Begun) (h : List Entry) (lost more : Bool) → (lost ≡ true → more ≡ true) → AsksStand b h lost → AsksStand b h more
 asks_lost b h lost more i k = record { answered = λ l j. k.answered l (λ e. j (i e)); asked' = k.asked' }
 
 -- others ask for nothing

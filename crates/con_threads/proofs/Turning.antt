@@ -6,26 +6,20 @@ use Rattle.con_units.specs.declared.place.Size.{Size}
 use Rattle.con_outside.specs.Outside.{then_written, WroteFront}
 use Rattle.con_machine.specs.Rounds.{Begun}
 use Rattle.con_session.specs.CanvasLaws.{canvas_ends}
-use Rattle.con_session.specs.Painting.{CanvasIs, CanvasEnds}
+use Rattle.con_session.specs.Painting.{CanvasIs}
 use Rattle.con_pipe.specs.Ends.{pieces_put, IsSameIn}
 use Rattle.con_pipe.specs.declared.put.PipeIn.{PipeIn}
-use Rattle.con_threads.specs.Painters.{Draws, DrawsLess, PainterGoes, PainterTurn, IsPainterThread, HasDrawn, PaintsTo, HasFinished}
+use Rattle.con_threads.specs.Painters.{PainterGoes, PainterTurn, IsPainterThread, HasDrawn, PaintsTo, HasFinished}
 use Rattle.con_threads.specs.Scribe.{opened, history, IsSameScribe}
 use Rattle.con_threads.specs.ScribeLaws.{same_then, same_opened}
 use Rattle.con_threads.specs.declared.painter.PainterThread.{PainterThread}
-use Rattle.con_threads.proofs.Painting.{drawn_less}
+use Rattle.con_threads.proofs.Painting.{EndsTo, Lessens, drawn_less}
 use Rattle.con_threads.proofs.Writing.{drawn_written, written_drawn, less_written, written_whole, written_part}
 
 -- ---- a turn at the pipe
 
 abbrev pub Goes : Begun → Size → PainterThread → List (List ℕ) → Type 0
 Goes b size t ps = PainterGoes b (history t.scribe) size t.painter ps t.ends.items t.end t.broken
-
--- there is no memory
-abbrev pub Lessens : PainterThread → PainterThread → Type 0
-Lessens old new =
-    (b : Begun) (size : Size) (ps : List (List ℕ)) → opened old.scribe ≡ b.state → Draws b (history old.scribe) size old.painter ps old.ends.items old.end
-    → DrawsLess b (history new.scribe) size ps new.ends.items
 
 -- a Paint with its piece
 pub goes_some : (old new : PainterThread) (p : List ℕ) → old.broken ≡ false → PainterTurn (Ok (Some p)) old new
@@ -90,13 +84,6 @@ drawn_ended first new put1 put2 put3 was pipe put = record {
 }
 
 -- ---- a turn at the sink
-
--- there is no memory
-abbrev pub EndsTo : PainterThread → PainterThread → Option (List ℕ) → Option (List ℕ) → Type 0
-EndsTo old new was now =
-    (b : Begun) (size : Size) (before : Option (List ℕ)) (ps : List (List ℕ)) → opened old.scribe ≡ b.state
-    → CanvasIs b (history old.scribe) size old.painter ps old.ends.items old.end before was false
-    → CanvasEnds b (history new.scribe) size new.ends.items before now
 
 pub to_none : (old new : PainterThread) (was : Option (List ℕ)) → PainterTurn (Ok None) old new → PaintsTo (Ok None) old new was was
 to_none old new was t = λ b size before ps i k. (

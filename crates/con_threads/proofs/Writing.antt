@@ -1,10 +1,10 @@
 -- What was written behind one more piece, and what the pieces that were taken are of those that were put.
-use Rattle.std.proofs.Common.{◌≡◌, ◌⊎◌, ℕ, ◌≤◌, Bool, true, false, List, [], ◌∷◌, ◌++◌, length, take, Option, Some, refl, sym, ap, ◌∙◌, subst, inl, inr, arith, length-append}
+use Rattle.std.proofs.Common.{◌≡◌, ℕ, ◌≤◌, Bool, true, false, List, [], ◌∷◌, ◌++◌, length, take, Option, Some, refl, sym, ap, ◌∙◌, subst, arith, length-append}
 use Rattle.std.specs.Prelude.{◌||◌}
 use Rattle.std.proofs.Math.Seq.{take-length}
 use Rattle.std.proofs.lemmas.List.{take-append-le}
 use Rattle.con_units.specs.declared.place.Size.{Size}
-use Rattle.con_outside.specs.Outside.{Rose, then_written, WroteFront}
+use Rattle.con_outside.specs.Outside.{then_written, WroteFront}
 use Rattle.con_paint.specs.Painter.{Kept}
 use Rattle.con_events.specs.declared.entry.Entry.{Entry}
 use Rattle.con_machine.specs.Rounds.{Begun}
@@ -102,18 +102,6 @@ writes_on before was now ps qs p failed broken failed' broken' e f w =
 pub writes_still : (before now : Option (List ℕ)) (ps qs : List (List ℕ)) (failed broken : Bool) → qs ≡ ps → Writes before now ps failed broken
     → Writes before now qs failed broken
 writes_still before now ps qs failed broken e w = let P : List (List ℕ) → Type 0 = λ x. Writes before now x failed broken in subst P (sym e) w
-
-rose_later : (a b c : ℕ) → Rose a b → b ≤ c → Rose a c
-rose_later a b c r l = elim r [ inl x ↦ inl (omega arith) | inr x ↦ inr (omega arith) ]
-
-pub rose_before : (a b c : ℕ) → a ≤ b → Rose b c → Rose a c
-rose_before a b c l r = elim r [ inl x ↦ inl (omega arith) | inr x ↦ inr x ]
-
--- a failure has its cause
-pub fails_on : (old was now : Bool) (a b c : ℕ) → (was ≡ true → (old ≡ true) ⊎ Rose a b) → a ≤ b → (now ≡ true → (was ≡ true) ⊎ Rose b c) → b ≤ c → now ≡ true
-    → (old ≡ true) ⊎ Rose a c
-fails_on old was now a b c f l k m e =
-    elim (k e) [ inl x ↦ elim (f x) [ inl y ↦ inl y | inr r ↦ inr (rose_later a b c r m) ] | inr r ↦ inr (rose_before a b c l r) ]
 
 -- ---- the pieces of a painter, written
 

@@ -43,9 +43,6 @@ paged p h = record { state = run p.state h; replies = p.replies ++ map listed (r
 abbrev pub next_page : Page → ℕ → Event → Page
 next_page p n e = paged p (front_of p.state (actor_of n) e)
 
-abbrev pub ready_by : State → Option Actor → Event → Bool
-ready_by s o e = ready_of s o e
-
 -- what a client looks at in what it was told
 abbrev pub brief_told : Told → Brief
 brief_told (tolds.Brief b) = b
@@ -74,7 +71,7 @@ abbrev pub blank_page : Page
 blank_page = record { state = blank_state; replies = [] }
 
 abbrev pub page_ready : Page → ℕ → Event → Bool
-page_ready p n e = ready_by p.state (actor_of n) e
+page_ready p n e = ready_of p.state (actor_of n) e
 
 abbrev pub page_brief : Page → ℕ → Event → Brief
 page_brief p n e = brief_by p.state (actor_of n) e

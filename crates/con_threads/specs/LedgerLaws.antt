@@ -15,11 +15,11 @@ use Rattle.con_events.specs.declared.event.Event.{Event}
 use Rattle.con_events.specs.declared.reply.Reply.{Reply}
 use Rattle.con_machine.specs.History.{run, replies_of, is_legal}
 use Rattle.con_machine.specs.HistoryLaws.{run-append, replies-append, legal-append}
-use Rattle.con_machine.specs.Numbered.{actor_of}
+use Rattle.con_machine.specs.Numbered.{actor_of, ready_of}
 use Rattle.con_machine.specs.State.{State}
 use Rattle.con_machine.specs.Step.{step, is_ready}
 use Rattle.con_session.specs.Desk.{entry, listed}
-use Rattle.con_threads.specs.Ledger.{front_of, entries_of, paged, next_page, page_ready, ready_by, entry_by, actor_or, IsLogOf}
+use Rattle.con_threads.specs.Ledger.{front_of, entries_of, paged, next_page, page_ready, entry_by, actor_or, IsLogOf}
 use Rattle.con_threads.specs.Scribe.{is_same}
 use Rattle.con_threads.specs.declared.ledger.Page.{Page}
 
@@ -92,7 +92,7 @@ and_right true b e = e
 and_right false b e = absurd (let k : false ≡ true = e in cc)
 
 -- an event that is ready has its entry
-pub front_whole : (s : State) (o : Option Actor) (e : Event) → ready_by s o e ≡ true → front_of s o e ≡ entry (actor_or o) e ∷ []
+pub front_whole : (s : State) (o : Option Actor) (e : Event) → ready_of s o e ≡ true → front_of s o e ≡ entry (actor_or o) e ∷ []
 front_whole s None e r = absurd (let k : false ≡ true = r in cc)
 front_whole s (Some a) e r = ap (λ (b : Bool). if b then entry a e ∷ [] else []) r
 

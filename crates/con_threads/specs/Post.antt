@@ -1,8 +1,7 @@
 -- A scribe at its book, as a door: others may enter events in between.
-use Rattle.std.proofs.Common.{◌≡◌, ℕ, Bool, true, List, [], ◌++◌, refl, sym, ap, ◌∙◌, subst}
-use Rattle.std.specs.Prelude.{not, ◌&&◌}
+use Rattle.std.proofs.Common.{◌≡◌, ℕ, true, List, [], ◌++◌, refl, sym, ap, ◌∙◌, subst}
+use Rattle.std.specs.Prelude.{not}
 use Rattle.std.specs.List.{list_all}
-use Rattle.std.proofs.lemmas.List.Folds.{list_all-append}
 use Rattle.con_events.specs.declared.actor.Actor.{Actor}
 use Rattle.con_events.specs.declared.actor.Actor.TheVariants as actors
 use Rattle.con_events.specs.declared.entry.Entry.{Entry}
@@ -12,7 +11,7 @@ use Rattle.con_session.specs.Door.{Saw, Entered, are_others}
 use Rattle.con_session.specs.declared.desk.Brief.{Brief}
 use Rattle.con_threads.specs.Ledger.{brief_told}
 use Rattle.con_threads.specs.Scribe.{is_same, opened, IsSameScribe, SeesMore, HasEntered}
-use Rattle.con_threads.specs.ScribeLaws.{no_client, same_opened}
+use Rattle.con_threads.specs.ScribeLaws.{no_client, others_then, same_opened}
 use Rattle.con_threads.specs.declared.ledger.Told.{Told}
 use Rattle.con_threads.specs.declared.scribe.Scribe.{Scribe}
 
@@ -23,7 +22,7 @@ pub none : (a : Actor) → AreOthers a []
 none a = refl
 
 pub joins : (a : Actor) (xs ys : List Entry) → AreOthers a xs → AreOthers a ys → AreOthers a (xs ++ ys)
-joins a xs ys e f = list_all-append (λ x. not (is_same a x.actor)) xs ys ∙ (ap (λ (b : Bool). b && list_all (λ x. not (is_same a x.actor)) ys) e ∙ f)
+joins a xs ys e f = others_then a xs ys e f
 
 pub others : (p : ℕ) (xs : List Entry) → AreOthers (actors.Client p) xs → are_others p xs ≡ true
 others p xs e = no_client p xs e

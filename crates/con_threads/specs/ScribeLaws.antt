@@ -66,7 +66,7 @@ sees_legal s a h g x l = ap (λ (z : List Entry). is_legal s z) x.entries'
     ∙ (legal-append s h x.between ∙ both_true (is_legal s h) (is_legal (run s h) x.between) l x.legal)
 
 -- entries of others behind entries of others
-others_then : (a : Actor) (xs ys : List Entry) → list_all (λ z. not (is_same a z.actor)) xs ≡ true
+pub others_then : (a : Actor) (xs ys : List Entry) → list_all (λ z. not (is_same a z.actor)) xs ≡ true
     → list_all (λ z. not (is_same a z.actor)) ys ≡ true → list_all (λ z. not (is_same a z.actor)) (xs ++ ys) ≡ true
 others_then a xs ys e f = list_all-append (λ z. not (is_same a z.actor)) xs ys
     ∙ both_true (list_all (λ z. not (is_same a z.actor)) xs) (list_all (λ z. not (is_same a z.actor)) ys) e f

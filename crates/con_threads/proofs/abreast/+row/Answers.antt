@@ -15,5 +15,4 @@ pub from-returns : goal.from-returns
 from-returns g t c =
     let cut = c.split_at_mut-front in
     both_became
-    (ChangesAt g.F.Fn c.args.f.now) c.args.base _ c.args.row.now _ _ _ _ cut.ensures.value cut.ensures.front_len c.halves.ensures.front
-    c.halves.ensures.back
+    (ChangesAt g.F.Fn c.args.f.now) c.args.base _ c.args.row.now _ _ _ _ cut.ensures.value cut.ensures.front_len c.halves.ensures.front c.halves.ensures.back

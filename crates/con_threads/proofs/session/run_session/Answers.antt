@@ -20,13 +20,14 @@ play-requires-clause-few g c κs within = let f = few_scripts c.scripts-scripts.
 
 pub returns-clause-outcome : goal.returns-clause-outcome
 returns-clause-outcome g c =
-    c.play.ensures.outcome c.args.session.now _
-    (ap (λ (p : Page). p.state) c.in-Ok-made.ensures.start ∙ (state_begun _ _ _ _ c.in-Ok.ensures.state (sizes_same _ _ c.args.racks.items))) (search rules)
-    (c.in-Ok-made.ensures.go _ _ _ _ (state_begun _ _ _ _ c.in-Ok.ensures.state (sizes_same _ _ c.args.racks.items)))
-    (c.in-Ok-made.ensures.crew_goes _ _ (state_begun _ _ _ _ c.in-Ok.ensures.state (sizes_same _ _ c.args.racks.items)) c.scripts-scripts.ensures.value c.in-Ok.ensures.fresh)
+    let racks = map (λ rack. map (λ x. told_kind ((goal.CtrlHandler-dyn g (x.vtable, x.value)).memory x.value)) rack.items) c.args.racks.items in
+    let begun = state_begun _ racks _ _ c.in-Ok.ensures.state (sizes_same _ _ c.args.racks.items) in
+    c.play.ensures.outcome c.args.session.now _ (ap (λ (p : Page). p.state) c.in-Ok-made.ensures.start ∙ begun) (search rules)
+    (c.in-Ok-made.ensures.go _ _ _ _ begun) (c.in-Ok-made.ensures.crew_goes _ _ begun c.scripts-scripts.ensures.value c.in-Ok.ensures.fresh)
 
 pub returns-clause-term : goal.returns-clause-term
-returns-clause-term g c =
-    λ t.
+returns-clause-term g c = λ t.
+    let racks = map (λ rack. map (λ x. told_kind ((goal.CtrlHandler-dyn g (x.vtable, x.value)).memory x.value)) rack.items) c.args.racks.items in
+    let begun = state_begun _ racks _ _ c.in-Ok.ensures.state (sizes_same _ _ c.args.racks.items) in
     was_fine _ _ c.in-Ok-made.ensures.fine.1
-    (c.play.ensures.term c.args.session.now _ (ap (λ (p : Page). p.state) c.in-Ok-made.ensures.start ∙ (state_begun _ (map (λ rack. map (λ x. told_kind ((goal.CtrlHandler-dyn g (x.vtable, x.value)).memory x.value)) rack.items) c.args.racks.items) _ _ c.in-Ok.ensures.state (sizes_same _ _ c.args.racks.items))) (c.in-Ok-made.ensures.go _ _ _ _ (state_begun _ (map (λ rack. map (λ x. told_kind ((goal.CtrlHandler-dyn g (x.vtable, x.value)).memory x.value)) rack.items) c.args.racks.items) _ _ c.in-Ok.ensures.state (sizes_same _ _ c.args.racks.items))) t)
+    (c.play.ensures.term c.args.session.now _ (ap (λ (p : Page). p.state) c.in-Ok-made.ensures.start ∙ begun) (c.in-Ok-made.ensures.go _ _ _ _ begun) t)

@@ -1,5 +1,6 @@
 use Rattle.std.proofs.Common.{arith}
-use Rattle.con_threads.proofs.SendingLaws.{cause_then, sent_then}
+use Rattle.con_threads.proofs.Causes.{cause_then}
+use Rattle.con_threads.proofs.SendingLaws.{sent_then}
 use Rattle.con_threads.proofs.side.SideThread.send_all.Goals as goal
 
 pub loop-preserved-in-Ok-Entered : goal.loop-preserved-in-Ok-Entered

@@ -2,7 +2,7 @@ use Rattle.std.proofs.Common.{sym, ap, ◌∙◌, inl, inr, Ok, Err}
 use Rattle.con_events.specs.declared.actor.Actor.TheVariants as actors
 use Rattle.con_session.specs.LinkLaws.{failed_for}
 use Rattle.con_threads.specs.ScribeLaws.{same_self, sees_here}
-use Rattle.con_threads.proofs.SendingLaws.{Looked, gave_up, hung_up, never_blocked, passed_on, saw, served_by, stopped}
+use Rattle.con_threads.proofs.SendingLaws.{gave_up, hung_up, looked, never_blocked, passed_on, saw, served_by, stopped}
 use Rattle.con_threads.proofs.side.SideThread.turn.Goals as goal
 
 pub returns-in_err-hang_up-clause-on : goal.returns-in_err-hang_up-clause-on
@@ -20,16 +20,9 @@ returns-then-not-is_served-clause-on g c =
 
 pub returns-in_err-pass_on-in-Ok-clause-on : goal.returns-in_err-pass_on-in-Ok-clause-on
 returns-in_err-pass_on-in-Ok-clause-on g c =
-    let look : Looked c.args.self.now c.is_served.new.scribe =
-    record {
-      open' = c.if-self.false;
-      whole = c.if-self-2.false;
-      was = c.requires.is;
-      same = c.is_served.ensures.same;
-      is = c.is_served.ensures.scribe;
-      sees = c.is_served.ensures.seen;
-      served = served_by _ _ c.is_served.ensures.served c.if-not-is_served.false;
-    } in
+    let seen = c.is_served.ensures in
+    let look = looked c.args.self.now c.is_served.new.scribe _ c.if-self.false c.if-self-2.false c.requires.is seen.same seen.scribe seen.seen seen.served
+    c.if-not-is_served.false in
     stopped c.args.self.now c.is_served.new.scribe c.pass_on.new.scribe _ _ _
     (Ok c.in-Ok.frame) look c.in_err-pass_on-in-Ok.ensures.same c.in_err-pass_on-in-Ok.ensures.scribe c.in_err-pass_on-in-Ok.ensures.refused
     c.in-Ok.ensures.took
@@ -43,47 +36,26 @@ unreachable-requires g c =
 
 pub returns-else-not-branch-clause-on : goal.returns-else-not-branch-clause-on
 returns-else-not-branch-clause-on g c =
-    let look : Looked c.args.self.now c.is_served.new.scribe =
-    record {
-      open' = c.if-self.false;
-      whole = c.if-self-2.false;
-      was = c.requires.is;
-      same = c.is_served.ensures.same;
-      is = c.is_served.ensures.scribe;
-      sees = c.is_served.ensures.seen;
-      served = served_by _ _ c.is_served.ensures.served c.if-not-is_served.false;
-    } in
+    let seen = c.is_served.ensures in
+    let look = looked c.args.self.now c.is_served.new.scribe _ c.if-self.false c.if-self-2.false c.requires.is seen.same seen.scribe seen.seen seen.served
+    c.if-not-is_served.false in
     passed_on c.args.self.now c.is_served.new.scribe c.pass_on.new.scribe _ _ _ c.in-Ok.frame _ _ look c.in_ok-pass_on-in-Ok.ensures.same
     c.in_ok-pass_on-in-Ok.ensures.scribe c.event_for.ensures
     (c.in_ok-pass_on-in-Ok.ensures.sent c.if-not-branch.false) c.ends_the_link-ends.ensures c.in-Ok.ensures.took
 
 pub returns-in-Err-OutOfMemory-clause-on : goal.returns-in-Err-OutOfMemory-clause-on
 returns-in-Err-OutOfMemory-clause-on g c =
-    let look : Looked c.args.self.now c.is_served.new.scribe =
-    record {
-      open' = c.if-self.false;
-      whole = c.if-self-2.false;
-      was = c.requires.is;
-      same = c.is_served.ensures.same;
-      is = c.is_served.ensures.scribe;
-      sees = c.is_served.ensures.seen;
-      served = served_by _ _ c.is_served.ensures.served c.if-not-is_served.false;
-    } in
+    let seen = c.is_served.ensures in
+    let look = looked c.args.self.now c.is_served.new.scribe _ c.if-self.false c.if-self-2.false c.requires.is seen.same seen.scribe seen.seen seen.served
+    c.if-not-is_served.false in
     stopped c.args.self.now c.is_served.new.scribe c.is_served.new.scribe _ _ _ c.next.result look (same_self c.is_served.new.scribe) c.is_served.ensures.scribe
     (sees_here _ actors.Terminal _) c.next.ensures.took
 
 pub returns-in_err-hang_up-in-Err : goal.returns-in_err-hang_up-in-Err
 returns-in_err-hang_up-in-Err g c =
-    let look : Looked c.args.self.now c.is_served.new.scribe =
-    record {
-      open' = c.if-self.false;
-      whole = c.if-self-2.false;
-      was = c.requires.is;
-      same = c.is_served.ensures.same;
-      is = c.is_served.ensures.scribe;
-      sees = c.is_served.ensures.seen;
-      served = served_by _ _ c.is_served.ensures.served c.if-not-is_served.false;
-    } in
+    let seen = c.is_served.ensures in
+    let look = looked c.args.self.now c.is_served.new.scribe _ c.if-self.false c.if-self-2.false c.requires.is seen.same seen.scribe seen.seen seen.served
+    c.if-not-is_served.false in
     record {
       on =
           stopped c.args.self.now c.is_served.new.scribe c.hang_up-in-Err.new.scribe _ _ _
@@ -95,16 +67,9 @@ returns-in_err-hang_up-in-Err g c =
 
 pub returns-in_ok-hang_up-in-Err : goal.returns-in_ok-hang_up-in-Err
 returns-in_ok-hang_up-in-Err g c =
-    let look : Looked c.args.self.now c.is_served.new.scribe =
-    record {
-      open' = c.if-self.false;
-      whole = c.if-self-2.false;
-      was = c.requires.is;
-      same = c.is_served.ensures.same;
-      is = c.is_served.ensures.scribe;
-      sees = c.is_served.ensures.seen;
-      served = served_by _ _ c.is_served.ensures.served c.if-not-is_served.false;
-    } in
+    let seen = c.is_served.ensures in
+    let look = looked c.args.self.now c.is_served.new.scribe _ c.if-self.false c.if-self-2.false c.requires.is seen.same seen.scribe seen.seen seen.served
+    c.if-not-is_served.false in
     record {
       on =
           gave_up c.args.self.now c.is_served.new.scribe c.hang_up-in-Err.new.scribe _ _ _ c.in-Err.fault _ look c.in_ok-hang_up-in-Err.ensures.same

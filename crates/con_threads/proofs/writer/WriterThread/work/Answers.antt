@@ -1,7 +1,8 @@
 use Rattle.std.proofs.Common.{rules, ap, ◌∙◌, arith}
 use Rattle.con_pipe.specs.Ends.{IsSameOut, pieces_taken}
 use Rattle.con_pipe.specs.declared.take.PipeOut.{PipeOut}
-use Rattle.con_threads.proofs.Writing.{writes_on, writes_still, fails_on}
+use Rattle.con_threads.proofs.Causes.{cause_then}
+use Rattle.con_threads.proofs.Writing.{writes_on, writes_still}
 use Rattle.con_threads.proofs.writer.WriterThread.work.Goals as goal
 
 pub loop-preserved : goal.loop-preserved
@@ -15,9 +16,7 @@ loop-preserved g c =
           c.loop.self.broken c.write.new.self.failed c.write.new.self.broken
           (ap (λ (k : PipeOut). pieces_taken k) c.write.ensures.take ∙ c.in-Some-next.ensures.piece.0)
           (c.write.ensures.wrote before (pieces_taken c.loop.self.take)) (c.loop.invariant.wrote before w);
-      fails =
-          fails_on c.args.self.now.failed c.loop.self.failed c.write.new.self.failed (g.O.Sink.faults c.args.term.now) (g.O.Sink.faults c.loop.term)
-          (g.O.Sink.faults c.write.new.term) c.loop.invariant.fails c.loop.invariant.never_falls c.write.ensures.failed c.write.ensures.never_falls;
+      fails = cause_then _ _ _ _ _ _ c.loop.invariant.fails c.write.ensures.failed c.loop.invariant.never_falls c.write.ensures.never_falls;
       never_falls = omega (arith, c.loop.invariant.never_falls, c.write.ensures.never_falls);
       next = tt;
       finite = tt;
