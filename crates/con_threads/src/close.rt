@@ -101,7 +101,7 @@ fn left(book: Book<Ledger>, opening: Pass<Ledger>, painter: PainterThread, end: 
     }
 }
 
-/// Takes all passes together, paints until no Paint is due, and closes the book.
+/// Takes all passes together, paints until no Paint is due, and closes the book. The number of clients stands for the clauses alone.
 pub fn finished<R: Wait, O: Sink>(
     rt: &R,
     alloc: Global,
@@ -123,8 +123,6 @@ pub fn finished<R: Wait, O: Sink>(
         ⊎ Rose (O.faults term.old) (O.faults term.new) ⊎ ((edges.side.side.end ≡ End.Term) × (edges.side.broken ≡ false)) }
     ensures never_falls { O.faults term.old ≤ O.faults term.new }
 {
-    // `back` and `outcome` speak of the number; no line of the body needs it.
-    let _clients = clients;
     let Edges {
         side,
         mut painter,
