@@ -26,31 +26,32 @@ pub enum Wanted {
     },
 }
 
-/// One event. The first five are a client's, `Paint` is the painter's, and the others are the terminal side's.
+/// One event. The first five are a client's, `Paint` is the painter's, and the others are the terminal side's. Each names its function of the Windows API, where
+/// there is one.
 #[derive(Drop)]
 pub enum Event {
-    /// A call that is answered at once.
+    /// A function of the Console API that is answered at once: each [`Call`] names its own.
     Call(Call),
-    /// A wait begins.
+    /// `ReadConsole` or `ReadConsoleInput` is called, and waits.
     Begin(Wanted),
-    /// The answer of the wait is taken.
+    /// The answer of that wait is taken, as the function returns.
     Collect,
-    /// The oldest control event that waits for the client is taken.
+    /// The oldest control event that waits for the client is taken: what its `HandlerRoutine` is called with.
     TakeCtrl,
-    /// The client ends, with this status.
+    /// `ExitProcess`, with what `FreeConsole` does: the client ends, with this status.
     Exit(u32),
-    /// The terminal sent bytes.
+    /// The terminal sent bytes: what the input side of `CreatePseudoConsole` reads.
     Feed(Bytes),
-    /// The terminal sent nothing for a while.
+    /// The terminal sent nothing for a while: bytes that are no key yet become keys. This project's own.
     Quiet,
-    /// The terminal has this size from here on.
+    /// `ResizePseudoConsole`: the terminal has this size from here on, in columns and rows.
     Resize(Size),
-    /// The terminal asks for a picture.
+    /// The terminal asks for a picture. This project's own.
     Ask,
-    /// The terminal went away.
+    /// `ClosePseudoConsole`: the terminal went away.
     Hangup,
-    /// The terminal sends nothing any more.
+    /// The terminal sends nothing any more. This project's own.
     Drained,
-    /// The picture that the console shows is taken.
+    /// The picture that the console shows is taken, for the output side of `CreatePseudoConsole`.
     Paint,
 }
