@@ -20,8 +20,23 @@ args_of_record (record_of.Menu n) = Number n ∷ []
 args_of_record (record_of.Focus b) = Flag b ∷ []
 
 abbrev pub record_rows : List (Row Record)
-record_rows = row (codes "key") (flag ∷ unit ∷ unit ∷ unit ∷ unit ∷ number ∷ []) (λ xs. record_of.Key (record { down = the_flag (nth 0 xs); repeat = the_number (nth 1 xs); vk = the_number (nth 2 xs); scan = the_number (nth 3 xs); unit = the_number (nth 4 xs); state = the_number (nth 5 xs) }))
-    ∷ row (codes "mouse") (signed ∷ signed ∷ number ∷ number ∷ number ∷ []) (λ xs. record_of.Mouse (record { x = the_signed (nth 0 xs); y = the_signed (nth 1 xs); buttons = the_number (nth 2 xs); state = the_number (nth 3 xs); flags = the_number (nth 4 xs) }))
+record_rows = row (codes "key") (flag ∷ unit ∷ unit ∷ unit ∷ unit ∷ number ∷ [])
+    (λ xs. record_of.Key (record {
+      down = the_flag (nth 0 xs);
+      repeat = the_number (nth 1 xs);
+      vk = the_number (nth 2 xs);
+      scan = the_number (nth 3 xs);
+      unit = the_number (nth 4 xs);
+      state = the_number (nth 5 xs);
+    }))
+    ∷ row (codes "mouse") (signed ∷ signed ∷ number ∷ number ∷ number ∷ [])
+    (λ xs. record_of.Mouse (record {
+      x = the_signed (nth 0 xs);
+      y = the_signed (nth 1 xs);
+      buttons = the_number (nth 2 xs);
+      state = the_number (nth 3 xs);
+      flags = the_number (nth 4 xs);
+    }))
     ∷ row (codes "size") (unit ∷ unit ∷ []) (λ xs. record_of.Size (record { w = the_number (nth 0 xs); h = the_number (nth 1 xs) }))
     ∷ row (codes "menu") (number ∷ []) (λ xs. record_of.Menu (the_number (nth 0 xs)))
     ∷ row (codes "focus") (flag ∷ []) (λ xs. record_of.Focus (the_flag (nth 0 xs)))

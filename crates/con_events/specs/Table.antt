@@ -3,7 +3,9 @@ use Rattle.std.specs.Prelude.{◌≡◌, map, ℕ, zero, suc, List, [], ◌∷�
 use Rattle.std.specs.Str.{bytes_eq}
 use Rattle.con_events.specs.declared.call.Call.{Call}
 use Rattle.con_events.specs.declared.call.Call.TheVariants as call
-use Rattle.con_events.specs.Arg.{kind_of, Kind, number, signed, unit, flag, text, rect, clip, words, list, records, Arg, Number, Signed, OneUnit, Flag, Text, Area, Clip, WordsOf, WordList, Records, the_number, the_signed, the_flag, the_list, the_rect, the_clip, the_words, the_records}
+use Rattle.con_events.specs.Arg.{kind_of, Kind, number, signed, unit, flag, text, rect, clip, words, list, records}
+use Rattle.con_events.specs.Arg.{Arg, Number, Signed, OneUnit, Flag, Text, Area, Clip, WordsOf, WordList, Records}
+use Rattle.con_events.specs.Arg.{the_number, the_signed, the_flag, the_list, the_rect, the_clip, the_words, the_records}
 
 abbrev pub name_of : Call → List ℕ
 name_of (call.BufferCreate a) = codes "buffer-create"
@@ -149,14 +151,23 @@ row_of_lines n = find n lines_rows (row_of_processes n)
 abbrev pub cells_rows : List (Row Call)
 cells_rows = row (codes "write") (number ∷ text ∷ []) (λ xs. call.Write (the_number (nth 0 xs)) (the_list (nth 1 xs)))
     ∷ row (codes "rect-read") (number ∷ rect ∷ []) (λ xs. call.RectRead (the_number (nth 0 xs)) (the_rect (nth 1 xs)))
-    ∷ row (codes "rect-write") (number ∷ rect ∷ text ∷ words ∷ []) (λ xs. call.RectWrite (the_number (nth 0 xs)) (the_rect (nth 1 xs)) (the_list (nth 2 xs)) (the_words (nth 3 xs)))
-    ∷ row (codes "run-read-units") (number ∷ signed ∷ signed ∷ number ∷ []) (λ xs. call.RunReadUnits (the_number (nth 0 xs)) (the_signed (nth 1 xs)) (the_signed (nth 2 xs)) (the_number (nth 3 xs)))
-    ∷ row (codes "run-read-attrs") (number ∷ signed ∷ signed ∷ number ∷ []) (λ xs. call.RunReadAttrs (the_number (nth 0 xs)) (the_signed (nth 1 xs)) (the_signed (nth 2 xs)) (the_number (nth 3 xs)))
-    ∷ row (codes "run-write-units") (number ∷ signed ∷ signed ∷ text ∷ []) (λ xs. call.RunWriteUnits (the_number (nth 0 xs)) (the_signed (nth 1 xs)) (the_signed (nth 2 xs)) (the_list (nth 3 xs)))
-    ∷ row (codes "run-write-attrs") (number ∷ signed ∷ signed ∷ list ∷ []) (λ xs. call.RunWriteAttrs (the_number (nth 0 xs)) (the_signed (nth 1 xs)) (the_signed (nth 2 xs)) (the_list (nth 3 xs)))
-    ∷ row (codes "fill-units") (number ∷ signed ∷ signed ∷ number ∷ unit ∷ []) (λ xs. call.FillUnits (the_number (nth 0 xs)) (the_signed (nth 1 xs)) (the_signed (nth 2 xs)) (the_number (nth 3 xs)) (the_number (nth 4 xs)))
-    ∷ row (codes "fill-attrs") (number ∷ signed ∷ signed ∷ number ∷ unit ∷ []) (λ xs. call.FillAttrs (the_number (nth 0 xs)) (the_signed (nth 1 xs)) (the_signed (nth 2 xs)) (the_number (nth 3 xs)) (the_number (nth 4 xs)))
-    ∷ row (codes "scroll") (number ∷ rect ∷ clip ∷ signed ∷ signed ∷ unit ∷ unit ∷ []) (λ xs. call.Scroll (the_number (nth 0 xs)) (the_rect (nth 1 xs)) (the_clip (nth 2 xs)) (the_signed (nth 3 xs)) (the_signed (nth 4 xs)) (the_number (nth 5 xs)) (the_number (nth 6 xs)))
+    ∷ row (codes "rect-write") (number ∷ rect ∷ text ∷ words ∷ [])
+    (λ xs. call.RectWrite (the_number (nth 0 xs)) (the_rect (nth 1 xs)) (the_list (nth 2 xs)) (the_words (nth 3 xs)))
+    ∷ row (codes "run-read-units") (number ∷ signed ∷ signed ∷ number ∷ [])
+    (λ xs. call.RunReadUnits (the_number (nth 0 xs)) (the_signed (nth 1 xs)) (the_signed (nth 2 xs)) (the_number (nth 3 xs)))
+    ∷ row (codes "run-read-attrs") (number ∷ signed ∷ signed ∷ number ∷ [])
+    (λ xs. call.RunReadAttrs (the_number (nth 0 xs)) (the_signed (nth 1 xs)) (the_signed (nth 2 xs)) (the_number (nth 3 xs)))
+    ∷ row (codes "run-write-units") (number ∷ signed ∷ signed ∷ text ∷ [])
+    (λ xs. call.RunWriteUnits (the_number (nth 0 xs)) (the_signed (nth 1 xs)) (the_signed (nth 2 xs)) (the_list (nth 3 xs)))
+    ∷ row (codes "run-write-attrs") (number ∷ signed ∷ signed ∷ list ∷ [])
+    (λ xs. call.RunWriteAttrs (the_number (nth 0 xs)) (the_signed (nth 1 xs)) (the_signed (nth 2 xs)) (the_list (nth 3 xs)))
+    ∷ row (codes "fill-units") (number ∷ signed ∷ signed ∷ number ∷ unit ∷ [])
+    (λ xs. call.FillUnits (the_number (nth 0 xs)) (the_signed (nth 1 xs)) (the_signed (nth 2 xs)) (the_number (nth 3 xs)) (the_number (nth 4 xs)))
+    ∷ row (codes "fill-attrs") (number ∷ signed ∷ signed ∷ number ∷ unit ∷ [])
+    (λ xs. call.FillAttrs (the_number (nth 0 xs)) (the_signed (nth 1 xs)) (the_signed (nth 2 xs)) (the_number (nth 3 xs)) (the_number (nth 4 xs)))
+    ∷ row (codes "scroll") (number ∷ rect ∷ clip ∷ signed ∷ signed ∷ unit ∷ unit ∷ [])
+    (λ xs. call.Scroll (the_number (nth 0 xs)) (the_rect (nth 1 xs)) (the_clip (nth 2 xs))
+    (the_signed (nth 3 xs)) (the_signed (nth 4 xs)) (the_number (nth 5 xs)) (the_number (nth 6 xs)))
     ∷ []
 
 unfoldable pub row_of_cells : List ℕ → Option (Row Call)
@@ -167,7 +178,8 @@ screens_rows = row (codes "info") (number ∷ []) (λ xs. call.Info (the_number 
     ∷ row (codes "set-size") (number ∷ number ∷ number ∷ []) (λ xs. call.SetSize (the_number (nth 0 xs)) (the_number (nth 1 xs)) (the_number (nth 2 xs)))
     ∷ row (codes "set-cursor") (number ∷ signed ∷ signed ∷ []) (λ xs. call.SetCursor (the_number (nth 0 xs)) (the_signed (nth 1 xs)) (the_signed (nth 2 xs)))
     ∷ row (codes "cursor-info") (number ∷ []) (λ xs. call.CursorInfo (the_number (nth 0 xs)))
-    ∷ row (codes "set-cursor-info") (number ∷ number ∷ flag ∷ []) (λ xs. call.SetCursorInfo (the_number (nth 0 xs)) (the_number (nth 1 xs)) (the_flag (nth 2 xs)))
+    ∷ row (codes "set-cursor-info") (number ∷ number ∷ flag ∷ [])
+    (λ xs. call.SetCursorInfo (the_number (nth 0 xs)) (the_number (nth 1 xs)) (the_flag (nth 2 xs)))
     ∷ row (codes "set-origin") (number ∷ signed ∷ signed ∷ []) (λ xs. call.SetOrigin (the_number (nth 0 xs)) (the_signed (nth 1 xs)) (the_signed (nth 2 xs)))
     ∷ row (codes "set-attr") (number ∷ unit ∷ []) (λ xs. call.SetAttr (the_number (nth 0 xs)) (the_number (nth 1 xs)))
     ∷ row (codes "title") ([]) (λ xs. call.Title)

@@ -71,7 +71,8 @@ abbrev pub Makes : {A : Type 0} → A → List Arg → Option (Row A) → Type 0
 Makes a xs None = ⊥
 Makes a xs (Some r) = (r.kinds ≡ map kind_of xs) × (r.make xs ≡ a)
 
-row_back : {A : Type 0} (show : Arg → Item) (a : A) (xs : List Arg) (o : Option (Row A)) → Makes a xs o → AllRead show xs → row_from o (map show xs) ≡ Some (a, [])
+row_back : {A : Type 0} (show : Arg → Item) (a : A) (xs : List Arg) (o : Option (Row A)) → Makes a xs o → AllRead show xs
+    → row_from o (map show xs) ≡ Some (a, [])
 row_back show a xs None t p = absurd t
 row_back show a xs (Some r) t p = rw (t.0, args_back show xs p, t.1) refl
 
@@ -91,5 +92,6 @@ record_makes (record_of.Size s) = (refl, refl)
 record_makes (record_of.Menu n) = (refl, refl)
 record_makes (record_of.Focus b) = (refl, refl)
 
-pub record_back : (show : Arg → Item) (r : Record) → AllRead show (args_of_record r) → row_from (row_of_record (name_of_record r)) (map show (args_of_record r)) ≡ Some (r, [])
+pub record_back : (show : Arg → Item) (r : Record) → AllRead show (args_of_record r)
+    → row_from (row_of_record (name_of_record r)) (map show (args_of_record r)) ≡ Some (r, [])
 record_back show r p = row_back show r (args_of_record r) (row_of_record (name_of_record r)) (record_makes r) p

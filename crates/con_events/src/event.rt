@@ -26,8 +26,8 @@ pub enum Wanted {
     },
 }
 
-/// One event. The first five are a client's, `Paint` is the painter's, and the others are the terminal side's. Each names its function of the Windows API, where
-/// there is one.
+/// One event. The first five are a client's, `Paint` is the painter's, and the others are the terminal side's. Each names its function of the Windows API,
+/// where there is one.
 #[derive(Drop)]
 pub enum Event {
     /// A function of the Console API that is answered at once: each [`Call`] names its own.

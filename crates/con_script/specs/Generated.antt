@@ -46,14 +46,20 @@ cursor_drawn x = record { made = steps.Call (call.SetCursor 2 (pos (drawn 80 (mo
 -- x, y, the count, the word
 abbrev pub attrs_drawn : ℕ → Made Step
 attrs_drawn x = record {
-  made = steps.Call (call.FillAttrs 2 (pos (drawn 80 (moved x))) (pos (drawn 25 (moved (moved x)))) (drawn 200 (moved (moved (moved x)))) (drawn 256 (moved (moved (moved (moved x))))));
+  made = steps.Call (call.FillAttrs 2 (pos (drawn 80 (moved x))) (pos (drawn 25 (moved (moved x))))
+      (drawn 200 (moved (moved (moved x)))) (drawn 256 (moved (moved (moved (moved x))))));
   left = moved (moved (moved (moved x)));
 }
 
 -- left, top, right, bottom
 abbrev pub rect_drawn : ℕ → Made Step
 rect_drawn x = record {
-  made = steps.Call (call.RectRead 2 (record { left = pos (drawn 80 (moved x)); top = pos (drawn 25 (moved (moved x))); right = pos (drawn 80 (moved (moved (moved x)))); bottom = pos (drawn 25 (moved (moved (moved (moved x))))) }));
+  made = steps.Call (call.RectRead 2 (record {
+    left = pos (drawn 80 (moved x));
+    top = pos (drawn 25 (moved (moved x)));
+    right = pos (drawn 80 (moved (moved (moved x))));
+    bottom = pos (drawn 25 (moved (moved (moved (moved x)))));
+  }));
   left = moved (moved (moved (moved x)));
 }
 

@@ -30,7 +30,8 @@ unfoldable pub row_in_one : List ℕ → Option (Row Step)
 row_in_one n = find n waits_rows (as_step (row_of n))
 
 abbrev pub later_rows : List (Row Step)
-later_rows = row (codes "read-with") (arg.number ∷ arg.number ∷ arg.text ∷ arg.number ∷ []) (λ xs. steps.Begin (wanted.ReadWith (the_number (nth 0 xs)) (the_number (nth 1 xs)) (the_list (nth 2 xs)) (the_number (nth 3 xs))))
+later_rows = row (codes "read-with") (arg.number ∷ arg.number ∷ arg.text ∷ arg.number ∷ [])
+    (λ xs. steps.Begin (wanted.ReadWith (the_number (nth 0 xs)) (the_number (nth 1 xs)) (the_list (nth 2 xs)) (the_number (nth 3 xs))))
     ∷ []
 
 -- the row of a name in documents of version 2

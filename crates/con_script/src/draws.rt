@@ -1,7 +1,8 @@
 //! Numbers that are drawn, and the calls that they choose.
 
 ghost use Rattle.std.specs.Prelude.{◌≡◌, ◌+◌, ◌<◌, IfOk, OnOk};
-ghost use Rattle.con_script.specs.Generated.{moved, drawn, units_drawn, text_drawn, line_drawn, colour_drawn, cursor_drawn, attrs_drawn, rect_drawn, key_drawn, kind_drawn, step_drawn};
+ghost use Rattle.con_script.specs.Generated.{moved, drawn, units_drawn, text_drawn, line_drawn};
+ghost use Rattle.con_script.specs.Generated.{colour_drawn, cursor_drawn, attrs_drawn, rect_drawn, key_drawn, kind_drawn, step_drawn};
 
 use con_events::{Call, Step};
 use con_records::{Key, Record, Taken};

@@ -3,7 +3,8 @@
 ghost use Rattle.std.specs.Prelude.{◌≡◌, ◌<◌, Some, None, Ok, Err, IfOk, IfErr, codes, option_map};
 ghost use Rattle.con_events.specs.Session.{Clients};
 ghost use Rattle.serde_json.specs.View.{view, items_view};
-ghost use Rattle.con_script.specs.Session.{Where, key_of, or_fault, unless, member_at, size_items, size_in, between, as_where, keys_spot, top_keys, version_in, client_at, clients_in, each_from, session_in};
+ghost use Rattle.con_script.specs.Session.{Where, key_of, or_fault, unless, member_at, size_items, size_in, between};
+ghost use Rattle.con_script.specs.Session.{as_where, keys_spot, top_keys, version_in, client_at, clients_in, each_from, session_in};
 ghost use Rattle.con_script.specs.Document.{json_of, document, path};
 ghost use Rattle.con_script.specs.Places.{Answers, StopsAt, KeepsAll, IsJson, IsAt, stands};
 

@@ -32,7 +32,8 @@ abbrev pub rect_data : Rect → Data
 rect_data r = list_of (whole r.left ∷ whole r.top ∷ whole r.right ∷ whole r.bottom ∷ [])
 
 abbrev pub record_data : Record → Data
-record_data (record_of.Key k) = list_of (string (codes "key") ∷ boolean k.down ∷ natural k.repeat ∷ natural k.vk ∷ natural k.scan ∷ natural k.unit ∷ natural k.state ∷ [])
+record_data (record_of.Key k) =
+    list_of (string (codes "key") ∷ boolean k.down ∷ natural k.repeat ∷ natural k.vk ∷ natural k.scan ∷ natural k.unit ∷ natural k.state ∷ [])
 record_data (record_of.Mouse m) = list_of (string (codes "mouse") ∷ whole m.x ∷ whole m.y ∷ natural m.buttons ∷ natural m.state ∷ natural m.flags ∷ [])
 record_data (record_of.Size s) = list_of (string (codes "size") ∷ natural s.w ∷ natural s.h ∷ [])
 record_data (record_of.Menu n) = list_of (string (codes "menu") ∷ natural n ∷ [])

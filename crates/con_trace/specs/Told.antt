@@ -1,5 +1,6 @@
 -- What a line's JSON tells: the way back from what is shown.
-use Rattle.std.specs.Prelude.{ℕ, ◌*◌, ◌+◌, ◌-◌, ◌==◌, ℤ, pos, negsuc, int_le, nat_lt, ◌&&◌, ◌||◌, Bool, true, false, if◌then◌else◌, List, [], ◌∷◌, length, codes, Option, Some, None, option_map, option_and_then}
+use Rattle.std.specs.Prelude.{ℕ, ◌*◌, ◌+◌, ◌-◌, ◌==◌, ℤ, pos, negsuc, int_le, nat_lt, ◌&&◌, ◌||◌, Bool, true, false, if◌then◌else◌}
+use Rattle.std.specs.Prelude.{List, [], ◌∷◌, length, codes, Option, Some, None, option_map, option_and_then}
 use Rattle.std.specs.Int.{is_in_range}
 use Rattle.std.specs.Str.{bytes_eq}
 use Rattle.con_units.specs.Attr.{plain}
@@ -203,7 +204,9 @@ unit_pair_in (item a (item b no_items)) = pair (unit_in a) (unit_in b)
 unit_pair_in other = None
 
 abbrev pub read_with_in : Items → Option Event
-read_with_in (item h (item n (item us (item m no_items)))) = option_and_then (λ h. option_and_then (λ n. option_and_then (λ m. option_map (λ us. event.Begin (ReadWith h n us m)) (units_in us)) (number_in m)) (number_in n)) (number_in h)
+read_with_in (item h (item n (item us (item m no_items)))) =
+    option_and_then (λ h. option_and_then (λ n. option_and_then (λ m.
+    option_map (λ us. event.Begin (ReadWith h n us m)) (units_in us)) (number_in m)) (number_in n)) (number_in h)
 read_with_in other = None
 
 abbrev pub none_in : Event → Items → Option Event
@@ -265,7 +268,9 @@ client_in [] = None
 client_in (c ∷ ds) = if c == 99 then option_and_then unless_zero (digits_after 0 ds) else None
 
 abbrev pub actor_in : List ℕ → Option Actor
-actor_in s = if bytes_eq s (codes "t") then Some actor.Terminal else if bytes_eq s (codes "p") then Some actor.Painter else option_map actor.Client (client_in s)
+actor_in s = if bytes_eq s (codes "t") then Some actor.Terminal
+    else if bytes_eq s (codes "p") then Some actor.Painter
+    else option_map actor.Client (client_in s)
 
 abbrev pub painted_in : Items → Option (Reply × ℕ)
 painted_in (item word (item n no_items)) = option_map (λ end. (reply.Done, end)) (length_in n)
@@ -282,7 +287,8 @@ abbrev pub said_by : Actor → List ℕ → Items → Data → Option Said
 said_by a name args d = option_and_then (λ e. option_map (λ p. answered a e p) (answer_in e d)) (event_in a name args)
 
 abbrev pub said_items : Items → Option Said
-said_items (item a (item n (item args (item d no_items)))) = option_and_then (λ a. option_and_then (λ n. option_and_then (λ args. said_by a n args d) (as_array args)) (as_str n)) (option_and_then actor_in (as_str a))
+said_items (item a (item n (item args (item d no_items)))) =
+    option_and_then (λ a. option_and_then (λ n. option_and_then (λ args. said_by a n args d) (as_array args)) (as_str n)) (option_and_then actor_in (as_str a))
 said_items other = None
 
 abbrev pub said_in : Data → Option Said
@@ -312,7 +318,8 @@ worded_in n text = if is_worded n text then Some (worded n text) else None
 abbrev pub ending_items : Items → Option Ending
 ending_items (item w (item s no_items)) = option_and_then alone_in (length_in s)
 ending_items (item w (item s (item t no_items))) = option_and_then (λ n. option_and_then (worded_in n) (as_str t)) (length_in s)
-ending_items (item w (item s (item p (item k no_items)))) = option_and_then (λ place. option_map (at_frame place) (option_and_then kind_in (as_str k))) (length_in p)
+ending_items (item w (item s (item p (item k no_items)))) =
+    option_and_then (λ place. option_map (at_frame place) (option_and_then kind_in (as_str k))) (length_in p)
 ending_items other = None
 
 abbrev pub ending_in : Data → Option Ending

@@ -5,7 +5,10 @@ ghost use Rattle.con_events.specs.Reading.{IsForm};
 ghost use Rattle.con_values.specs.Values.{number_in, records_in};
 ghost use Rattle.serde_json.specs.View.{view, items_view};
 ghost use Rattle.serde_json.specs.Find.{as_array};
-ghost use Rattle.con_trace.specs.Told.{kept_whole as whole_kept, kept_length as length_kept, whole_in, all_in, units_in, only as only_item, array_only, if_many, code_of, is_bare as none_there, flag_of, flagged_in, number_and_flag_in, cells_in, wait_in, value_in, control_in, fail_in, answer_named, answer_items, reply_in, length_in, painted_in};
+ghost use Rattle.con_trace.specs.Told.{kept_whole as whole_kept, kept_length as length_kept, whole_in, all_in, units_in, only as only_item};
+ghost use Rattle.con_trace.specs.Told.{array_only, if_many};
+ghost use Rattle.con_trace.specs.Told.{code_of, is_bare as none_there, flag_of, flagged_in, number_and_flag_in, cells_in, wait_in, value_in, control_in};
+ghost use Rattle.con_trace.specs.Told.{fail_in, answer_named, answer_items, reply_in, length_in, painted_in};
 
 use crate::cursor::units;
 use crate::form::Form;

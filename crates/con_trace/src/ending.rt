@@ -7,7 +7,8 @@ ghost use Rattle.json.specs.Print.{escape};
 ghost use Rattle.serde_json.specs.Data.{string};
 ghost use Rattle.serde_json.specs.Written.{compact_text};
 ghost use Rattle.con_outside.specs.Outside.{Rose, then_written, WroteFront, WrotePart};
-ghost use Rattle.con_trace.specs.Ending.{alone as alone_ending, worded as worded_ending, at_frame as frame_ending, kind_text, ending_of, ending_data, ending_text};
+ghost use Rattle.con_trace.specs.Ending.{alone as alone_ending, worded as worded_ending, at_frame as frame_ending};
+ghost use Rattle.con_trace.specs.Ending.{kind_text, ending_of, ending_data, ending_text};
 ghost use Rattle.con_trace.specs.Line.{ended};
 ghost use Rattle.con_trace.specs.Writing.{put};
 

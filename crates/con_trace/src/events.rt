@@ -3,7 +3,8 @@
 ghost use Rattle.std.specs.Prelude.{◌≡◌, ℕ, Some, None, IfOk, IfErr, IfSome, option_map, option_and_then};
 ghost use Rattle.con_events.specs.Reading.{IsForm, call_from, whole};
 ghost use Rattle.serde_json.specs.View.{view, items_view};
-ghost use Rattle.con_trace.specs.Told.{as_told, number_pair_in, unit_pair_in, read_with_in, none_in, feed_in, exit_in, call_in, only as only_item, of_terminal as terminal_in, of_client as client_event_in, of_painter as painter_in, event_in};
+ghost use Rattle.con_trace.specs.Told.{as_told, number_pair_in, unit_pair_in, read_with_in, none_in, feed_in, exit_in, call_in};
+ghost use Rattle.con_trace.specs.Told.{only as only_item, of_terminal as terminal_in, of_client as client_event_in, of_painter as painter_in, event_in};
 
 use crate::answers::{is_bare, only};
 use crate::cursor::{Cursor, units};

@@ -26,7 +26,9 @@ abbrev pub signed_in : Data → Option ℤ
 signed_in d = option_and_then (λ z. if int_le (negsuc 32767) z && int_le z (pos 32767) then Some z else None) (option_and_then as_i64 (as_number d))
 
 abbrev pub four : Option ℤ → Option ℤ → Option ℤ → Option ℤ → Option Rect
-four l t r b = option_and_then (λ left. option_and_then (λ top. option_and_then (λ right. option_map (λ bottom. record { left = left; top = top; right = right; bottom = bottom }) b) r) t) l
+four l t r b =
+    option_and_then (λ left. option_and_then (λ top. option_and_then (λ right.
+    option_map (λ bottom. record { left = left; top = top; right = right; bottom = bottom }) b) r) t) l
 
 -- left, top, right, bottom
 abbrev pub rect_items : Items → Option Rect
