@@ -124,7 +124,8 @@ pub fn finished(
     histories: &mut Histories,
     aliases: &Aliases,
 ) -> Option<u8>
-    ensures { IfSome result (λ p. (read : OpenRead) × (len : ℕ) × ((pumped aliases.now.programs readers.old.reads records.old.items histories.old).act ≡ Some (ended p read len))) }
+    ensures { IfSome result (λ p. (read : OpenRead) × (len : ℕ)
+        × ((pumped aliases.now.programs readers.old.reads records.old.items histories.old).act ≡ Some (ended p read len))) }
 {
     match readers.pump(records, histories, aliases) {
         Step::Finished(process, _) => Some(process),
@@ -139,7 +140,8 @@ pub fn woken(
     histories: &mut Histories,
     aliases: &Aliases,
 ) -> Option<u8>
-    ensures { IfSome result (λ p. (line : CookedValue) × ((pumped aliases.now.programs readers.old.reads records.old.items histories.old).act ≡ Some (woke p line))) }
+    ensures { IfSome result (λ p. (line : CookedValue)
+        × ((pumped aliases.now.programs readers.old.reads records.old.items histories.old).act ≡ Some (woke p line))) }
 {
     match readers.pump(records, histories, aliases) {
         Step::Woken(process) => Some(process),
@@ -149,7 +151,8 @@ pub fn woken(
 
 /// How many units a done read answers, if it answers units.
 pub fn answered_units(readers: &Readers, process: u8) -> Option<usize>
-    ensures { IfSome result (λ n. (units : List ℕ) × (answered_in (slice_get readers.now.reads (place_of readers.now.reads process)) ≡ Some (Answer.Units units)) × (n ≡ length units)) }
+    ensures { IfSome result (λ n. (units : List ℕ)
+        × (answered_in (slice_get readers.now.reads (place_of readers.now.reads process)) ≡ Some (Answer.Units units)) × (n ≡ length units)) }
 {
     match readers.answer(process) {
         Some(Answer::Units(units)) => Some(units.len()),
@@ -173,9 +176,11 @@ pub fn collected(readers: &mut Readers, process: u8) -> Option<Units>
 /// What is there answers a read of records, and of units.
 pub fn answered_from(records: &Records, histories: &Histories, aliases: &Aliases)
     ensures records { (p n : ℕ) (r : RecordValue) (rs : List RecordValue) → records.now.items ≡ r ∷ rs →
-        (served p aliases.now.programs (OpenRead.Records n) (r ∷ rs) histories.now).read ≡ OpenRead.Done (Answer.Records (front (r ∷ rs) (served p aliases.now.programs (OpenRead.Records n) (r ∷ rs) histories.now).records)) }
+        (served p aliases.now.programs (OpenRead.Records n) (r ∷ rs) histories.now).read
+        ≡ OpenRead.Done (Answer.Records (front (r ∷ rs) (served p aliases.now.programs (OpenRead.Records n) (r ∷ rs) histories.now).records)) }
     ensures units { (p n : ℕ) → is_done (served p aliases.now.programs (OpenRead.Units n) records.now.items histories.now).read ≡ true →
-        (served p aliases.now.programs (OpenRead.Units n) records.now.items histories.now).read ≡ OpenRead.Done (Answer.Units (units_of n (front records.now.items (served p aliases.now.programs (OpenRead.Units n) records.now.items histories.now).records))) }
+        (served p aliases.now.programs (OpenRead.Units n) records.now.items histories.now).read
+        ≡ OpenRead.Done (Answer.Units (units_of n (front records.now.items (served p aliases.now.programs (OpenRead.Units n) records.now.items histories.now).records))) }
 {
     a_read_answers_its_piece();
     units_answer_their_piece();

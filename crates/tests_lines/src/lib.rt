@@ -1,8 +1,6 @@
-//! Tests of the edited line and the list of reads, as a caller sees them; `callers` also of histories, aliases and cooked reads.
+//! The edited line and the list of reads, as a caller sees them: callers with variables, also of histories, aliases and cooked reads,
+//! and rows of what no session shows. There is nothing to run.
 #![tactic(auto)]
 
 pub mod callers;
-#[cfg(test)]
-mod lines;
-#[cfg(test)]
-mod readers;
+pub mod rows;
