@@ -1,6 +1,7 @@
 -- The text of an edited line, and what each key does to it.
 use Rattle.std.specs.Prelude.{ℕ, zero, suc, ◌+◌, ◌-◌, ◌≤◌, Bool, not, nat_lt, ◌==◌, ◌&&◌, List, [], ◌++◌, length, take, drop, insert, remove, slice_set, slice_index, min, if◌then◌else◌}
 use Rattle.std.specs.List.{prefix_len}
+use Rattle.con_units.specs.Limits.{line_units}
 use Rattle.con_units.specs.Units.{first_difference}
 use Rattle.con_line.specs.declared.press.Press.{Press}
 use Rattle.con_line.specs.declared.press.Press.TheVariants as key
@@ -14,7 +15,7 @@ pub record LineText : Type 0 where
 
 -- a line of at most 1,024 units, with its caret inside or at its end
 pub record IsLine (l : LineText) : Type 0 where
-  pub few : length l.units ≤ 1024
+  pub few : length l.units ≤ line_units
   pub caret : l.caret ≤ length l.units
 
 abbrev pub is_space : ℕ → Bool
@@ -37,7 +38,7 @@ on_while p units k = k + prefix_len p (drop k units)
 abbrev pub typed : LineText → ℕ → LineText
 typed l u =
     if nat_lt l.caret (length l.units) && not l.insert then record l { units = slice_set l.units l.caret u; caret = l.caret + 1 }
-    else if nat_lt (length l.units) 1024 then record l { units = insert l.units l.caret u; caret = l.caret + 1 }
+    else if nat_lt (length l.units) line_units then record l { units = insert l.units l.caret u; caret = l.caret + 1 }
     else l
 
 -- the unit at a place goes, and the caret is there

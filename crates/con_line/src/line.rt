@@ -5,14 +5,12 @@ ghost use Rattle.con_units.specs.Units.{first_difference};
 
 use crate::edit::Edit;
 use crate::press::Press;
+use con_units::limits::LINE_UNITS;
 use con_units::{OutOfMemory, Units};
 use std::alloc::Global;
 use std::marker::Model;
 
 const SPACE: u16 = 32;
-
-/// How many units a line has at most.
-pub const LINE_UNITS: usize = 1024;
 
 /// A text of at most 1,024 units, its caret, and whether typed units are put in.
 #[derive(Drop)]
@@ -116,6 +114,7 @@ impl Line {
         ensures text { result.now ≡ self.now.units }
         ensures line { IsLine self.now }
     {
+        // A field that is read opens the invariant, for the clause `line`.
         let _caret = self.caret;
         self.units.as_slice()
     }
