@@ -13,7 +13,8 @@ use Rattle.con_cooked.specs.declared.progress.Progress.TheVariants as progress
 pub record IsPlain (r : Reading) : Type 0 where
   pub line : line_of r ≡ fold (λ (e : Edited) (m : Moment). key_pressed e (key_of m.pressed) m.lines) (opened r.insert r.initial) r.presses
   pub progress : (one : Record) (hs : LineHistories) → progress_of r one hs
-      ≡ (let echo : Echo = echo_between (line_of r).line (line_of (after_press r one hs)).line in if is_return (key_of one) then progress.Done echo else progress.Going echo)
+      ≡ (let echo : Echo = echo_between (line_of r).line (line_of (after_press r one hs)).line in if is_return (key_of one) then progress.Done echo
+      else progress.Going echo)
   pub answer : (ls : List AliasList) → answer_of r ls ≡ lines_for ls r.program (line_of r).line.units
   pub histories : (hs : LineHistories) → histories_after r hs ≡ added_to hs r.program (line_of r).line.units
 

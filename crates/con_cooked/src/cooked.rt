@@ -42,9 +42,16 @@ impl Model for Cooked {
 
     ghost Value = { Reading };
 
-    ghost view = { λ r. record { program = r.program; insert = r.began.value.line.insert; initial = r.began.value.line.units; mask = r.mask; presses = r.presses } };
+    ghost view = { λ r. record {
+      program = r.program;
+      insert = r.began.value.line.insert;
+      initial = r.began.value.line.units;
+      mask = r.mask;
+      presses = r.presses;
+    } };
 
-    ghost invariant = { λ r. (line_after r.mask (opened r.began.value.line.insert r.began.value.line.units) r.presses ≡ r.edited) × (woken_after r.mask r.presses ≡ r.woken) × (r.out.items ≡ []) × (5122 ≤ vec_capacity r.out) };
+    ghost invariant = { λ r. (line_after r.mask (opened r.began.value.line.insert r.began.value.line.units) r.presses ≡ r.edited)
+        × (woken_after r.mask r.presses ≡ r.woken) × (r.out.items ≡ []) × (5122 ≤ vec_capacity r.out) };
 }
 
 // The four numbers of a change.
@@ -108,7 +115,8 @@ fn expand(out: &mut Vec<u16>, aliases: &Aliases, program: &Units, text: &[u16])
 
 impl Cooked {
     /// A line read of a program, by the read's input mode: the line begins with this text, of at most 1,024 units and without
-    /// a control (`has_control` of con_alias tells), and its caret at the end. `mask` has a bit for each control, 1 to 31, that wakes the read. All memory up to the read's end is taken here.
+    /// a control (`has_control` of con_alias tells), and its caret at the end. `mask` has a bit for each control, 1 to 31, that
+    /// wakes the read. All memory up to the read's end is taken here.
     pub fn begin(
         alloc: Global,
         program: Units,

@@ -14,7 +14,8 @@ pub tally_entered : (t : Handle → Bool) (h : Handle) (hs : List Handle) → ta
 tally_entered t h [] = refl
 tally_entered t h (g ∷ gs) = by_place (tally_entered t h gs) (is_before g h)
   where
-    by_place : tally t (entered h gs) ≡ cond (t h) 1 0 + tally t gs → (b : Bool) → tally t (cond b (g ∷ entered h gs) (h ∷ g ∷ gs)) ≡ cond (t h) 1 0 + tally t (g ∷ gs)
+    by_place : tally t (entered h gs) ≡ cond (t h) 1 0 + tally t gs → (b : Bool)
+        → tally t (cond b (g ∷ entered h gs) (h ∷ g ∷ gs)) ≡ cond (t h) 1 0 + tally t (g ∷ gs)
     by_place ih true = omega (arith, ih)
     by_place ih false = refl
 
@@ -83,7 +84,8 @@ few_from : (p from : ℕ) (hs : List Handle) → IsRising from hs → tally (is_
 few_from p from [] are = omega arith
 few_from p from (g ∷ gs) are = by_owner (few_from p (place_of g.process g.number + 1) gs are.2) (g.process == p) refl
   where
-    by_owner : tally (is_owned p) gs ≤ p * 64 + 64 - max (place_of g.process g.number + 1) (p * 64) → (b : Bool) → (g.process == p) ≡ b → cond b 1 0 + tally (is_owned p) gs ≤ p * 64 + 64 - max from (p * 64)
+    by_owner : tally (is_owned p) gs ≤ p * 64 + 64 - max (place_of g.process g.number + 1) (p * 64) → (b : Bool) → (g.process == p) ≡ b
+        → cond b 1 0 + tally (is_owned p) gs ≤ p * 64 + 64 - max from (p * 64)
     by_owner rest true e =
         let own : g.process ≡ p = grind (arith, nat_tests) in
         let low = are.0.low in
@@ -126,15 +128,18 @@ absent : (t : Handle → Bool) (hs : List Handle) → tally t hs ≡ 0 → filte
 absent t [] e = refl
 absent t (g ∷ gs) e = by_test (absent t gs) (t g) e
   where
-    by_test : (tally t gs ≡ 0 → filter (λ h. not (t h)) gs ≡ gs) → (b : Bool) → cond b 1 0 + tally t gs ≡ 0 → cond (not b) (g ∷ filter (λ h. not (t h)) gs) (filter (λ h. not (t h)) gs) ≡ g ∷ gs
+    by_test : (tally t gs ≡ 0 → filter (λ h. not (t h)) gs ≡ gs) → (b : Bool) → cond b 1 0 + tally t gs ≡ 0
+        → cond (not b) (g ∷ filter (λ h. not (t h)) gs) (filter (λ h. not (t h)) gs) ≡ g ∷ gs
     by_test ih true e = absurd (omega arith)
     by_test ih false e = ap (λ (xs : List Handle). g ∷ xs) (ih (omega arith))
 
-tally_gone : (t q : Handle → Bool) (hs : List Handle) (h : Handle) → tally q hs ≤ 1 → find q hs ≡ Some h → cond (t h) 1 0 + tally t (filter (λ g. not (q g)) hs) ≡ tally t hs
+tally_gone : (t q : Handle → Bool) (hs : List Handle) (h : Handle) → tally q hs ≤ 1 → find q hs ≡ Some h
+    → cond (t h) 1 0 + tally t (filter (λ g. not (q g)) hs) ≡ tally t hs
 tally_gone t q [] h one e = cc
 tally_gone t q (g ∷ gs) h one e = by_test (tally_gone t q gs h) (q g) one e
   where
-    by_test : (tally q gs ≤ 1 → find q gs ≡ Some h → cond (t h) 1 0 + tally t (filter (λ x. not (q x)) gs) ≡ tally t gs) → (b : Bool) → cond b 1 0 + tally q gs ≤ 1 → cond b (Some g) (find q gs) ≡ Some h
+    by_test : (tally q gs ≤ 1 → find q gs ≡ Some h → cond (t h) 1 0 + tally t (filter (λ x. not (q x)) gs) ≡ tally t gs) → (b : Bool)
+        → cond b 1 0 + tally q gs ≤ 1 → cond b (Some g) (find q gs) ≡ Some h
         → cond (t h) 1 0 + tally t (cond (not b) (g ∷ filter (λ x. not (q x)) gs) (filter (λ x. not (q x)) gs)) ≡ cond (t g) 1 0 + tally t gs
     by_test ih true one e =
         let same : g ≡ h = cc in
@@ -145,7 +150,8 @@ tally_gone t q (g ∷ gs) h one e = by_test (tally_gone t q gs h) (q g) one e
         omega (arith, more)
 
 -- the handle that is closed goes, and no other
-pub tally_without : (t : Handle → Bool) (hs : List Handle) (p n : ℕ) (h : Handle) → IsTable hs → find_handle hs p n ≡ Some h → cond (t h) 1 0 + tally t (without hs p n) ≡ tally t hs
+pub tally_without : (t : Handle → Bool) (hs : List Handle) (p n : ℕ) (h : Handle) → IsTable hs → find_handle hs p n ≡ Some h
+    → cond (t h) 1 0 + tally t (without hs p n) ≡ tally t hs
 tally_without t hs p n h are e = tally_gone t (is_at p n) hs h (tally_single hs are p n) e
 
 -- the process's least handle is found by its number
@@ -160,11 +166,13 @@ least_found (g ∷ gs) p h e = by_owner (least_found gs p h) (g.process == p) re
     owner [] e = cc
     owner (x ∷ xs) e = by_first (owner xs) (x.process == p) refl e
       where
-        by_first : (find (is_owned p) xs ≡ Some h → (h.process == p) ≡ true) → (b : Bool) → (x.process == p) ≡ b → cond b (Some x) (find (is_owned p) xs) ≡ Some h → (h.process == p) ≡ true
+        by_first : (find (is_owned p) xs ≡ Some h → (h.process == p) ≡ true) → (b : Bool) → (x.process == p) ≡ b
+            → cond b (Some x) (find (is_owned p) xs) ≡ Some h → (h.process == p) ≡ true
         by_first ih true is e = let same : x ≡ h = cc in (rw same at is)
         by_first ih false is e = ih e
 
-    by_owner : (least_of gs p ≡ Some h → find_handle gs h.process h.number ≡ Some h) → (b : Bool) → (g.process == p) ≡ b → cond b (Some g) (find (is_owned p) gs) ≡ Some h
+    by_owner : (least_of gs p ≡ Some h → find_handle gs h.process h.number ≡ Some h) → (b : Bool) → (g.process == p) ≡ b
+        → cond b (Some g) (find (is_owned p) gs) ≡ Some h
         → cond (g.process == h.process && g.number == h.number) (Some g) (find (is_at h.process h.number) gs) ≡ Some h
     by_owner ih true is e =
         let same : g ≡ h = cc in
@@ -174,15 +182,18 @@ least_found (g ∷ gs) p h e = by_owner (least_found gs p h) (g.process == p) re
         let other : (g.process == h.process) ≡ false = grind (arith, nat_tests) in
         rw other (ih e)
 
-pub tally_taken : (t : Handle → Bool) (hs : List Handle) (p : ℕ) (h : Handle) → IsTable hs → least_of hs p ≡ Some h → cond (t h) 1 0 + tally t (without hs h.process h.number) ≡ tally t hs
+pub tally_taken : (t : Handle → Bool) (hs : List Handle) (p : ℕ) (h : Handle) → IsTable hs → least_of hs p ≡ Some h
+    → cond (t h) 1 0 + tally t (without hs h.process h.number) ≡ tally t hs
 tally_taken t hs p h are e = tally_without t hs h.process h.number h are (least_found hs p h e)
 
 -- ---- the laws as one record
 
 pub record CountLaws : Type 0 where
   pub of_entered : (t : Handle → Bool) (h : Handle) (hs : List Handle) → tally t (entered h hs) ≡ cond (t h) 1 0 + tally t hs
-  pub of_without : (t : Handle → Bool) (hs : List Handle) (p n : ℕ) (h : Handle) → IsTable hs → find_handle hs p n ≡ Some h → cond (t h) 1 0 + tally t (without hs p n) ≡ tally t hs
-  pub of_taken : (t : Handle → Bool) (hs : List Handle) (p : ℕ) (h : Handle) → IsTable hs → least_of hs p ≡ Some h → cond (t h) 1 0 + tally t (without hs h.process h.number) ≡ tally t hs
+  pub of_without : (t : Handle → Bool) (hs : List Handle) (p n : ℕ) (h : Handle) → IsTable hs → find_handle hs p n ≡ Some h
+      → cond (t h) 1 0 + tally t (without hs p n) ≡ tally t hs
+  pub of_taken : (t : Handle → Bool) (hs : List Handle) (p : ℕ) (h : Handle) → IsTable hs → least_of hs p ≡ Some h
+      → cond (t h) 1 0 + tally t (without hs h.process h.number) ≡ tally t hs
   pub of_found : (t : Handle → Bool) (hs : List Handle) (p n : ℕ) (h : Handle) → find_handle hs p n ≡ Some h → t h ≡ true → 0 < tally t hs
   pub of_single : (hs : List Handle) → IsTable hs → (p n : ℕ) → tally (is_at p n) hs ≤ 1
   pub of_few : (hs : List Handle) → IsTable hs → (p : ℕ) → tally (is_owned p) hs ≤ 64

@@ -51,7 +51,10 @@ without hs process number = filter (λ h. not (is_at process number h)) hs
 
 abbrev pub opened_at : Result ℕ Code → Table → ℕ → Object → ℕ → Table
 opened_at (Err why) t process o rights = t
-opened_at (Ok number) t process o rights = record { open_ones = entered (record { process = process; number = number; object = o; rights = rights }) t.open_ones; spare = t.spare - 1 }
+opened_at (Ok number) t process o rights = record {
+  open_ones = entered (record { process = process; number = number; object = o; rights = rights }) t.open_ones;
+  spare = t.spare - 1;
+}
 
 -- the table after a handle was opened, or refused
 abbrev pub opened : Table → ℕ → Object → ℕ → Table

@@ -127,4 +127,5 @@ goes_on frame = not (ends_link frame)
 
 -- frames of which the last one, and it alone, ends the link, of which this is left
 abbrev pub IsLink : List Frame → Option (List ℕ) → Type 0
-IsLink frames left = (front : List Frame) × (last : Frame) × (frames ≡ front ++ last ∷ []) × (list_all goes_on front ≡ true) × (ends_link last ≡ true) × IsEnd last left
+IsLink frames left = (front : List Frame) × (last : Frame) × (frames ≡ front ++ last ∷ []) × (list_all goes_on front ≡ true) × (ends_link last ≡ true)
+    × IsEnd last left

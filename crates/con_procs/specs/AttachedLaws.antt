@@ -50,8 +50,10 @@ live_ended status [] k = refl
 live_ended status (p ∷ ps) zero = refl
 live_ended status (p ∷ ps) (suc k) = live_ended status ps k
 
-exited_by : (status : ℕ) (ps : List Proc) (none some same : Bool) (a b : ℕ) → (same ≡ true → a ≡ b) → (none ≡ false → some ≡ true → same ≡ false → a ≢ b) → (none ≡ true → some ≡ true → same ≡ false)
-    → (some && live_in (slice_get (cond none ps (changed_at (λ p. record p { ended = Some status }) ps a)) b)) ≡ (not same && (some && live_in (slice_get ps b)))
+exited_by : (status : ℕ) (ps : List Proc) (none some same : Bool) (a b : ℕ) → (same ≡ true → a ≡ b) → (none ≡ false → some ≡ true → same ≡ false → a ≢ b)
+    → (none ≡ true → some ≡ true → same ≡ false)
+    → (some && live_in (slice_get (cond none ps (changed_at (λ p. record p { ended = Some status }) ps a)) b))
+    ≡ (not same && (some && live_in (slice_get ps b)))
 exited_by status ps none false true a b one other past = refl
 exited_by status ps none false false a b one other past = refl
 exited_by status ps true true false a b one other past = refl

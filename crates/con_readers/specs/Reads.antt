@@ -32,11 +32,13 @@ pub record Moved : Type 0 where
 
 abbrev pub moved_on : List AliasList → Open → List Record → Histories → Moved
 moved_on al o [] hs = record { one = o; records = []; histories = hs; act = None }
-moved_on al o (r ∷ rs) hs = let t = took o.process al o.read (r ∷ rs) hs in record { one = record o { read = t.read }; records = t.records; histories = t.histories; act = t.act }
+moved_on al o (r ∷ rs) hs = let t = took o.process al o.read (r ∷ rs) hs in
+    record { one = record o { read = t.read }; records = t.records; histories = t.histories; act = t.act }
 
 -- one step of the first read that is not done: it starts, then it takes records
 abbrev pub moved : List AliasList → Open → List Record → Histories → Moved
-moved al o rs hs = if o.started then moved_on al o rs hs else record { one = record o { started = true }; records = rs; histories = hs; act = Some (began o.process) }
+moved al o rs hs = if o.started then moved_on al o rs hs
+    else record { one = record o { started = true }; records = rs; histories = hs; act = Some (began o.process) }
 
 -- the first k reads are done
 abbrev pub done_upto : ℕ → List Open → Bool
@@ -83,7 +85,9 @@ settled al (o ∷ os) rs hs =
     if is_done o.read then (let t = settled al os rs hs in record t { reads = o ∷ t.reads })
     else (let s = served o.process al o.read rs hs in
     let one : Open = record o { read = s.read; started = true } in
-    if is_done s.read then (let t = settled al os s.records s.histories in record { reads = one ∷ t.reads; records = t.records; histories = t.histories; acts = first_acts o s.acts ++ t.acts })
+    if is_done s.read
+    then (let t = settled al os s.records s.histories in
+    record { reads = one ∷ t.reads; records = t.records; histories = t.histories; acts = first_acts o s.acts ++ t.acts })
     else record { reads = one ∷ os; records = s.records; histories = s.histories; acts = first_acts o s.acts })
 
 unfoldable pub before : Act → Settled → Settled

@@ -35,13 +35,20 @@ pub record Took : Type 0 where
 -- a read of n units, where the records have these
 abbrev pub took_units : ℕ → ℕ → List Record → Histories → List ℕ → Took
 took_units p n rs hs [] = record { read = reads.Units n; records = []; histories = hs; act = Some (passed p) }
-took_units p n rs hs (u ∷ us) = record { read = reads.Done (answers.Units (u ∷ us)); records = rest_of n rs; histories = hs; act = Some (ended p (reads.Units n) 0) }
+took_units p n rs hs (u ∷ us) =
+    record { read = reads.Done (answers.Units (u ∷ us)); records = rest_of n rs; histories = hs; act = Some (ended p (reads.Units n) 0) }
 
 -- a line that took one record, by whether it goes on
 abbrev pub took_one : ℕ → List AliasList → Cooked → Cooked → List Record → Histories → Progress → Took
 took_one p al line line' rs hs (progress.Going echo) = record { read = reads.Line line'; records = rs; histories = hs; act = Some (typed p line line' echo) }
-took_one p al line line' rs hs (progress.Done echo) = record { read = reads.Done (answers.Units (line_answer line' al)); records = rs; histories = with_line line' hs; act = Some (ended p (reads.Line line') (length (line_text line'))) }
-took_one p al line line' rs hs progress.Woken = record { read = reads.Done (answers.Units (line_answer line' al)); records = rs; histories = with_line line' hs; act = Some (woke p line') }
+took_one p al line line' rs hs (progress.Done echo) = record {
+  read = reads.Done (answers.Units (line_answer line' al));
+  records = rs;
+  histories = with_line line' hs;
+  act = Some (ended p (reads.Line line') (length (line_text line')));
+}
+took_one p al line line' rs hs progress.Woken =
+    record { read = reads.Done (answers.Units (line_answer line' al)); records = rs; histories = with_line line' hs; act = Some (woke p line') }
 
 abbrev pub took_line : ℕ → List AliasList → Cooked → List Record → Histories → Took
 took_line p al line [] hs = record { read = reads.Line line; records = []; histories = hs; act = None }
@@ -49,7 +56,8 @@ took_line p al line (r ∷ rs) hs = took_one p al line (line_after line r hs) rs
 
 -- one step of a read that is not done, where records are there
 abbrev pub took : ℕ → List AliasList → OpenRead → List Record → Histories → Took
-took p al (reads.Records n) rs hs = record { read = reads.Done (answers.Records (take n rs)); records = drop n rs; histories = hs; act = Some (ended p (reads.Records n) 0) }
+took p al (reads.Records n) rs hs =
+    record { read = reads.Done (answers.Records (take n rs)); records = drop n rs; histories = hs; act = Some (ended p (reads.Records n) 0) }
 took p al (reads.Units n) rs hs = took_units p n rs hs (units_of n rs)
 took p al (reads.Line line) rs hs = took_line p al line rs hs
 took p al (reads.Done a) rs hs = record { read = reads.Done a; records = rs; histories = hs; act = None }
@@ -61,10 +69,17 @@ pub record Served : Type 0 where
   pub histories : Histories
   pub acts : List Act
 
+-- a line that took one record, with what later ones do to it where it goes on
 abbrev pub served_on : ℕ → List AliasList → Cooked → Cooked → List Record → Histories → Served → Progress → Served
 served_on p al line line' rs hs later (progress.Going echo) = record later { acts = typed p line line' echo ∷ later.acts }
-served_on p al line line' rs hs later (progress.Done echo) = record { read = reads.Done (answers.Units (line_answer line' al)); records = rs; histories = with_line line' hs; acts = ended p (reads.Line line') (length (line_text line')) ∷ [] }
-served_on p al line line' rs hs later progress.Woken = record { read = reads.Done (answers.Units (line_answer line' al)); records = rs; histories = with_line line' hs; acts = woke p line' ∷ [] }
+served_on p al line line' rs hs later (progress.Done echo) = record {
+  read = reads.Done (answers.Units (line_answer line' al));
+  records = rs;
+  histories = with_line line' hs;
+  acts = ended p (reads.Line line') (length (line_text line')) ∷ [];
+}
+served_on p al line line' rs hs later progress.Woken =
+    record { read = reads.Done (answers.Units (line_answer line' al)); records = rs; histories = with_line line' hs; acts = woke p line' ∷ [] }
 
 -- a line takes records one by one, up to the one that ends it
 abbrev pub served_line : ℕ → List AliasList → Cooked → List Record → Histories → Served

@@ -17,13 +17,15 @@ use crate::open::OpenRead;
 
 /// What the reads took, in order, and what is left, are all of the records.
 pub fn serving_loses_nothing()
-    ensures { (al : List AliasList) (os : List Open) (rs : List Record) (hs : Histories) → joined (pieces_of al os rs hs) ++ (settled al os rs hs).records ≡ rs }
+    ensures { (al : List AliasList) (os : List Open) (rs : List Record) (hs : Histories)
+        → joined (pieces_of al os rs hs) ++ (settled al os rs hs).records ≡ rs }
 {}
 
 /// A read of records that finds one is done, and answers just what it took.
 pub fn a_read_answers_its_piece()
     ensures { (p n : ℕ) (al : List AliasList) (r : Record) (rs : List Record) (hs : Histories) →
-        (served p al (OpenRead.Records n) (r ∷ rs) hs).read ≡ OpenRead.Done (Answer.Records (front (r ∷ rs) (served p al (OpenRead.Records n) (r ∷ rs) hs).records)) }
+        (served p al (OpenRead.Records n) (r ∷ rs) hs).read
+        ≡ OpenRead.Done (Answer.Records (front (r ∷ rs) (served p al (OpenRead.Records n) (r ∷ rs) hs).records)) }
 {}
 
 /// A read of units that is done answers the units of just what it took.

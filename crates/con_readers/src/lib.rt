@@ -10,7 +10,8 @@
 //! - [`Readers::abort_line`] ends the first line read with ctrl+C, [`Readers::close_all`] each read as the console closes.
 //!
 //! `settled` says what all steps until `Idle` come to, without speaking of steps, and [`laws`] has what follows: that serving loses
-//! no record and gives none twice, what each read answers of the records that it took, and that no process gets two reads. It never waits, and doesn't show an echo: it tells what to show.
+//! no record and gives none twice, what each read answers of the records that it took, and that no process gets two reads.
+//! It never waits, and doesn't show an echo: it tells what to show.
 #![tactic(auto)]
 
 pub mod answer;

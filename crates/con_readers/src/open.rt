@@ -49,7 +49,8 @@ fn take_units(
 ) -> Taking
     ensures read { result.read ≡ (took_units process wants records.old.items histories.now (units_of wants records.old.items)).read }
     ensures step { result.step ≡ told (took_units process wants records.old.items histories.now (units_of wants records.old.items)).act }
-    ensures records { records.new ≡ record records.old { items = (took_units process wants records.old.items histories.now (units_of wants records.old.items)).records } }
+    ensures records { records.new
+        ≡ record records.old { items = (took_units process wants records.old.items histories.now (units_of wants records.old.items)).records } }
 {
     let _ = histories;
     match wants.take(records) {
@@ -89,9 +90,12 @@ fn take_one(
     histories: &mut Histories,
     aliases: &Aliases,
 ) -> Taking
-    ensures read { result.read ≡ (took_one process aliases.now.programs line (line_after line one histories.old) [] histories.old (line_progress line one histories.old)).read }
-    ensures step { result.step ≡ told (took_one process aliases.now.programs line (line_after line one histories.old) [] histories.old (line_progress line one histories.old)).act }
-    ensures histories { histories.new ≡ (took_one process aliases.now.programs line (line_after line one histories.old) [] histories.old (line_progress line one histories.old)).histories }
+    ensures read { result.read
+        ≡ (took_one process aliases.now.programs line (line_after line one histories.old) [] histories.old (line_progress line one histories.old)).read }
+    ensures step { result.step
+        ≡ told (took_one process aliases.now.programs line (line_after line one histories.old) [] histories.old (line_progress line one histories.old)).act }
+    ensures histories { histories.new
+        ≡ (took_one process aliases.now.programs line (line_after line one histories.old) [] histories.old (line_progress line one histories.old)).histories }
 {
     match line.press(&one, histories) {
         Progress::Going(echo) => Taking {

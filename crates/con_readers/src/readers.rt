@@ -201,16 +201,23 @@ impl Readers {
         ensures rest { is_idle result ≡ is_at_rest self.old.reads records.old.items }
 
         // all steps until Idle come to what `settled` says, and they end
-        ensures settles { settled aliases.now.programs self.old.reads records.old.items histories.old ≡ settled_after aliases.now.programs (pumped aliases.now.programs self.old.reads records.old.items histories.old) }
-        ensures less { is_some (pumped aliases.now.programs self.old.reads records.old.items histories.old).act ≡ true → work (pumped aliases.now.programs self.old.reads records.old.items histories.old).reads (pumped aliases.now.programs self.old.reads records.old.items histories.old).records < work self.old.reads records.old.items }
+        ensures settles { settled aliases.now.programs self.old.reads records.old.items histories.old
+            ≡ settled_after aliases.now.programs (pumped aliases.now.programs self.old.reads records.old.items histories.old) }
+        ensures less { is_some (pumped aliases.now.programs self.old.reads records.old.items histories.old).act ≡ true
+            → work (pumped aliases.now.programs self.old.reads records.old.items histories.old).reads
+            (pumped aliases.now.programs self.old.reads records.old.items histories.old).records < work self.old.reads records.old.items }
 
         // what a caller is told of the step, and what is to be shown of the first read's text
         ensures tells { IsOf result (pumped aliases.now.programs self.old.reads records.old.items histories.old).act }
         ensures inside { IsIn result (head_text (pumped aliases.now.programs self.old.reads records.old.items histories.old).reads) }
 
         // what is to be shown is what differs between the line before and after, and is of the first read's text
-        ensures echo { (p : ℕ) (old new : _) (echo : _) → (pumped aliases.now.programs self.old.reads records.old.items histories.old).act ≡ Some (typed p old new echo) → echo ≡ echo_between (line_of old).line (line_of new).line }
-        ensures text { (p : ℕ) (old new : _) (echo : _) → (pumped aliases.now.programs self.old.reads records.old.items histories.old).act ≡ Some (typed p old new echo) → head_text (pumped aliases.now.programs self.old.reads records.old.items histories.old).reads ≡ line_text new }
+        ensures echo { (p : ℕ) (old new : _) (echo : _)
+            → (pumped aliases.now.programs self.old.reads records.old.items histories.old).act ≡ Some (typed p old new echo)
+            → echo ≡ echo_between (line_of old).line (line_of new).line }
+        ensures text { (p : ℕ) (old new : _) (echo : _)
+            → (pumped aliases.now.programs self.old.reads records.old.items histories.old).act ≡ Some (typed p old new echo)
+            → head_text (pumped aliases.now.programs self.old.reads records.old.items histories.old).reads ≡ line_text new }
     {
         self.step(records, histories, aliases)
     }

@@ -111,5 +111,6 @@ control_sequence_key (d ∷ e ∷ []) last = if last == 0x7E then ordinary 0 (fu
 control_sequence_key (d ∷ s ∷ m ∷ []) last = if (s == 0x3B) && is_modifier m
     then (if last == 0x7E then enhanced (modifier_state m) (page_vk d) else if d == 0x31 then letter_key (modifier_state m) last else None)
     else None
-control_sequence_key (d ∷ e ∷ s ∷ m ∷ []) last = if ((s == 0x3B) && is_modifier m) && (last == 0x7E) then ordinary (modifier_state m) (function_vk d e) else None
+control_sequence_key (d ∷ e ∷ s ∷ m ∷ []) last = if ((s == 0x3B) && is_modifier m) && (last == 0x7E) then ordinary (modifier_state m) (function_vk d e)
+    else None
 control_sequence_key (d ∷ e ∷ s ∷ m ∷ x ∷ more) last = None

@@ -15,7 +15,9 @@ pub fn is_read_by_cases()
 
 /// However bytes are cut, their keys are those of the whole.
 pub fn is_read_however_cut()
-    ensures { (held front rest : List ℕ) → split_after grammar held (front ++ rest) ≡ with_items (split_after grammar held front).items (split_after grammar (split_after grammar held front).tail rest) }
+    ensures { (held front rest : List ℕ)
+        → split_after grammar held (front ++ rest)
+        ≡ with_items (split_after grammar held front).items (split_after grammar (split_after grammar held front).tail rest) }
 {}
 
 /// The pieces of bytes, keys and control sequences that give none, in their order: each byte's are its keys, and then the

@@ -149,7 +149,8 @@ impl KeyReader {
         ensures ended { self.new.ended ≡ ended_by self.old.held byte }
         ensures most { length self.new.held ≤ 32 }
         ensures few { vec_len out.new + length self.new.held ≤ vec_len out.old + length self.old.held + 1 }
-        ensures units { (cursor_keys : Bool) → length (sent out.new.items cursor_keys) + length self.new.held ≤ length (sent out.old.items cursor_keys) + length self.old.held + 1 }
+        ensures units { (cursor_keys : Bool)
+            → length (sent out.new.items cursor_keys) + length self.new.held ≤ length (sent out.old.items cursor_keys) + length self.old.held + 1 }
         ensures room { vec_capacity out.new ≡ vec_capacity out.old }
     {
         self.note(byte);
