@@ -7,6 +7,7 @@ use Rattle.con_records.specs.declared.record.Key.{Key}
 use Rattle.con_cooked.specs.declared.keys.LineKey.{LineKey}
 use Rattle.con_cooked.specs.declared.keys.LineKey.TheVariants as key
 
+-- VK_INSERT, VK_DELETE, VK_F3 and VK_F8
 abbrev pub edit_of : ℕ → LineKey
 edit_of vk =
     if vk == 0x2D then key.Insert
@@ -15,6 +16,7 @@ edit_of vk =
     else if vk == 0x77 then key.Search
     else key.Nothing
 
+-- VK_PRIOR, VK_NEXT, VK_END and VK_HOME
 abbrev pub page_of : ℕ → LineKey
 page_of vk =
     if vk == 0x21 then key.PageUp
@@ -23,6 +25,7 @@ page_of vk =
     else if vk == 0x24 then key.Home
     else edit_of vk
 
+-- VK_LEFT, VK_UP, VK_RIGHT and VK_DOWN
 abbrev pub arrow_of : ℕ → Bool → LineKey
 arrow_of vk ctrl =
     if vk == 0x25 then (if ctrl then key.WordLeft else key.Left)
@@ -31,6 +34,7 @@ arrow_of vk ctrl =
     else if vk == 0x28 then key.Down
     else page_of vk
 
+-- VK_RETURN, VK_BACK and VK_ESCAPE
 abbrev pub code_of : ℕ → ℕ → Bool → LineKey
 code_of vk unit ctrl =
     if (unit == 0x0D) || (vk == 0x0D) then key.Return
@@ -42,7 +46,7 @@ code_of vk unit ctrl =
 abbrev pub is_typed : ℕ → Bool
 is_typed unit = not (is_control unit)
 
--- a key that is down, by its unit or else by its code; ctrl is the bit of left ctrl
+-- a key that is down, by its unit or else by its code; ctrl is LEFT_CTRL_PRESSED (8)
 abbrev pub key_in : Key → LineKey
 key_in k =
     if not k.down then key.Nothing

@@ -3,7 +3,8 @@ ghost use Rattle.std.specs.Prelude.{◌≡◌, ℕ, Bool, ◌≤◌};
 ghost use Rattle.con_handlers.specs.Answers.{answer, raised};
 ghost use Rattle.con_handlers.specs.Memory.{Memory, after_event};
 
-/// A handler of control events: ctrl+C (0), ctrl+break (1), close (2).
+/// A handler of control events, as a `HandlerRoutine` of the Console API: `CTRL_C_EVENT` (0), `CTRL_BREAK_EVENT` (1),
+/// `CTRL_CLOSE_EVENT` (2).
 pub trait CtrlHandler: Drop {
     // how often it was asked, the event that it was asked last, and its kind
     ghost memory: { Self → Memory };

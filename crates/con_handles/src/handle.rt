@@ -16,7 +16,7 @@ pub enum Kind {
     Any,
 }
 
-/// An object and the rights to it: 1 to read, 2 to write, 3 for both.
+/// An object and the rights to it: 1 to read (`GENERIC_READ`), 2 to write (`GENERIC_WRITE`), 3 for both.
 #[derive(Clone, Copy, PartialEq, Eq, Debug)]
 pub struct Held {
     pub object: Object,

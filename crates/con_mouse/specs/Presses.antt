@@ -17,7 +17,7 @@ bit on value = if on then value else 0
 
 -- ---- what a report tells
 
--- a wheel up is 0x0078, 120, in the high half, and one down is 0xFF88, -120
+-- a wheel up is 0x0078, 120 (WHEEL_DELTA), in the high half, and one down is 0xFF88, -120
 abbrev pub wheel_of : ℕ → Action
 wheel_of n = if n == 0 then Wheel 0x00780000 else if n == 1 then Wheel 0xFF880000 else Nothing
 
@@ -35,7 +35,7 @@ action_of r = if has_flag r.b 64 then (if r.press then wheel_of (r.b % 4) else N
 abbrev pub none_held : Buttons
 none_held = record { left = false; right = false; middle = false }
 
--- left 0x1, right 0x2, middle 0x4
+-- left 0x1 (FROM_LEFT_1ST_BUTTON_PRESSED), right 0x2 (RIGHTMOST_BUTTON_PRESSED), middle 0x4 (FROM_LEFT_2ND_BUTTON_PRESSED)
 abbrev pub held : Buttons → ℕ
 held s = (bit s.left 1 + bit s.right 2) + bit s.middle 4
 
@@ -56,7 +56,7 @@ held_after s r = held_by (action_of r) s r.press
 
 -- ---- the records
 
--- shift 0x10 by 4, alt 0x02 by 8, ctrl 0x08 by 16
+-- SHIFT_PRESSED 0x10 by 4, LEFT_ALT_PRESSED 0x02 by 8, LEFT_CTRL_PRESSED 0x08 by 16
 abbrev pub state_of : ℕ → ℕ
 state_of b = (bit (has_flag b 4) 0x10 + bit (has_flag b 8) 0x02) + bit (has_flag b 16) 0x08
 
@@ -69,6 +69,6 @@ record_by Move s r = Some (mouse r (held s) 1)
 record_by (Change button) s r = Some (mouse r (held (with_button s button r.press)) 0)
 record_by Nothing s r = None
 
--- the record that a report makes: flags 4 for a wheel, 1 for a move, 0 for a button
+-- the record that a report makes: flags 4 for a wheel (MOUSE_WHEELED), 1 for a move (MOUSE_MOVED), 0 for a button
 abbrev pub record_of : Buttons → Report → Option Mouse
 record_of s r = record_by (action_of r) s r

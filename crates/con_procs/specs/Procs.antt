@@ -53,7 +53,8 @@ abbrev pub programs_of : List Proc → List (List ℕ)
 programs_of [] = []
 programs_of (p ∷ ps) = if is_live p then p.program ∷ programs_of ps else programs_of ps
 
--- whether an event, signalled to a group, reaches a process: ctrl+C (0), ctrl+break (1), close (2)
+-- whether an event, signalled to a group, reaches a process: CTRL_C_EVENT (0), CTRL_BREAK_EVENT (1),
+-- CTRL_CLOSE_EVENT (2)
 abbrev pub reaches : ℕ → ℕ → Proc → Bool
 reaches event group p =
     is_live p && (

@@ -15,7 +15,7 @@ pub struct Key {
     pub scan: u16,
     /// The UTF-16 unit that the key stands for, 0 for none.
     pub unit: u16,
-    /// The control key state: 0x0002 left alt, 0x0008 left ctrl, 0x0010 shift, 0x0100 an enhanced key.
+    /// The control key state: 0x0002 `LEFT_ALT_PRESSED`, 0x0008 `LEFT_CTRL_PRESSED`, 0x0010 `SHIFT_PRESSED`, 0x0100 `ENHANCED_KEY`.
     pub state: u32,
 }
 
@@ -26,11 +26,12 @@ pub struct Mouse {
     pub x: i16,
     /// The row, from 0.
     pub y: i16,
-    /// The buttons that are down, a bit each; at a wheel its motion in the high half.
+    /// The buttons that are down, a bit each: 1 `FROM_LEFT_1ST_BUTTON_PRESSED`, 2 `RIGHTMOST_BUTTON_PRESSED`, 4
+    /// `FROM_LEFT_2ND_BUTTON_PRESSED`; at a wheel its motion in the high half.
     pub buttons: u32,
     /// The control key state, as a key's.
     pub state: u32,
-    /// What happened: 1 moved, 2 double click, 4 and 8 wheels, 0 a button.
+    /// What happened: 1 `MOUSE_MOVED`, 2 `DOUBLE_CLICK`, 4 `MOUSE_WHEELED`, 8 `MOUSE_HWHEELED`, 0 a button.
     pub flags: u32,
 }
 

@@ -8,14 +8,17 @@ use Rattle.con_vtin.specs.declared.sequence.Row.TheVariants as rows
 
 -- ---- which row of the table a virtual-key code stands in
 
+-- VK_UP, VK_DOWN, VK_RIGHT, VK_LEFT, VK_HOME and VK_END: the last bytes of CUU, CUD, CUF, CUB, CUP and CPL
 abbrev pub arrow_row : ℕ → Option Row
 arrow_row vk = if vk == 0x26 then Some (rows.Letter 0x41) else if vk == 0x28 then Some (rows.Letter 0x42) else if vk == 0x27 then Some (rows.Letter 0x43)
     else if vk == 0x25 then Some (rows.Letter 0x44) else if vk == 0x24 then Some (rows.Letter 0x48) else if vk == 0x23 then Some (rows.Letter 0x46) else None
 
+-- VK_INSERT, VK_DELETE, VK_PRIOR and VK_NEXT
 abbrev pub page_row : ℕ → Option Row
 page_row vk = if vk == 0x2D then Some (rows.Page 0x32) else if vk == 0x2E then Some (rows.Page 0x33)
     else if vk == 0x21 then Some (rows.Page 0x35) else if vk == 0x22 then Some (rows.Page 0x36) else None
 
+-- VK_F1 to VK_F12
 abbrev pub function_row : ℕ → Option Row
 function_row vk = if is_in_range 0x70 0x73 vk then Some (rows.First (vk - 0x20))
     else if vk == 0x74 then Some (rows.Function 0x31 0x35)
@@ -34,6 +37,7 @@ row_of k = if k.unit == 0 then or_row (arrow_row k.vk) (or_row (page_row k.vk) (
 
 -- ---- what a key sends
 
+-- SHIFT_PRESSED, LEFT_ALT_PRESSED and LEFT_CTRL_PRESSED
 abbrev pub shift_in : ℕ → ℕ
 shift_in state = state / 0x10 % 2
 
@@ -47,12 +51,14 @@ ctrl_in state = state / 0x08 % 2
 abbrev pub modifier_of : ℕ → ℕ
 modifier_of state = 0x31 + shift_in state + 2 * alt_in state + 4 * ctrl_in state
 
+-- without a modifier: behind ESC [ (CSI), or ESC O (SS3) for F1 to F4 and, in application mode (DECCKM), for the cursor keys
 abbrev pub plain_row : Row → Bool → List ℕ
 plain_row (rows.Letter last) cursor_keys = 0x1B ∷ (if cursor_keys then 0x4F else 0x5B) ∷ last ∷ []
 plain_row (rows.First last) cursor_keys = 0x1B ∷ 0x4F ∷ last ∷ []
 plain_row (rows.Page d) cursor_keys = 0x1B ∷ 0x5B ∷ d ∷ 0x7E ∷ []
 plain_row (rows.Function d e) cursor_keys = 0x1B ∷ 0x5B ∷ d ∷ e ∷ 0x7E ∷ []
 
+-- with one, behind ESC [ (CSI)
 abbrev pub modified_row : Row → ℕ → List ℕ
 modified_row (rows.Letter last) m = 0x1B ∷ 0x5B ∷ 0x31 ∷ 0x3B ∷ m ∷ last ∷ []
 modified_row (rows.First last) m = 0x1B ∷ 0x5B ∷ 0x31 ∷ 0x3B ∷ m ∷ last ∷ []

@@ -26,6 +26,7 @@ pub enum Row {
     Function(u8, u8),
 }
 
+// VK_UP, VK_DOWN, VK_RIGHT, VK_LEFT, VK_HOME, VK_END.
 fn arrow_row(vk: u16) -> Option<Row>
     ensures { result ≡ spec.arrow_row vk }
 {
@@ -40,6 +41,7 @@ fn arrow_row(vk: u16) -> Option<Row>
     }
 }
 
+// VK_INSERT, VK_DELETE, VK_PRIOR, VK_NEXT.
 fn page_row(vk: u16) -> Option<Row>
     ensures { result ≡ spec.page_row vk }
 {
@@ -52,6 +54,7 @@ fn page_row(vk: u16) -> Option<Row>
     }
 }
 
+// VK_F1 to VK_F12.
 fn function_row(vk: u16) -> Option<Row>
     ensures { result ≡ spec.function_row vk }
 {

@@ -73,6 +73,7 @@ fn ctrl_key(byte: u8) -> Key
     }
 }
 
+// VK_TAB, VK_RETURN, VK_ESCAPE, VK_BACK, or another control.
 fn control_key(byte: u8) -> Key
     ensures { result ≡ spec.control_key byte }
 {
@@ -109,6 +110,7 @@ pub fn with_alt(key: Key) -> Key
     }
 }
 
+// VK_UP, VK_DOWN, VK_RIGHT, VK_LEFT, VK_HOME, VK_END.
 fn six_vk(byte: u8) -> Option<u16>
     ensures { result ≡ spec.six_vk byte }
 {
@@ -123,6 +125,7 @@ fn six_vk(byte: u8) -> Option<u16>
     }
 }
 
+// VK_INSERT, VK_DELETE, VK_PRIOR, VK_NEXT.
 fn page_vk(digit: u8) -> Option<u16>
     ensures { result ≡ spec.page_vk digit }
 {
@@ -135,6 +138,7 @@ fn page_vk(digit: u8) -> Option<u16>
     }
 }
 
+// VK_F5 to VK_F8.
 fn teen_vk(digit: u8) -> Option<u16>
     ensures { result ≡ spec.teen_vk digit }
 {
@@ -147,6 +151,7 @@ fn teen_vk(digit: u8) -> Option<u16>
     }
 }
 
+// VK_F9 to VK_F12.
 fn twenty_vk(digit: u8) -> Option<u16>
     ensures { result ≡ spec.twenty_vk digit }
 {
@@ -171,6 +176,7 @@ fn function_vk(tens: u8, ones: u8) -> Option<u16>
     }
 }
 
+// VK_F1 to VK_F4.
 fn first_vk(byte: u8) -> Option<u16>
     ensures { result ≡ spec.first_vk byte }
 {
