@@ -17,7 +17,9 @@ pub struct Chain {
 /// Which handler of the chain handled an event, counted from the oldest.
 #[derive(Clone, Copy, PartialEq, Eq, Debug)]
 pub enum Delivered {
+    /// The one at this index, from 0.
     Handled(usize),
+    /// None: all answered false.
     Unhandled,
 }
 

@@ -4,15 +4,20 @@ use con_units::BufferId;
 /// What a handle stands for: the console's input, or a screen buffer.
 #[derive(Clone, Copy, PartialEq, Eq, Debug)]
 pub enum Object {
+    /// The console's input.
     Input,
+    /// A screen buffer.
     Output(BufferId),
 }
 
 /// The kind of handle that a call needs.
 #[derive(Clone, Copy, PartialEq, Eq, Debug)]
 pub enum Kind {
+    /// One of the input.
     Input,
+    /// One of a screen buffer.
     Output,
+    /// Either.
     Any,
 }
 
@@ -23,11 +28,15 @@ pub struct Held {
     pub rights: u8,
 }
 
-/// A handle: the process that it belongs to, its number there from 1 on, and what it stands for.
+/// A handle.
 #[derive(Clone, Copy, PartialEq, Eq, Debug)]
 pub struct Handle {
+    /// The process that it belongs to, from 1 on.
     pub process: u8,
+    /// Its number there, from 1 to 64.
     pub number: u32,
+    /// What it stands for.
     pub object: Object,
+    /// The rights to it, as those of [`Held`].
     pub rights: u8,
 }

@@ -9,8 +9,11 @@ use con_records::Mouse;
 /// The buttons that are held.
 #[derive(Clone, Copy, Debug, PartialEq, Eq)]
 pub struct Buttons {
+    /// The left one.
     pub left: bool,
+    /// The right one.
     pub right: bool,
+    /// The middle one.
     pub middle: bool,
 }
 

@@ -7,22 +7,31 @@ use crate::rack::Rack;
 use con_units::{OutOfMemory, Units};
 use std::alloc::Global;
 
-/// A process as it starts: its program, its group, and how many handlers its rack has.
+/// A process as it starts.
 #[derive(Drop)]
 pub struct ProcStart {
+    /// The name of its program, by which histories and aliases are kept.
     pub program: Units,
+    /// Its process group, which `GenerateConsoleCtrlEvent` names.
     pub group: u32,
+    /// How many handlers its rack has.
     pub rack: u8,
 }
 
-/// A process: whether it ignores ctrl+C, its status once it has exited, what waits for it.
+/// A process.
 #[derive(Drop)]
 pub struct Proc {
+    /// The name of its program.
     pub program: Units,
+    /// Its process group.
     pub group: u32,
+    /// Whether it ignores ctrl+C, as by `SetConsoleCtrlHandler` without a handler.
     pub ignore: bool,
+    /// Its status, once it has exited.
     pub ended: Option<u32>,
+    /// The control events that wait for it.
     pub pending: Pending,
+    /// The handlers that it may add.
     pub rack: Rack,
 }
 

@@ -20,17 +20,24 @@ use std::mem;
 /// What a read wants, or its answer.
 #[derive(Drop)]
 pub enum OpenRead {
+    /// A line, in line mode (`ENABLE_LINE_INPUT`).
     Line(Cooked),
+    /// Units without line mode.
     Units(WantsUnits),
+    /// Records.
     Records(WantsRecords),
+    /// It is done, with this answer.
     Done(Answer),
 }
 
-/// A process's read, and whether it was the first that is not done.
+/// A process's read.
 #[derive(Drop)]
 pub struct Open {
+    /// Whose read it is, from 1 on.
     pub process: u8,
+    /// Whether it was the first that is not done.
     pub started: bool,
+    /// What it wants, or its answer.
     pub read: OpenRead,
 }
 
