@@ -5,8 +5,8 @@
 //! - [`meet`]: compares the two ends, once one thread has both again.
 //!
 //! Contracts see a [`PipeIn`] as the pieces that it put and whether it is finished, and a [`PipeOut`] as the pieces that it
-//! took and whether it took the end mark, and both as the room that they were made with (`specs/Ends`). What was taken is a beginning of what was put, and all of it
-//! once the end mark was taken.
+//! took and whether it took the end mark, and both as the room that they were made with (`specs/Ends`). What was taken is a
+//! beginning of what was put, and all of it once the end mark was taken.
 //!
 //! A thread that waits for room or for a piece looks a few times, then lets others run, and then sleeps until the other
 //! end has done something. Only [`pipe`] takes memory.
