@@ -22,7 +22,8 @@ use Rattle.con_machine.specs.Fates.{How, Served, Emptied, Interrupted, CutOff, T
 -- ---- what a Begin that is not refused opens in a console
 
 abbrev pub line_opened : State → ℕ → List ℕ → ℕ → OpenRead
-line_opened s p initial mask = reads.Line (record { program = program_of s.procs p; insert = has_bit s.mode 0x20; initial = initial; mask = mask; presses = [] })
+line_opened s p initial mask =
+    reads.Line (record { program = program_of s.procs p; insert = has_bit s.mode 0x20; initial = initial; mask = mask; presses = [] })
 
 -- in line mode: nothing was asked for; or a line; or what is left of one answers at once
 abbrev pub opens_line : State → ℕ → ℕ → ℕ → List ℕ → ℕ → OpenRead

@@ -18,7 +18,8 @@ use Rattle.con_machine.specs.declared.read_room.Beginning.TheVariants as beginni
 abbrev pub line_read : State → ℕ → ℕ → List ℕ → List ℕ → ℕ → OpenRead
 line_read s p n rest initial mask =
     if n == 0 then reads.Done (answers.Units [])
-    else if is_empty rest then reads.Line (record { program = program_of s.procs p; insert = has_bit s.mode 0x20; initial = initial; mask = mask; presses = [] })
+    else if is_empty rest
+    then reads.Line (record { program = program_of s.procs p; insert = has_bit s.mode 0x20; initial = initial; mask = mask; presses = [] })
     else reads.Done (answers.Units (front_of n rest))
 
 -- the read is made, the program's history has room, what is left after the read is there, and room for what its line leaves is empty

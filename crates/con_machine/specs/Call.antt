@@ -3,8 +3,10 @@ use Rattle.std.specs.Prelude.{ℕ}
 use Rattle.con_machine.specs.State.{State}
 use Rattle.con_machine.specs.Outcome.{Outcome}
 use Rattle.con_machine.specs.HandleCalls.{created_buffer, opened_out, opened_in, closed_handle, duplicated, activated}
-use Rattle.con_machine.specs.ScreenCalls.{told_mode, set_mode, told_info, set_size, set_cursor, told_cursor, set_cursor_info, set_origin, set_attr, told_title, set_title, wrote}
-use Rattle.con_machine.specs.CellCalls.{read_rect, wrote_rect, read_run_units, read_run_words, wrote_run_units, wrote_run_words, filled_units, filled_words, scrolled_cells}
+use Rattle.con_machine.specs.ScreenCalls.{told_mode, set_mode, told_info, set_size, set_cursor, told_cursor, set_cursor_info, set_origin, set_attr}
+use Rattle.con_machine.specs.ScreenCalls.{told_title, set_title, wrote}
+use Rattle.con_machine.specs.CellCalls.{read_rect, wrote_rect, read_run_units, read_run_words, wrote_run_units, wrote_run_words, filled_units, filled_words}
+use Rattle.con_machine.specs.CellCalls.{scrolled_cells}
 use Rattle.con_machine.specs.InputCalls.{peeked, wrote_input, counted, flushed}
 use Rattle.con_machine.specs.LineCalls.{told_history_info, set_history, listed_history, cleared_history, added_alias, removed_alias, told_alias, listed_aliases}
 use Rattle.con_machine.specs.ProcessCalls.{listed_processes, sent_signal, set_ignore, added_handler, removed_handler}

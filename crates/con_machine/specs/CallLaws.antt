@@ -33,11 +33,14 @@ use Rattle.con_alias.specs.Aliases as alias
 use Rattle.con_alias.specs.Aliases.{Entry, added, removed, alias_at, entries_in}
 use Rattle.con_history.specs.Histories.{configured, is_refused, cleared, lines_of}
 use Rattle.con_machine.specs.State.{State}
-use Rattle.con_machine.specs.Outcome.{Outcome, refused, answered, done, by_answer, by_result, while_open, guard, with_object, on_input, on_buffer, buffer_of, are_rights, checked}
+use Rattle.con_machine.specs.Outcome.{Outcome, refused, answered, done, by_answer, by_result, while_open, guard, with_object, on_input, on_buffer, buffer_of}
+use Rattle.con_machine.specs.Outcome.{are_rights, checked}
 use Rattle.con_machine.specs.Call.{called}
 use Rattle.con_machine.specs.HandleCalls.{opened, opened_at, buffer_made, handle_with, retained, released}
-use Rattle.con_machine.specs.ScreenCalls.{mode_in, numbers_of, is_size, refitted_at, is_place, cursor_numbers, is_origin, mode_changed, is_input_mode, with_screen, with_page, page_of}
-use Rattle.con_machine.specs.CellCalls.{cells_of, with_cells, is_over, used_in, used_of, rect_told, rect_answer, cells_for, sides_of, are_cells, run_told, at_place, run_answer}
+use Rattle.con_machine.specs.ScreenCalls.{mode_in, numbers_of, is_size, refitted_at, is_place, cursor_numbers, is_origin, mode_changed, is_input_mode}
+use Rattle.con_machine.specs.ScreenCalls.{with_screen, with_page, page_of}
+use Rattle.con_machine.specs.CellCalls.{cells_of, with_cells, is_over, used_in, used_of, rect_told, rect_answer, cells_for, sides_of, are_cells, run_told}
+use Rattle.con_machine.specs.CellCalls.{at_place, run_answer}
 use Rattle.con_machine.specs.InputCalls.{peek_told}
 use Rattle.con_machine.specs.LineCalls.{info_numbers, pair_of, told_alias_in}
 use Rattle.con_machine.specs.Marks.{told}

@@ -64,7 +64,8 @@ IsFitRoom c p handle w h (rooms.Alias r) = ⊥
 
 -- what a text tells, and ten records for each of its units
 abbrev pub IsTextRoom : Held → List ℕ → CallRoom → Type 0
-IsTextRoom c units (rooms.Text a) = (a.told ≡ nothing_told) × (length units ≤ 16384 → length units ≤ a.room) × (length units ≤ 16384 → 10 * length units ≤ c.spare.records)
+IsTextRoom c units (rooms.Text a) =
+    (a.told ≡ nothing_told) × (length units ≤ 16384 → length units ≤ a.room) × (length units ≤ 16384 → 10 * length units ≤ c.spare.records)
 IsTextRoom c units (rooms.Told reply) = ⊥
 IsTextRoom c units rooms.Nothing = ⊥
 IsTextRoom c units (rooms.Buffer b) = ⊥
@@ -120,10 +121,12 @@ IsCallRoom c p (calls.WriteInput h records) room = length records ≤ 1024 → l
 IsCallRoom c p (calls.Count h) room = IsAnswer (counted c.state p h) room
 IsCallRoom c p (calls.Flush h) room = Unit {0}
 IsCallRoom c p calls.HistoryInfo room = IsAnswer (told_history_info c.state) room
-IsCallRoom c p (calls.SetHistory lines number flag) room = room ≡ rooms.Settings (room_for_configure c.state.histories (record { lines = lines; number = number; flag = flag }))
+IsCallRoom c p (calls.SetHistory lines number flag) room =
+    room ≡ rooms.Settings (room_for_configure c.state.histories (record { lines = lines; number = number; flag = flag }))
 IsCallRoom c p calls.HistoryList room = IsAnswer (listed_history c.state p) room
 IsCallRoom c p calls.HistoryClear room = Unit {0}
-IsCallRoom c p (calls.AliasAdd program source target) room = (room ≡ rooms.Alias (room_for c.state.aliases program source target)) × IsTrue (has_room c.spare.aliases program)
+IsCallRoom c p (calls.AliasAdd program source target) room =
+    (room ≡ rooms.Alias (room_for c.state.aliases program source target)) × IsTrue (has_room c.spare.aliases program)
 IsCallRoom c p (calls.AliasRemove program source) room = Unit {0}
 IsCallRoom c p (calls.AliasGet program source) room = IsAnswer (told_alias c.state program source) room
 IsCallRoom c p (calls.AliasList program) room = IsAnswer (listed_aliases c.state program) room

@@ -84,7 +84,8 @@ rect_answer g r = if is_over (used_in g r) then Err code.Limit else Ok (used_of 
 abbrev pub wrote_rect : State → ℕ → ℕ → Rect → List ℕ → Words → Outcome
 wrote_rect s p h r units ws = on_buffer s p h 2 (λ id.
     if are_cells r units ws
-    then by_result s (rect_answer (cells_of s id) r) (with_cells s id (rect_written (cells_of s id) r (cells_for units ws))) (λ used. replies.Numbers (sides_of used))
+    then by_result s (rect_answer (cells_of s id) r) (with_cells s id (rect_written (cells_of s id) r (cells_for units ws)))
+    (λ used. replies.Numbers (sides_of used))
     else refused s code.BadArgument)
 
 -- ---- runs: ReadConsoleOutputCharacter, ReadConsoleOutputAttribute, and the calls that write and fill
@@ -106,7 +107,8 @@ run_answer g at n = if is_over (run_count g at n) then Err code.Limit else Ok (r
 
 abbrev pub wrote_run_units : State → ℕ → ℕ → ℤ → ℤ → List ℕ → Outcome
 wrote_run_units s p h x y units = on_buffer s p h 2 (λ id.
-    by_result s (run_answer (cells_of s id) (at_place x y) (length units)) (with_cells s id (units_written (cells_of s id) (at_place x y) units)) replies.Number)
+    by_result s (run_answer (cells_of s id) (at_place x y) (length units))
+    (with_cells s id (units_written (cells_of s id) (at_place x y) units)) replies.Number)
 
 abbrev pub wrote_run_words : State → ℕ → ℕ → ℤ → ℤ → List ℕ → Outcome
 wrote_run_words s p h x y ws = on_buffer s p h 2 (λ id.

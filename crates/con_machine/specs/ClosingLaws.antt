@@ -1,5 +1,6 @@
 -- Once the terminal's side has ended, not all of the attached wait for reads.
-use Rattle.std.proofs.Common.{◌≡◌, ◌⊎◌, ℕ, zero, suc, ◌+◌, ◌-◌, ◌<◌, ◌≤◌, Bool, true, false, List, [], ◌∷◌, map, drop, length, Option, Some, None, refl, sym, ap, subst, ◌∙◌, inl, inr, arith}
+use Rattle.std.proofs.Common.{◌≡◌, ◌⊎◌, ℕ, zero, suc, ◌+◌, ◌-◌, ◌<◌, ◌≤◌, Bool, true, false, List, [], ◌∷◌, map, drop, length, Option, Some, None, refl, sym}
+use Rattle.std.proofs.Common.{ap, subst, ◌∙◌, inl, inr, arith}
 use Rattle.std.specs.Prelude.{if◌then◌else◌, ◌&&◌, ◌||◌, nat_lt, not, slice_get}
 use Rattle.std.proofs.lemmas.Option.{slice_get_within}
 use Rattle.std.proofs.lemmas.Bool.Decides.{nat_tests}
@@ -65,7 +66,12 @@ begun_goes : (s : State) (p : ℕ) (b : Bool) (t : State) → BeginsBy b s p t �
 begun_goes s p true t k = subst (λ (x : State). Goes s x) (sym k) (goes s)
 begun_goes s p false t k =
     let closed : t.closed ≡ s.closed = ap (λ (x : Seats). x.3) k.is in
-    record { count = ap (λ (x : Seats). length x.1) k.is; closed = λ c. closed ∙ c; quiet = λ q c. absurd (let e : false ≡ true = sym k.now ∙ (sym closed ∙ c) in cc) }
+    record {
+      count =
+          ap (λ (x : Seats). length x.1) k.is;
+      closed = λ c. closed ∙ c;
+      quiet = λ q c. absurd (let e : false ≡ true = sym k.now ∙ (sym closed ∙ c) in cc);
+    }
 
 collect_goes : (s : State) (p : ℕ) → Goes s (waits.collected s p).after
 collect_goes s p =
@@ -83,7 +89,13 @@ take_goes s p = record { count = as_many (λ x. record x { pending = drop 1 x.pe
 
 leave_goes : (s : State) (p status : ℕ) → Goes s (waits.left s p status)
 unfolding waits.left
-leave_goes s p status = record { count = as_many (λ x. record x { ended = Some status }) s.procs p; closed = λ c. c; quiet = λ k c. removed_done s.reads (place_of s.reads p) (k c) }
+leave_goes s p status =
+    record {
+      count =
+          as_many (λ x. record x { ended = Some status }) s.procs p;
+      closed = λ c. c;
+      quiet = λ k c. removed_done s.reads (place_of s.reads p) (k c);
+    }
 
 -- ---- each event
 
@@ -105,7 +117,8 @@ record Sound (s : State) (over : Bool) (n : ℕ) : Type 0 where
   ends : over ≡ true → (s.closed ≡ true) ⊎ (s.drained ≡ true)
   due : s.drained ≡ true → (s.closed ≡ true) ⊎ (all_wait s.reads (ids_of s.procs) ≡ false)
 
-shut : (s : State) (b : Bool) → s.closed ≡ b → (if b then s else record s { closed = true; procs = signalled s.procs 2 0; reads = all_closed s.reads }).closed ≡ true
+shut : (s : State) (b : Bool) → s.closed ≡ b
+    → (if b then s else record s { closed = true; procs = signalled s.procs 2 0; reads = all_closed s.reads }).closed ≡ true
 shut s true c = c
 shut s false c = refl
 
@@ -113,7 +126,8 @@ not_both : (a b : Bool) → (a && b) ≡ false → a ≡ true → b ≡ false
 not_both true b e i = e
 not_both false b e i = absurd (cc)
 
-due_by : (s : State) (b : Bool) → (s.drained && all_wait s.reads (ids_of s.procs)) ≡ b → let t : State = (if b then hung_up s else s) in t.drained ≡ true → (t.closed ≡ true) ⊎ (all_wait t.reads (ids_of t.procs) ≡ false)
+due_by : (s : State) (b : Bool) → (s.drained && all_wait s.reads (ids_of s.procs)) ≡ b → let t : State =
+    (if b then hung_up s else s) in t.drained ≡ true → (t.closed ≡ true) ⊎ (all_wait t.reads (ids_of t.procs) ≡ false)
 due_by s true e d = inl (shut s s.closed refl)
 due_by s false e d = inr (not_both s.drained (all_wait s.reads (ids_of s.procs)) e d)
 
@@ -141,7 +155,9 @@ step_goes s a e = by_outside (is_outside s a e)
   where
     by_outside : (b : Bool) → Goes s (if b then refused s code.BadHandle else finished (effect s (client_of a) e)).after
     by_outside true = goes s
-    by_outside false = then_goes s (effect s (client_of a) e).after (finished (effect s (client_of a) e)).after (effect_goes s (client_of a) e) (finished_goes (effect s (client_of a) e))
+    by_outside false =
+        then_goes s (effect s (client_of a) e).after (finished (effect s (client_of a) e)).after (effect_goes s (client_of a) e)
+        (finished_goes (effect s (client_of a) e))
 
 stays_ended : (s : State) (a : Actor) (e : Event) → Ends s → Ends (step s a e).after
 stays_ended s a e (inl c) = inl ((step_goes s a e).closed c)
@@ -173,9 +189,11 @@ step_due s a e k = by_outside (is_outside s a e)
     by_outside false = closing_due (settled_state (effect s (client_of a) e).after)
 
 step_sound : (s : State) (a : Actor) (e : Event) (over : Bool) (n : ℕ) → Sound s over n → Sound (step s a e).after (ended_by over a e) n
-step_sound s a e over n k = let g = step_goes s a e in record { count = g.count ∙ k.count; quiet = g.quiet k.quiet; ends = entry_ends s a e over k.ends; due = step_due s a e k.due }
+step_sound s a e over n k =
+    let g = step_goes s a e in record { count = g.count ∙ k.count; quiet = g.quiet k.quiet; ends = entry_ends s a e over k.ends; due = step_due s a e k.due }
 
-run_by : (s : State) (a : Actor) (e : Event) (xs : List Entry) (over : Bool) (n : ℕ) → Sound (run (step s a e).after xs) (has_ended (ended_by over a e) (sent xs)) n
+run_by : (s : State) (a : Actor) (e : Event) (xs : List Entry) (over : Bool) (n : ℕ)
+    → Sound (run (step s a e).after xs) (has_ended (ended_by over a e) (sent xs)) n
     → Sound (run (step s a e).after xs) (has_ended over (sent ((let x : Entry = record { actor = a; event = e } in x) ∷ xs))) n
 run_by s (actors.Client q) e xs over n k = k
 run_by s actors.Terminal e xs over n k = k
@@ -183,15 +201,19 @@ run_by s actors.Painter e xs over n k = k
 
 run_sound : (s : State) (h : List Entry) (over : Bool) (n : ℕ) → Sound s over n → Sound (run s h) (has_ended over (sent h)) n
 run_sound s [] over n k = k
-run_sound s (x ∷ xs) over n k = run_by s x.actor x.event xs over n (run_sound (moved s x) xs (ended_by over x.actor x.event) n (step_sound s x.actor x.event over n k))
+run_sound s (x ∷ xs) over n k =
+    run_by s x.actor x.event xs over n (run_sound (moved s x) xs (ended_by over x.actor x.event) n (step_sound s x.actor x.event over n k))
 
 -- ---- all wait
 
 -- a read that is open and not done waits
-open_at : (o : Open) (os : List Open) (p : ℕ) (b : Bool) → is_of p o ≡ b → (b || is_open os p) ≡ true → (is_open os p ≡ true → done_in (slice_get os (place_of os p)) ≡ false → undone_in (slice_get os (place_of os p)) ≡ true) → (n : ℕ) → n ≡ suc (place_of os p)
+open_at : (o : Open) (os : List Open) (p : ℕ) (b : Bool) → is_of p o ≡ b → (b || is_open os p) ≡ true
+    → (is_open os p ≡ true → done_in (slice_get os (place_of os p)) ≡ false → undone_in (slice_get os (place_of os p)) ≡ true) → (n : ℕ)
+    → n ≡ suc (place_of os p)
     → done_in (slice_get (o ∷ os) (if not b then n else 0)) ≡ false → undone_in (slice_get (o ∷ os) (if not b then n else 0)) ≡ true
 open_at o os p true i found rest n e d = ap not d
-open_at o os p false i found rest n e d = let P : ℕ → Type 0 = λ m. undone_in (slice_get (o ∷ os) m) ≡ true in let Q : ℕ → Type 0 = λ m. done_in (slice_get (o ∷ os) m) ≡ false in subst P (sym e) (rest found (subst Q e d))
+open_at o os p false i found rest n e d = let P : ℕ → Type 0 = λ m. undone_in (slice_get (o ∷ os) m) ≡ true in let Q : ℕ → Type 0 =
+    λ m. done_in (slice_get (o ∷ os) m) ≡ false in subst P (sym e) (rest found (subst Q e d))
 
 undone : (os : List Open) (p : ℕ) → is_open os p ≡ true → has_done os p ≡ false → has_undone os p ≡ true
 undone [] p found d = absurd (cc)
@@ -201,11 +223,13 @@ waits_in : (s : State) (p : ℕ) → WaitsOrGone s p → is_attached s.procs p �
 waits_in s p (inl gone) a = absurd (let e : false ≡ true = sym gone ∙ a in cc)
 waits_in s p (inr w) a = undone s.reads p w.0 w.1
 
-one_waits : (os : List Open) (k : ℕ) (ids : List ℕ) (b : Bool) → (b ≡ true → has_undone os k ≡ true) → all_wait os ids ≡ true → all_wait os (if b then k ∷ ids else ids) ≡ true
+one_waits : (os : List Open) (k : ℕ) (ids : List ℕ) (b : Bool) → (b ≡ true → has_undone os k ≡ true) → all_wait os ids ≡ true
+    → all_wait os (if b then k ∷ ids else ids) ≡ true
 one_waits os k ids true f e = rw (f refl, e) refl
 one_waits os k ids false f e = e
 
-all_wait_from : (os : List Open) (ps : List Proc) (k : ℕ) → ((j : ℕ) → live_in (slice_get ps j) ≡ true → has_undone os (k + j) ≡ true) → all_wait os (ids_from k ps) ≡ true
+all_wait_from : (os : List Open) (ps : List Proc) (k : ℕ) → ((j : ℕ) → live_in (slice_get ps j) ≡ true → has_undone os (k + j) ≡ true)
+    → all_wait os (ids_from k ps) ≡ true
 unfolding ids_from
 all_wait_from os [] k f = refl
 all_wait_from os (p ∷ ps) k f =
@@ -232,7 +256,10 @@ attached_from ps j l =
     both a b e f = rw (e, f) refl
 
 all_do_wait : (s : State) (n : ℕ) → length s.procs ≡ n → ((p : ℕ) → 0 < p → p ≤ n → WaitsOrGone s p) → all_wait s.reads (ids_of s.procs) ≡ true
-all_do_wait s n c f = all_wait_from s.reads s.procs 1 (λ j l. let m = live_within s.procs j l in let low : 0 < 1 + j = omega arith in let high : 1 + j ≤ n = omega (arith, m, c) in waits_in s (1 + j) (f (1 + j) low high) (attached_from s.procs j l))
+all_do_wait s n c f =
+    all_wait_from s.reads s.procs 1
+    (λ j l. let m = live_within s.procs j l in let low : 0 < 1 + j =
+    omega arith in let high : 1 + j ≤ n = omega (arith, m, c) in waits_in s (1 + j) (f (1 + j) low high) (attached_from s.procs j l))
 
 -- ---- from the beginning of a session
 
@@ -241,7 +268,14 @@ as_many_scripts [] racks = refl
 as_many_scripts (s ∷ ss) racks = ap suc (as_many_scripts ss (behind_first racks))
 
 sound_begun : (session : Clients) (racks : List (List ℕ)) → Sound (begun session racks) false (length session.scripts)
-sound_begun session racks = record { count = as_many_scripts session.scripts (map (λ kinds. length kinds) racks); quiet = λ c. absurd (cc); ends = λ e. absurd (cc); due = λ e. absurd (cc) }
+sound_begun session racks =
+    record {
+      count =
+          as_many_scripts session.scripts (map (λ kinds. length kinds) racks);
+      quiet = λ c. absurd (cc);
+      ends = λ e. absurd (cc);
+      due = λ e. absurd (cc);
+    }
 
 -- where no read is undone, who waits or is gone is gone
 gone_or : (s : State) (p : ℕ) → AreDone s.reads → WaitsOrGone s p → is_attached s.procs p ≡ false

@@ -26,7 +26,8 @@ use Rattle.con_mouse.specs.Reports.{report_of}
 use Rattle.con_mouse.specs.declared.report.Report.{Report}
 use Rattle.con_vtin.specs.Keys.{quieted}
 use Rattle.con_vtin.specs.Pieces.{Piece, Typed, Ended, piece_grammar}
-use Rattle.con_procs.specs.Procs.{is_attached, signalled, ids_of, ignoring, first_pending, place_in, is_fresh, is_chained, program_of, add_answer, handler_added, remove_answer, handler_removed}
+use Rattle.con_procs.specs.Procs.{is_attached, signalled, ids_of, ignoring, first_pending, place_in, is_fresh, is_chained, program_of, add_answer}
+use Rattle.con_procs.specs.Procs.{handler_added, remove_answer, handler_removed}
 use Rattle.con_procs.specs.declared.proc.Proc.{Proc}
 use Rattle.con_procs.specs.declared.rack.Place.TheVariants as place
 use Rattle.con_readers.proofs.Distinctness.{settled-processes, closed-processes, aborted-processes}
@@ -56,7 +57,8 @@ use Rattle.con_machine.specs.Serving.{followed, settled_state, line_shown, line_
 use Rattle.con_machine.specs.Signals.{signalled_to}
 use Rattle.con_machine.specs.Closing.{hung_up, closing, all_wait}
 use Rattle.con_machine.specs.Reads as waits
-use Rattle.con_machine.specs.Reads.{began, began_line, began_units, answered_with, rest_answered, line_begun, with_read, front_of, is_empty, history_used, read_answer, records_answer, is_no_initial}
+use Rattle.con_machine.specs.Reads.{began, began_line, began_units, answered_with, rest_answered, line_begun, with_read, front_of, is_empty, history_used}
+use Rattle.con_machine.specs.Reads.{read_answer, records_answer, is_no_initial}
 use Rattle.con_machine.specs.Terminal.{key_taken, is_break, records_of, by_report, piece_taken, fed, quiet, resized, size_told, size_record, asked, drained}
 use Rattle.con_machine.specs.Painting.{painted}
 use Rattle.con_machine.specs.Step.{step, effect, is_outside, is_clients, finished, client_of}

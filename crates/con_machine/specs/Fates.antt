@@ -1,6 +1,7 @@
 -- What became of each record of the input: records are taken from the front alone, so who took what is a list of pieces, in order.
 -- What came in and who took it is told beside the run of a history; the console itself counts no records.
-use Rattle.std.specs.Prelude.{◌≡◌, ◌⊎◌, ℕ, suc, ◌+◌, ◌-◌, ◌==◌, ◌&&◌, Bool, true, false, nat_lt, List, [], ◌∷◌, ◌++◌, length, map, filter, Option, None, Some, Result, Ok, Err, if◌then◌else◌}
+use Rattle.std.specs.Prelude.{◌≡◌, ◌⊎◌, ℕ, suc, ◌+◌, ◌-◌, ◌==◌, ◌&&◌, Bool, true, false, nat_lt, List, [], ◌∷◌, ◌++◌, length, map, filter, Option, None, Some}
+use Rattle.std.specs.Prelude.{Result, Ok, Err, if◌then◌else◌}
 use Rattle.std.specs.List.{find}
 use Rattle.con_units.specs.Split.{split_after}
 use Rattle.con_units.specs.declared.code.Code.{Code}
@@ -174,7 +175,8 @@ unfoldable pub taken_by : Begins → List AliasList → List Open → List Recor
 taken_by begins al [] rs hs = []
 taken_by begins al (o ∷ os) rs hs =
     if is_done o.read then taken_by begins al os rs hs
-    else (let s = served o.process al o.read rs hs in by_read begins (Served hs al) o.process (front rs s.records) ∷ (if is_done s.read then taken_by begins al os s.records s.histories else []))
+    else (let s = served o.process al o.read rs hs in
+    by_read begins (Served hs al) o.process (front rs s.records) ∷ (if is_done s.read then taken_by begins al os s.records s.histories else []))
 
 -- open reads are served
 unfoldable pub served_pieces : Begins → State → List Piece

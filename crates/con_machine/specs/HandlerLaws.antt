@@ -66,7 +66,8 @@ added_at (x ∷ ps) zero at f = set_added x.rack at f
 added_at (x ∷ ps) (suc j) at f = added_at ps j at f
 
 others_at : (ps : List Proc) (j at k i : ℕ) → (j ≡ k → at ≡ i → ⊥)
-    → is_added (slice_get (rack_in (slice_get (changed_at (λ x. record x { rack = slice_set x.rack at place.Chained }) ps j) k)) i) ≡ is_added (slice_get (rack_in (slice_get ps k)) i)
+    → is_added (slice_get (rack_in (slice_get (changed_at (λ x. record x { rack = slice_set x.rack at place.Chained }) ps j) k)) i)
+    ≡ is_added (slice_get (rack_in (slice_get ps k)) i)
 others_at [] j at k i n = refl
 others_at (x ∷ ps) zero at zero i n = set_others x.rack at i (n refl)
 others_at (x ∷ ps) zero at (suc k) i n = refl
@@ -80,19 +81,27 @@ fresh_added (Some place.Chained) f = absurd (cc)
 fresh_added (Some place.Removed) f = absurd (cc)
 
 added_by : (ps : List Proc) (p at : ℕ) (none : Bool) → is_fresh (slice_get (rack_in (if none then None else slice_get ps (p - 1))) at) ≡ true
-    → is_added (slice_get (rack_in (if none then None else slice_get (if none then ps else changed_at (λ x. record x { rack = slice_set x.rack at place.Chained }) ps (p - 1)) (p - 1))) at) ≡ true
+    → is_added
+    (slice_get
+    (rack_in (if none then None
+    else slice_get (if none then ps else changed_at (λ x. record x { rack = slice_set x.rack at place.Chained }) ps (p - 1)) (p - 1))) at) ≡ true
 added_by ps p at true f = absurd (cc)
 added_by ps p at false f = added_at ps (p - 1) at f
 
-others_by : (ps : List Proc) (p at q i : ℕ) (none : Bool) → (p == 0) ≡ none → is_fresh (slice_get (rack_in (if none then None else slice_get ps (p - 1))) at) ≡ true → (p ≡ q → at ≡ i → ⊥)
-    → is_added (place_in (if none then ps else changed_at (λ x. record x { rack = slice_set x.rack at place.Chained }) ps (p - 1)) q i) ≡ is_added (place_in ps q i)
+others_by : (ps : List Proc) (p at q i : ℕ) (none : Bool) → (p == 0) ≡ none
+    → is_fresh (slice_get (rack_in (if none then None else slice_get ps (p - 1))) at) ≡ true → (p ≡ q → at ≡ i → ⊥)
+    → is_added (place_in (if none then ps else changed_at (λ x. record x { rack = slice_set x.rack at place.Chained }) ps (p - 1)) q i)
+    ≡ is_added (place_in ps q i)
 others_by ps p at q i true z f n = refl
 others_by ps p at q i false z f n = by (q == 0) refl
   where
     differ : (q == 0) ≡ false → p - 1 ≡ q - 1 → at ≡ i → ⊥
     differ y e = let some : p ≢ 0 = grind (arith, nat_tests) in let more : q ≢ 0 = grind (arith, nat_tests) in n (omega arith)
 
-    by : (b : Bool) → (q == 0) ≡ b → is_added (slice_get (rack_in (if b then None else slice_get (changed_at (λ x. record x { rack = slice_set x.rack at place.Chained }) ps (p - 1)) (q - 1))) i) ≡ is_added (slice_get (rack_in (if b then None else slice_get ps (q - 1))) i)
+    by : (b : Bool) → (q == 0) ≡ b
+        → is_added
+        (slice_get (rack_in (if b then None else slice_get (changed_at (λ x. record x { rack = slice_set x.rack at place.Chained }) ps (p - 1)) (q - 1))) i)
+        ≡ is_added (slice_get (rack_in (if b then None else slice_get ps (q - 1))) i)
     by true y = refl
     by false y = others_at ps (p - 1) at (q - 1) i (differ y)
 
@@ -119,7 +128,8 @@ event_keeps s p events.TakeCtrl n = took_kept s p
 event_keeps s p (events.Exit status) n = left_kept s p status
 event_keeps s p (events.Feed bytes) n = record { added = (fed_walk s bytes).added }
 event_keeps s p events.Quiet n = record { added = (quiet_walk s).added }
-event_keeps s p (events.Resize size) n = procs_kept s (resized s size) (ap (λ (c : Core). c.procs) (size_core (record s { buffers = all_resized s.buffers size; resized = true })))
+event_keeps s p (events.Resize size) n =
+    procs_kept s (resized s size) (ap (λ (c : Core). c.procs) (size_core (record s { buffers = all_resized s.buffers size; resized = true })))
 event_keeps s p events.Ask n = record { added = λ q i. refl }
 event_keeps s p events.Hangup n = record { added = (hung_walk s).added }
 event_keeps s p events.Drained n = record { added = λ q i. refl }
@@ -151,7 +161,8 @@ none_of true false = refl
 none_of false true = refl
 none_of false false = refl
 
-done_once : (s : State) (p at q i : ℕ) (x y : Bool) → (p == q) ≡ x → (at == i) ≡ y → is_fresh (place_in s.procs p at) ≡ true → Once s (record s { procs = placed s.procs p at place.Chained }) (x && (y && true)) q i
+done_once : (s : State) (p at q i : ℕ) (x y : Bool) → (p == q) ≡ x → (at == i) ≡ y → is_fresh (place_in s.procs p at) ≡ true
+    → Once s (record s { procs = placed s.procs p at place.Chained }) (x && (y && true)) q i
 done_once s p at q i true true e f fresh =
     let one : p ≡ q = grind (arith, nat_tests) in
     let same : at ≡ i = grind (arith, nat_tests) in
@@ -166,7 +177,9 @@ done_once s p at q i false y e f fresh =
     record { first = λ n. absurd (cc); after' = others_by s.procs p at q i (p == 0) refl fresh (λ same _. differ same) }
 
 granted_once : (s : State) (p at q i : ℕ) (f : Bool) → is_fresh (place_in s.procs p at) ≡ f
-    → Once s (by_answer s (granted f) (record s { procs = if f then placed s.procs p at place.Chained else s.procs })).after ((p == q) && ((at == i) && not (is_fail (by_answer s (granted f) (record s { procs = if f then placed s.procs p at place.Chained else s.procs })).reply))) q i
+    → Once s (by_answer s (granted f) (record s { procs = if f then placed s.procs p at place.Chained else s.procs })).after
+    ((p == q)
+    && ((at == i) && not (is_fail (by_answer s (granted f) (record s { procs = if f then placed s.procs p at place.Chained else s.procs })).reply))) q i
 granted_once s p at q i true e = done_once s p at q i (p == q) (at == i) refl refl e
 granted_once s p at q i false e = once_kept s s ((p == q) && ((at == i) && false)) q i (kept s) (none_of (p == q) (at == i))
 
@@ -185,7 +198,8 @@ handler_once : (s : State) (p at q i : ℕ) → AddsBy s p at (added_handler s p
 handler_once s p at q i =
     let o = by_answer s (add_answer s.procs p at) (record s { procs = handler_added s.procs p at }) in
     if_once s p at q i s.closed (refused s code.Closed) (if nat_le at 255 then o else refused s code.BadArgument) (refused_once s p at code.Closed q i)
-    (if_once s p at q i (nat_le at 255) o (refused s code.BadArgument) (granted_once s p at q i (is_fresh (place_in s.procs p at)) refl) (refused_once s p at code.BadArgument q i))
+    (if_once s p at q i (nat_le at 255) o (refused s code.BadArgument) (granted_once s p at q i (is_fresh (place_in s.procs p at)) refl)
+    (refused_once s p at code.BadArgument q i))
 
 finished_once : (s : State) (p at q i : ℕ) (o : Outcome) → AddsBy s p at o q i → AddsBy s p at (finished o) q i
 finished_once s p at q i o k = once_then s o.after (finished o).after ((p == q) && ((at == i) && not (is_fail o.reply))) q i k (finished_keeps o)
@@ -198,7 +212,8 @@ add_once : (s : State) (a : Actor) (at q i : ℕ) → AddsOnce s a (events.Call 
 unfolding step
 add_once s (actors.Client p) at q i =
     let e = events.Call (calls.HandlerAdd at) in
-    if_once s p at q i (is_outside s (actors.Client p) e) (refused s code.BadHandle) (finished (effect s p e)) (refused_once s p at code.BadHandle q i) (finished_once s p at q i (effect s p e) (effect_once s p at q i))
+    if_once s p at q i (is_outside s (actors.Client p) e) (refused s code.BadHandle) (finished (effect s p e)) (refused_once s p at code.BadHandle q i)
+    (finished_once s p at q i (effect s p e) (effect_once s p at q i))
 add_once s actors.Terminal at q i = once_kept s s false q i (kept s) refl
 add_once s actors.Painter at q i = once_kept s s false q i (kept s) refl
 
@@ -233,7 +248,8 @@ step_once s a e q i = quiet_once s a e q i refl
 
 pub has_added-append : (i : ℕ) (xs ys : List Turn) → has_added i (xs ++ ys) ≡ (has_added i xs || has_added i ys)
 has_added-append i [] ys = refl
-has_added-append i (t ∷ xs) ys = ap (λ (b : Bool). adds i t.event t.reply || b) (has_added-append i xs ys) ∙ or_assoc (adds i t.event t.reply) (has_added i xs) (has_added i ys)
+has_added-append i (t ∷ xs) ys =
+    ap (λ (b : Bool). adds i t.event t.reply || b) (has_added-append i xs ys) ∙ or_assoc (adds i t.event t.reply) (has_added i xs) (has_added i ys)
   where
     or_assoc : (a b c : Bool) → (a || (b || c)) ≡ ((a || b) || c)
     or_assoc true b c = refl
@@ -253,7 +269,8 @@ joined_by false add true false = refl
 joined_by false add false true = refl
 joined_by false add false false = refl
 
-told_by : (mine : Bool) (i : ℕ) (t : Turn) (ts : List Turn) → has_added i (if mine then t ∷ ts else ts) ≡ (if mine then adds i t.event t.reply || has_added i ts else has_added i ts)
+told_by : (mine : Bool) (i : ℕ) (t : Turn) (ts : List Turn)
+    → has_added i (if mine then t ∷ ts else ts) ≡ (if mine then adds i t.event t.reply || has_added i ts else has_added i ts)
 told_by true i t ts = refl
 told_by false i t ts = refl
 
@@ -278,8 +295,10 @@ none_before true more e = absurd (cc)
 none_before false more e = e
 
 -- a place that is added was added by no entry before
-pub added_first : (s : State) (h : List Entry) (p i : ℕ) (e : Event) → adds i e (step (run s h) (actors.Client p) e).reply ≡ true → has_added i (turns s p h) ≡ false
+pub added_first : (s : State) (h : List Entry) (p i : ℕ) (e : Event) → adds i e (step (run s h) (actors.Client p) e).reply ≡ true
+    → has_added i (turns s p h) ≡ false
 added_first s h p i e a =
     let mine : (p == p) ≡ true = eq-eqb p p refl in
-    let b : adds_to p i (actors.Client p) e (step (run s h) (actors.Client p) e).reply ≡ true = ap (λ (b : Bool). b && adds i e (step (run s h) (actors.Client p) e).reply) mine ∙ a in
+    let b : adds_to p i (actors.Client p) e (step (run s h) (actors.Client p) e).reply ≡ true =
+    ap (λ (b : Bool). b && adds i e (step (run s h) (actors.Client p) e).reply) mine ∙ a in
     none_before (was_added s p i) (has_added i (turns s p h)) (sym (run_added s h p i) ∙ (step_once (run s h) (actors.Client p) e p i).first b)

@@ -45,7 +45,16 @@ state_of c = record {
 }
 
 abbrev pub spare_of : Inside → Spare
-spare_of c = record { handles = c.handles.spare; reads = c.readers.spare; noted = c.notes.spare; rests = c.rests.spare; records = c.records.spare; aliases = c.aliases.places }
+spare_of c =
+    record {
+      handles =
+          c.handles.spare;
+      reads = c.readers.spare;
+      noted = c.notes.spare;
+      rests = c.rests.spare;
+      records = c.records.spare;
+      aliases = c.aliases.places;
+    }
 
 abbrev pub held_of : Inside → Held
 held_of c = record { state = state_of c; spare = spare_of c; seen = c.seen }

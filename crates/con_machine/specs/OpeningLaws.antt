@@ -26,7 +26,8 @@ none_at [] racks k = refl
 none_at (s ∷ ss) racks zero = refl
 none_at (s ∷ ss) racks (suc k) = none_at ss (behind_first racks) k
 
-none_of : (ps : List Proc) (p : ℕ) (b : Bool) → slice_get (pending_in (slice_get ps (p - 1))) 0 ≡ None → is_some (slice_get (pending_in (if b then None else slice_get ps (p - 1))) 0) ≡ false
+none_of : (ps : List Proc) (p : ℕ) (b : Bool) → slice_get (pending_in (slice_get ps (p - 1))) 0 ≡ None
+    → is_some (slice_get (pending_in (if b then None else slice_get ps (p - 1))) 0) ≡ false
 none_of ps p true e = refl
 none_of ps p false e = ap is_some e
 
@@ -34,7 +35,9 @@ pub opens : (session : Clients) (racks : List (List ℕ)) → Opens session (beg
 opens session racks =
     let counts = map (λ kinds. length kinds) racks in
     record {
-      attached = λ p. attached_at (length session.scripts) p (live_in (slice_get (procs_of session.scripts counts) (p - 1))) (live_at session.scripts counts (p - 1));
+      attached =
+          λ p. attached_at (length session.scripts) p (live_in (slice_get (procs_of session.scripts counts) (p - 1)))
+          (live_at session.scripts counts (p - 1));
       read = λ p. refl;
       pending = λ p. none_of (procs_of session.scripts counts) p (p == 0) (none_at session.scripts counts (p - 1));
       asked = refl;

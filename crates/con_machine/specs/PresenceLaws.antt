@@ -1,5 +1,6 @@
 -- What each event does to what a client knows of itself.
-use Rattle.std.proofs.Common.{◌≡◌, ◌≢◌, ℕ, zero, suc, ◌+◌, ◌-◌, ◌≤◌, Bool, true, false, List, [], ◌∷◌, ◌++◌, Some, None, refl, sym, ap, ◌∙◌, subst, arith, true≢false, zero-add}
+use Rattle.std.proofs.Common.{◌≡◌, ◌≢◌, ℕ, zero, suc, ◌+◌, ◌-◌, ◌≤◌, Bool, true, false, List, [], ◌∷◌, ◌++◌, Some, None, refl, sym, ap, ◌∙◌, subst, arith}
+use Rattle.std.proofs.Common.{true≢false, zero-add}
 use Rattle.std.specs.Prelude.{if◌then◌else◌, ◌||◌, ◌&&◌, ◌==◌, nat_lt, not, drop, is_some, slice_get}
 use Rattle.std.specs.List.{remove}
 use Rattle.std.proofs.lemmas.Bool.{eq-eqb}
@@ -42,7 +43,8 @@ other_at f (x ∷ ps) (suc k) (suc i) ne = other_at f ps k i (λ e. ne (ap suc e
 other_proc : (f : Proc → Proc) (ps : List Proc) (k p : ℕ) → (k == p) ≡ false → proc_of (changed f ps k) p ≡ proc_of ps p
 other_proc f ps k p ne = by_none (k == 0) (p == 0) refl refl
   where
-    by_none : (b c : Bool) → (k == 0) ≡ b → (p == 0) ≡ c → (if c then None else slice_get (if b then ps else changed_at f ps (k - 1)) (p - 1)) ≡ (if c then None else slice_get ps (p - 1))
+    by_none : (b c : Bool) → (k == 0) ≡ b → (p == 0) ≡ c
+        → (if c then None else slice_get (if b then ps else changed_at f ps (k - 1)) (p - 1)) ≡ (if c then None else slice_get ps (p - 1))
     by_none b true z y = refl
     by_none true false z y = refl
     by_none false false z y = other_at f ps (k - 1) (p - 1) (
@@ -69,14 +71,16 @@ last_times : (os : List Open) (q p : ℕ) (read : OpenRead) → times_in p (proc
 last_times [] q p read = omega arith
 last_times (o ∷ os) q p read = omega (arith, last_times os q p read)
 
-other_by : (o : Open) (os : List Open) (q p : ℕ) (m : Bool) → (o.process == q) ≡ m → (q == p) ≡ false → times_in p (processes_in (without os q)) ≡ times_in p (processes_in os)
+other_by : (o : Open) (os : List Open) (q p : ℕ) (m : Bool) → (o.process == q) ≡ m → (q == p) ≡ false
+    → times_in p (processes_in (without os q)) ≡ times_in p (processes_in os)
     → (n : ℕ) → n ≡ suc (place_of os q) → times_in p (processes_in (remove (o ∷ os) (if not m then n else 0))) ≡ times_in p (processes_in (o ∷ os))
 other_by o os q p true m ne rest n at =
     let same : o.process ≡ q = grind (arith, nat_tests) in
     let other : (o.process == p) ≡ false = ap (λ x. x == p) same ∙ ne in
     rw other (sym (zero-add (times_in p (processes_in os))))
 other_by o os q p false m ne rest n at =
-    subst (λ k. times_in p (processes_in (remove (o ∷ os) k)) ≡ times_in p (processes_in (o ∷ os))) (sym at) (ap (λ k. (if o.process == p then 1 else 0) + k) rest)
+    subst (λ k. times_in p (processes_in (remove (o ∷ os) k)) ≡ times_in p (processes_in (o ∷ os))) (sym at)
+    (ap (λ k. (if o.process == p then 1 else 0) + k) rest)
 
 -- one goes, and it is not this process's
 other_gone : (os : List Open) (q p : ℕ) → (q == p) ≡ false → times_in p (processes_in (without os q)) ≡ times_in p (processes_in os)
@@ -84,7 +88,8 @@ other_gone [] q p ne = refl
 other_gone (o ∷ os) q p ne = other_by o os q p (o.process == q) refl ne (other_gone os q p ne) (1 + place_of os q) (omega arith)
 
 own_by : (o : Open) (os : List Open) (p : ℕ) (m : Bool) → (o.process == p) ≡ m → times_in p (processes_in (without os p)) ≡ times_in p (processes_in os) - 1
-    → (n : ℕ) → n ≡ suc (place_of os p) → times_in p (processes_in (remove (o ∷ os) (if not m then n else 0))) ≡ (if m then 1 else 0) + times_in p (processes_in os) - 1
+    → (n : ℕ) → n ≡ suc (place_of os p)
+    → times_in p (processes_in (remove (o ∷ os) (if not m then n else 0))) ≡ (if m then 1 else 0) + times_in p (processes_in os) - 1
 own_by o os p true m rest n at = omega arith
 own_by o os p false m rest n at =
     subst (λ k. times_in p (processes_in (remove (o ∷ os) k)) ≡ 0 + times_in p (processes_in os) - 1) (sym at) (rw m (omega (arith, rest)))
@@ -141,7 +146,8 @@ begun_other p s q false t ne is =
       pending = procs_same p s t procs;
     }
 
-gone_other : (p : ℕ) (s : State) (q : ℕ) (t : State) → t.reads ≡ without s.reads q → (q == p) ≡ false → times_in p (processes_in t.reads) ≡ times_in p (processes_in s.reads)
+gone_other : (p : ℕ) (s : State) (q : ℕ) (t : State) → t.reads ≡ without s.reads q → (q == p) ≡ false
+    → times_in p (processes_in t.reads) ≡ times_in p (processes_in s.reads)
 gone_other p s q t e ne = ap (λ os. times_in p (processes_in os)) e ∙ other_gone s.reads q p ne
 
 collected_procs : (s : State) (q : ℕ) → (collected s q).after.procs ≡ s.procs
@@ -196,11 +202,13 @@ not_this s (actors.Client q) e p ne inside c = ne
 not_this s actors.Terminal e p ne inside c = absurd (none_inside (is_clients e) inside c)
 not_this s actors.Painter e p ne inside c = absurd (none_inside (is_clients e) inside c)
 
-others_by : (s : State) (a : Actor) (e : Event) (p : ℕ) (b : Bool) → is_client p a ≡ false → is_outside s a e ≡ b → Stays p s (if b then refused s code.BadHandle else finished (effect s (client_of a) e)).after
+others_by : (s : State) (a : Actor) (e : Event) (p : ℕ) (b : Bool) → is_client p a ≡ false → is_outside s a e ≡ b
+    → Stays p s (if b then refused s code.BadHandle else finished (effect s (client_of a) e)).after
 others_by s a e p true ne out = stays_of p s s (still p s)
 others_by s a e p false ne out =
     let o : Outcome = effect s (client_of a) e in
-    stays_of p s (finished o).after (then_still p s o.after (finished o).after (effect_others p s (client_of a) e (not_this s a e p ne out)) (finished_still p o))
+    stays_of p s (finished o).after
+    (then_still p s o.after (finished o).after (effect_others p s (client_of a) e (not_this s a e p ne out)) (finished_still p o))
 
 pub others_stay : OthersStay
 unfolding step
@@ -216,18 +224,26 @@ begun_open : (os : List Open) (p : ℕ) (read : OpenRead) → is_open (os ++ beg
 begun_open [] p read = rw (eq-eqb p p refl) refl
 begun_open (o ∷ os) p read = or_true (o.process == p) (is_open (os ++ begun p read ∷ []) p) (begun_open os p read)
 
-does_still : (p : ℕ) (s : State) (e : Event) (o : Outcome) → attached_by e ≡ true → reads_by (is_open s.reads p) e (is_fail o.reply) ≡ is_open s.reads p → is_attached s.procs p ≡ true → Still p s o.after → Does p s e o
+does_still : (p : ℕ) (s : State) (e : Event) (o : Outcome) → attached_by e ≡ true → reads_by (is_open s.reads p) e (is_fail o.reply) ≡ is_open s.reads p
+    → is_attached s.procs p ≡ true → Still p s o.after → Does p s e o
 does_still p s e o stays same a k = record { attached = k.attached ∙ a ∙ sym stays; reading = same_open p s o.after k.times ∙ sym same }
 
-begun_does : (p : ℕ) (s : State) (w : Wanted) (o : Outcome) (b : Bool) → is_attached s.procs p ≡ true → is_fail o.reply ≡ b → BeginsBy b s p o.after → Does p s (events.Begin w) o
+begun_does : (p : ℕ) (s : State) (w : Wanted) (o : Outcome) (b : Bool) → is_attached s.procs p ≡ true → is_fail o.reply ≡ b → BeginsBy b s p o.after
+    → Does p s (events.Begin w) o
 begun_does p s w o true a fails same = record { attached = ap (λ x. is_attached x.procs p) same ∙ a; reading = rw fails (ap (λ x. is_open x.reads p) same) }
-begun_does p s w o false a fails is = record { attached = ap (λ (x : Seats). is_attached x.1 p) is.is ∙ a; reading = rw fails (ap (λ (x : Seats). is_open x.2 p) is.is ∙ begun_open s.reads p is.read) }
+begun_does p s w o false a fails is =
+    record {
+      attached =
+          ap (λ (x : Seats). is_attached x.1 p) is.is ∙ a;
+      reading = rw fails (ap (λ (x : Seats). is_open x.2 p) is.is ∙ begun_open s.reads p is.read);
+    }
 
 none_left : (m n : ℕ) → m ≡ n - 1 → n ≤ 1 → nat_lt 0 m ≡ false
 none_left m n e one = let none : m ≡ 0 = omega arith in rw none refl
 
 gone_none : (p : ℕ) (s t : State) → t.reads ≡ without s.reads p → IsSingle s p → is_open t.reads p ≡ false
-gone_none p s t e one = open_times t.reads p ∙ none_left (times_in p (processes_in t.reads)) (times_in p (processes_in s.reads)) (ap (λ os. times_in p (processes_in os)) e ∙ own_gone s.reads p) one
+gone_none p s t e one = open_times t.reads p
+    ∙ none_left (times_in p (processes_in t.reads)) (times_in p (processes_in s.reads)) (ap (λ os. times_in p (processes_in os)) e ∙ own_gone s.reads p) one
 
 collected_does : (p : ℕ) (s : State) → is_attached s.procs p ≡ true → IsSingle s p → Does p s events.Collect (collected s p)
 collected_does p s a one =
@@ -290,7 +306,8 @@ begun_single p s q false t is one = single_begun p s q t (q == p) refl is one
 gone_single : (p : ℕ) (s : State) (q : ℕ) (t : State) (m : Bool) → (q == p) ≡ m → t.reads ≡ without s.reads q → IsSingle s p → IsSingle t p
 gone_single p s q t true m e one =
     let same : q ≡ p = grind (arith, nat_tests) in
-    let less : times_in p (processes_in t.reads) ≡ times_in p (processes_in s.reads) - 1 = ap (λ os. times_in p (processes_in os)) (e ∙ ap (λ k. without s.reads k) same) ∙ own_gone s.reads p in
+    let less : times_in p (processes_in t.reads) ≡ times_in p (processes_in s.reads) - 1 =
+    ap (λ os. times_in p (processes_in os)) (e ∙ ap (λ k. without s.reads k) same) ∙ own_gone s.reads p in
     omega (arith, less, one)
 gone_single p s q t false m e one = omega (arith, gone_other p s q t e m, one)
 
@@ -310,7 +327,8 @@ effect_single p s q events.TakeCtrl one = took_single p s q one
 effect_single p s q (events.Exit status) one = gone_single p s q (left s q status) (q == p) refl (left_reads s q status) one
 effect_single p s q e one = still_single p s (effect s q e).after (event_still p s q e refl) one
 
-single_by : (s : State) (a : Actor) (e : Event) (p : ℕ) (b : Bool) → IsSingle s p → IsSingle (if b then refused s code.BadHandle else finished (effect s (client_of a) e)).after p
+single_by : (s : State) (a : Actor) (e : Event) (p : ℕ) (b : Bool) → IsSingle s p
+    → IsSingle (if b then refused s code.BadHandle else finished (effect s (client_of a) e)).after p
 single_by s a e p true one = one
 single_by s a e p false one =
     let o : Outcome = effect s (client_of a) e in

@@ -4,7 +4,8 @@ use Rattle.std.specs.Prelude.{if◌then◌else◌, ◌==◌, nat_lt, length, tak
 use Rattle.std.proofs.lemmas.List.{length-map}
 use Rattle.con_procs.specs.AttachedLaws.{KeepsLive, attached_laws}
 use Rattle.con_procs.specs.Pending.{pended}
-use Rattle.con_procs.specs.Procs.{is_attached, signalled, told, reaches, changed, changed_at, first_pending, pending_in, rack_in, place_in, is_chained, placed, handler_removed}
+use Rattle.con_procs.specs.Procs.{is_attached, signalled, told, reaches, changed, changed_at, first_pending, pending_in, rack_in, place_in, is_chained}
+use Rattle.con_procs.specs.Procs.{placed, handler_removed}
 use Rattle.con_procs.specs.declared.proc.Proc.{Proc}
 use Rattle.con_procs.specs.declared.rack.Place.{Place}
 use Rattle.con_procs.specs.declared.rack.Place.TheVariants as place
@@ -41,12 +42,14 @@ as_many f ps k = by_none (k == 0)
 abbrev pub KeepsWaiting : (Proc → Proc) → Type 0
 KeepsWaiting f = (x : Proc) → is_some (slice_get x.pending 0) ≡ true → is_some (slice_get (f x).pending 0) ≡ true
 
-mapped_waits : (f : Proc → Proc) → KeepsWaiting f → (ps : List Proc) (i : ℕ) → is_some (slice_get (pending_in (slice_get ps i)) 0) ≡ true → is_some (slice_get (pending_in (slice_get (map f ps) i)) 0) ≡ true
+mapped_waits : (f : Proc → Proc) → KeepsWaiting f → (ps : List Proc) (i : ℕ) → is_some (slice_get (pending_in (slice_get ps i)) 0) ≡ true
+    → is_some (slice_get (pending_in (slice_get (map f ps) i)) 0) ≡ true
 mapped_waits f keeps [] i h = h
 mapped_waits f keeps (x ∷ ps) zero h = keeps x h
 mapped_waits f keeps (x ∷ ps) (suc i) h = mapped_waits f keeps ps i h
 
-changed_waits_at : (f : Proc → Proc) → KeepsWaiting f → (ps : List Proc) (k i : ℕ) → is_some (slice_get (pending_in (slice_get ps i)) 0) ≡ true → is_some (slice_get (pending_in (slice_get (changed_at f ps k) i)) 0) ≡ true
+changed_waits_at : (f : Proc → Proc) → KeepsWaiting f → (ps : List Proc) (k i : ℕ) → is_some (slice_get (pending_in (slice_get ps i)) 0) ≡ true
+    → is_some (slice_get (pending_in (slice_get (changed_at f ps k) i)) 0) ≡ true
 changed_waits_at f keeps [] k i h = h
 changed_waits_at f keeps (x ∷ ps) zero zero h = keeps x h
 changed_waits_at f keeps (x ∷ ps) zero (suc i) h = h
@@ -54,11 +57,13 @@ changed_waits_at f keeps (x ∷ ps) (suc k) zero h = h
 changed_waits_at f keeps (x ∷ ps) (suc k) (suc i) h = changed_waits_at f keeps ps k i h
 
 -- the process of a number, or of none, from the list of all
-in_place : (b : Bool) (o n : Option Proc) → (is_some (slice_get (pending_in o) 0) ≡ true → is_some (slice_get (pending_in n) 0) ≡ true) → is_some (slice_get (pending_in (if b then None else o)) 0) ≡ true → is_some (slice_get (pending_in (if b then None else n)) 0) ≡ true
+in_place : (b : Bool) (o n : Option Proc) → (is_some (slice_get (pending_in o) 0) ≡ true → is_some (slice_get (pending_in n) 0) ≡ true)
+    → is_some (slice_get (pending_in (if b then None else o)) 0) ≡ true → is_some (slice_get (pending_in (if b then None else n)) 0) ≡ true
 in_place true o n keeps h = h
 in_place false o n keeps h = keeps h
 
-pub changed_waits : (f : Proc → Proc) → KeepsWaiting f → (ps : List Proc) (k p : ℕ) → is_some (first_pending ps p) ≡ true → is_some (first_pending (changed f ps k) p) ≡ true
+pub changed_waits : (f : Proc → Proc) → KeepsWaiting f → (ps : List Proc) (k p : ℕ) → is_some (first_pending ps p) ≡ true
+    → is_some (first_pending (changed f ps k) p) ≡ true
 changed_waits f keeps ps k p = by_none (k == 0)
   where
     by_none : (b : Bool) → is_some (first_pending ps p) ≡ true → is_some (first_pending (if b then ps else changed_at f ps (k - 1)) p) ≡ true
@@ -85,7 +90,9 @@ told_waits event group x h = by_reach (reaches event group x)
     by_reach false = h
 
 signalled_waits : (ps : List Proc) (event group p : ℕ) → is_some (first_pending ps p) ≡ true → is_some (first_pending (signalled ps event group) p) ≡ true
-signalled_waits ps event group p = in_place (p == 0) (slice_get ps (p - 1)) (slice_get (signalled ps event group) (p - 1)) (mapped_waits (told event group) (told_waits event group) ps (p - 1))
+signalled_waits ps event group p =
+    in_place (p == 0) (slice_get ps (p - 1)) (slice_get (signalled ps event group) (p - 1))
+    (mapped_waits (told event group) (told_waits event group) ps (p - 1))
 
 -- ---- changes
 
@@ -114,22 +121,27 @@ placed_go ps k at to false = same_procs ps
 abbrev pub LeavesAdded : (Proc → Proc) → Type 0
 LeavesAdded f = (x : Proc) (i : ℕ) → is_added (slice_get (f x).rack i) ≡ is_added (slice_get x.rack i)
 
-added_mapped : (f : Proc → Proc) → LeavesAdded f → (ps : List Proc) (k i : ℕ) → is_added (slice_get (rack_in (slice_get (map f ps) k)) i) ≡ is_added (slice_get (rack_in (slice_get ps k)) i)
+added_mapped : (f : Proc → Proc) → LeavesAdded f → (ps : List Proc) (k i : ℕ)
+    → is_added (slice_get (rack_in (slice_get (map f ps) k)) i) ≡ is_added (slice_get (rack_in (slice_get ps k)) i)
 added_mapped f l [] k i = refl
 added_mapped f l (x ∷ ps) zero i = l x i
 added_mapped f l (x ∷ ps) (suc k) i = added_mapped f l ps k i
 
-added_changed : (f : Proc → Proc) → LeavesAdded f → (ps : List Proc) (j k i : ℕ) → is_added (slice_get (rack_in (slice_get (changed_at f ps j) k)) i) ≡ is_added (slice_get (rack_in (slice_get ps k)) i)
+added_changed : (f : Proc → Proc) → LeavesAdded f → (ps : List Proc) (j k i : ℕ)
+    → is_added (slice_get (rack_in (slice_get (changed_at f ps j) k)) i) ≡ is_added (slice_get (rack_in (slice_get ps k)) i)
 added_changed f l [] j k i = refl
 added_changed f l (x ∷ ps) zero zero i = l x i
 added_changed f l (x ∷ ps) zero (suc k) i = refl
 added_changed f l (x ∷ ps) (suc j) zero i = refl
 added_changed f l (x ∷ ps) (suc j) (suc k) i = added_changed f l ps j k i
 
-pub by_number : (ps qs : List Proc) → ((k i : ℕ) → is_added (slice_get (rack_in (slice_get qs k)) i) ≡ is_added (slice_get (rack_in (slice_get ps k)) i)) → (q i : ℕ) → is_added (place_in qs q i) ≡ is_added (place_in ps q i)
+pub by_number : (ps qs : List Proc) → ((k i : ℕ) → is_added (slice_get (rack_in (slice_get qs k)) i) ≡ is_added (slice_get (rack_in (slice_get ps k)) i))
+    → (q i : ℕ) → is_added (place_in qs q i) ≡ is_added (place_in ps q i)
 by_number ps qs same q i = at (q == 0)
   where
-    at : (b : Bool) → is_added (slice_get (rack_in (if b then None else slice_get qs (q - 1))) i) ≡ is_added (slice_get (rack_in (if b then None else slice_get ps (q - 1))) i)
+    at : (b : Bool)
+        → is_added (slice_get (rack_in (if b then None else slice_get qs (q - 1))) i)
+        ≡ is_added (slice_get (rack_in (if b then None else slice_get ps (q - 1))) i)
     at true = refl
     at false = same (q - 1) i
 
@@ -151,7 +163,8 @@ pub signalled_same : (ps : List Proc) (event group q i : ℕ) → is_added (plac
 signalled_same ps event group q i = by_number ps (signalled ps event group) (added_mapped (told event group) (told_same event group) ps) q i
 
 -- a place of the chain is removed
-set_removed : (xs : List Place) (at i : ℕ) → is_chained (slice_get xs at) ≡ true → is_added (slice_get (slice_set xs at place.Removed) i) ≡ is_added (slice_get xs i)
+set_removed : (xs : List Place) (at i : ℕ) → is_chained (slice_get xs at) ≡ true
+    → is_added (slice_get (slice_set xs at place.Removed) i) ≡ is_added (slice_get xs i)
 set_removed [] at i c = refl
 set_removed (place.Fresh ∷ xs) zero zero c = absurd (cc)
 set_removed (place.Chained ∷ xs) zero zero c = refl
@@ -161,7 +174,8 @@ set_removed (x ∷ xs) (suc at) zero c = refl
 set_removed (x ∷ xs) (suc at) (suc i) c = set_removed xs at i c
 
 removed_at : (ps : List Proc) (j at k i : ℕ) → is_chained (slice_get (rack_in (slice_get ps j)) at) ≡ true
-    → is_added (slice_get (rack_in (slice_get (changed_at (λ x. record x { rack = slice_set x.rack at place.Removed }) ps j) k)) i) ≡ is_added (slice_get (rack_in (slice_get ps k)) i)
+    → is_added (slice_get (rack_in (slice_get (changed_at (λ x. record x { rack = slice_set x.rack at place.Removed }) ps j) k)) i)
+    ≡ is_added (slice_get (rack_in (slice_get ps k)) i)
 removed_at [] j at k i c = refl
 removed_at (x ∷ ps) zero at zero i c = set_removed x.rack at i c
 removed_at (x ∷ ps) zero at (suc k) i c = refl
@@ -169,7 +183,8 @@ removed_at (x ∷ ps) (suc j) at zero i c = refl
 removed_at (x ∷ ps) (suc j) at (suc k) i c = removed_at ps j at k i c
 
 removed_by : (ps : List Proc) (p at q i : ℕ) (none : Bool) → is_chained (slice_get (rack_in (if none then None else slice_get ps (p - 1))) at) ≡ true
-    → is_added (place_in (if none then ps else changed_at (λ x. record x { rack = slice_set x.rack at place.Removed }) ps (p - 1)) q i) ≡ is_added (place_in ps q i)
+    → is_added (place_in (if none then ps else changed_at (λ x. record x { rack = slice_set x.rack at place.Removed }) ps (p - 1)) q i)
+    ≡ is_added (place_in ps q i)
 removed_by ps p at q i true c = refl
 removed_by ps p at q i false c = by_number ps _ (λ k i. removed_at ps (p - 1) at k i c) q i
 

@@ -28,4 +28,5 @@ stepped s = followed_by (with_pumped s (pumped_of s)) (pumped_of s).act
 
 -- what an echo tells is what differs between two lines, and is of the text of the first read
 abbrev pub IsTold : Option Act → List Open → Type 0
-IsTold act os = (p : ℕ) (old new : Cooked) (echo : Echo) → act ≡ Some (typed p old new echo) → (echo ≡ echo_between (line_of old).line (line_of new).line) × (head_text os ≡ line_text new)
+IsTold act os = (p : ℕ) (old new : Cooked) (echo : Echo) → act ≡ Some (typed p old new echo)
+    → (echo ≡ echo_between (line_of old).line (line_of new).line) × (head_text os ≡ line_text new)

@@ -1,5 +1,6 @@
 -- Events of a client beside its calls: reads begin and are collected, control events are taken, and it exits.
-use Rattle.std.specs.Prelude.{ℕ, zero, suc, ◌==◌, ◌&&◌, ◌||◌, Bool, true, false, not, nat_lt, List, [], ◌∷◌, ◌++◌, length, take, drop, min, filter, slice_get, pos, Option, None, Some, Result, Ok, Err, if◌then◌else◌}
+use Rattle.std.specs.Prelude.{ℕ, zero, suc, ◌==◌, ◌&&◌, ◌||◌, Bool, true, false, not, nat_lt, List, [], ◌∷◌, ◌++◌, length, take, drop, min, filter, slice_get}
+use Rattle.std.specs.Prelude.{pos, Option, None, Some, Result, Ok, Err, if◌then◌else◌}
 use Rattle.std.specs.List.{list_any}
 use Rattle.con_units.specs.Stored.{is_control}
 use Rattle.con_units.specs.declared.code.Code.{Code}
@@ -73,10 +74,12 @@ first_note s p h n initial = record {
 }
 
 abbrev pub line_begun : State → ℕ → ℕ → ℕ → List ℕ → ℕ → State
-line_begun s p h n initial mask = record (with_read s p (reads.Line (record { program = program_of s.procs p; insert = has_bit s.mode 0x20; initial = initial; mask = mask; presses = [] }))) {
-  noted = s.noted ++ first_note s p h n initial ∷ [];
-  rests = rest_begun s.rests p h;
-}
+line_begun s p h n initial mask =
+    record
+    (with_read s p (reads.Line (record { program = program_of s.procs p; insert = has_bit s.mode 0x20; initial = initial; mask = mask; presses = [] }))) {
+      noted = s.noted ++ first_note s p h n initial ∷ [];
+      rests = rest_begun s.rests p h;
+    }
 
 abbrev pub is_empty : List ℕ → Bool
 is_empty [] = true
@@ -152,7 +155,9 @@ answer_told s n (answers.Records records) = answered s (replies.Records records)
 answer_told s n (answers.Fail why) = answered s (replies.Fail why)
 
 unfoldable pub collected : State → ℕ → Outcome
-collected s p = answer_told (record s { reads = without s.reads p; noted = without_noted s.noted p }) (noted_of s.noted p) (answer_in (slice_get s.reads (place_of s.reads p)))
+collected s p =
+    answer_told (record s { reads = without s.reads p; noted = without_noted s.noted p }) (noted_of s.noted p)
+    (answer_in (slice_get s.reads (place_of s.reads p)))
 
 -- ---- the oldest control event is taken
 

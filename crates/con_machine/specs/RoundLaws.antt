@@ -39,16 +39,20 @@ broken_off b h (c ∷ cs) more (u ∷ us) are = (are.0, broken_off b (h ++ entry
 
 -- one more round in which somebody acts
 pub rounds_more : (b : Begun) (h : List Entry) (rounds : List (List (Option Event))) (one : List (Option Event))
-    → AreRounds b h rounds → AreTurns false b (h ++ all_entries (all_order b) rounds) (all_order b) one → is_nobody one ≡ false → AreRounds b h (rounds ++ one ∷ [])
+    → AreRounds b h rounds → AreTurns false b (h ++ all_entries (all_order b) rounds) (all_order b) one → is_nobody one ≡ false
+    → AreRounds b h (rounds ++ one ∷ [])
 rounds_more b h [] one are t n = let Q : List Entry → Type 0 = λ q. AreTurns false b q (all_order b) one in (subst Q (append_none h) t, n, tt)
 rounds_more b h (first ∷ rounds) one (u, v, more) t n =
     let Q : List Entry → Type 0 = λ q. AreTurns false b q (all_order b) one in (
       u,
       v,
-      rounds_more b (h ++ entries_of (all_order b) first) rounds one more (subst Q (sym (append_assoc h (entries_of (all_order b) first) (all_entries (all_order b) rounds))) t) n,
+      rounds_more b (h ++ entries_of (all_order b) first) rounds one more
+          (subst Q (sym (append_assoc h (entries_of (all_order b) first) (all_entries (all_order b) rounds))) t) n,
     )
 
 -- and what is entered in it stands last
-pub all_entries_more : (by : List Actor) (rounds : List (List (Option Event))) (one : List (Option Event)) → all_entries by (rounds ++ one ∷ []) ≡ all_entries by rounds ++ entries_of by one
+pub all_entries_more : (by : List Actor) (rounds : List (List (Option Event))) (one : List (Option Event))
+    → all_entries by (rounds ++ one ∷ []) ≡ all_entries by rounds ++ entries_of by one
 all_entries_more by [] one = append_none (entries_of by one)
-all_entries_more by (first ∷ rounds) one = ap (λ es. entries_of by first ++ es) (all_entries_more by rounds one) ∙ sym (append_assoc (entries_of by first) (all_entries by rounds) (entries_of by one))
+all_entries_more by (first ∷ rounds) one = ap (λ es. entries_of by first ++ es) (all_entries_more by rounds one)
+    ∙ sym (append_assoc (entries_of by first) (all_entries by rounds) (entries_of by one))

@@ -1,5 +1,6 @@
 -- Turns by rounds: the terminal's side, each client by its number, the painter, and again, until nobody acts.
-use Rattle.std.specs.Prelude.{◌≡◌, ◌⊎◌, ℕ, zero, suc, ◌+◌, ◌<◌, ◌&&◌, nat_le, Bool, true, false, not, List, [], ◌∷◌, ◌++◌, length, Option, Some, None, if◌then◌else◌}
+use Rattle.std.specs.Prelude.{◌≡◌, ◌⊎◌, ℕ, zero, suc, ◌+◌, ◌<◌, ◌&&◌, nat_le, Bool, true, false, not, List, [], ◌∷◌, ◌++◌, length, Option, Some, None}
+use Rattle.std.specs.Prelude.{if◌then◌else◌}
 use Rattle.con_events.specs.Session.{Clients}
 use Rattle.con_events.specs.declared.actor.Actor.{Actor}
 use Rattle.con_events.specs.declared.actor.Actor.TheVariants as actors
@@ -142,4 +143,5 @@ pub record Rounds (s : State) (h : List Entry) (session : Clients) (racks : List
   pub last : List (Option Event)
   pub parts : h ≡ all_entries (order (length session.scripts)) rounds ++ entries_of (order (length session.scripts)) last
   pub turns_are : AreRounds (record { state = s; session = session; racks = racks; failed = failed }) [] rounds
-  pub last_is : IsLast (is_memory end) (record { state = s; session = session; racks = racks; failed = failed }) (all_entries (order (length session.scripts)) rounds) last
+  pub last_is : IsLast (is_memory end) (record { state = s; session = session; racks = racks; failed = failed })
+      (all_entries (order (length session.scripts)) rounds) last

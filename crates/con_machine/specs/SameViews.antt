@@ -18,7 +18,8 @@ shade_is shade.Plain (shade.Index n) e = cc
 shade_is (shade.Index m) shade.Plain e = cc
 shade_is (shade.Index m) (shade.Index n) e = ap (λ (k : ℕ). shade.Index k) (eqb-true m n e)
 
-attribute_from : (w v : ℕ) (f g p q : Shade) → w ≡ v → f ≡ g → p ≡ q → ◌≡◌ {A = Attribute} (record { word = w; fore = f; back = p }) (record { word = v; fore = g; back = q })
+attribute_from : (w v : ℕ) (f g p q : Shade) → w ≡ v → f ≡ g → p ≡ q
+    → ◌≡◌ {A = Attribute} (record { word = w; fore = f; back = p }) (record { word = v; fore = g; back = q })
 attribute_from w v f g p q d e h = rw (d, e, h) refl
 
 attribute_is : (a b : Attribute) → same_attribute a b ≡ true → a ≡ b
@@ -59,19 +60,26 @@ bool_is false true e = cc
 bool_is false false e = refl
 
 view_from : (w v h k : ℕ) (cs bs : List Glyph) (x p y q : ℤ) (s t : Bool) → w ≡ v → h ≡ k → cs ≡ bs → x ≡ p → y ≡ q → s ≡ t
-    → ◌≡◌ {A = View} (record { size = record { w = w; h = h }; rows = cs; cursor = record { x = x; y = y }; visible = s }) (record { size = record { w = v; h = k }; rows = bs; cursor = record { x = p; y = q }; visible = t })
+    → ◌≡◌ {A = View} (record { size = record { w = w; h = h }; rows = cs; cursor = record { x = x; y = y }; visible = s })
+    (record { size = record { w = v; h = k }; rows = bs; cursor = record { x = p; y = q }; visible = t })
 view_from w v h k cs bs x p y q s t a b c d e f = rw (a, b, c, d, e, f) refl
 
 pub view_is : (a b : View) → same_view a b ≡ true → a ≡ b
 unfolding same_view
 view_is a b e =
-    let p = and_parts ((a.size.w == b.size.w) && (a.size.h == b.size.h) && same_cells a.rows b.rows && same_number a.cursor.x b.cursor.x && same_number a.cursor.y b.cursor.y) (same_bool a.visible b.visible) e in
-    let q = and_parts ((a.size.w == b.size.w) && (a.size.h == b.size.h) && same_cells a.rows b.rows && same_number a.cursor.x b.cursor.x) (same_number a.cursor.y b.cursor.y) p.0 in
+    let p =
+    and_parts
+    ((a.size.w == b.size.w) && (a.size.h == b.size.h) && same_cells a.rows b.rows && same_number a.cursor.x b.cursor.x
+    && same_number a.cursor.y b.cursor.y) (same_bool a.visible b.visible) e in
+    let q =
+    and_parts ((a.size.w == b.size.w) && (a.size.h == b.size.h) && same_cells a.rows b.rows && same_number a.cursor.x b.cursor.x)
+    (same_number a.cursor.y b.cursor.y) p.0 in
     let r = and_parts ((a.size.w == b.size.w) && (a.size.h == b.size.h) && same_cells a.rows b.rows) (same_number a.cursor.x b.cursor.x) q.0 in
     let s = and_parts ((a.size.w == b.size.w) && (a.size.h == b.size.h)) (same_cells a.rows b.rows) r.0 in
     let t = and_parts (a.size.w == b.size.w) (a.size.h == b.size.h) s.0 in
     view_from a.size.w b.size.w a.size.h b.size.h a.rows b.rows a.cursor.x b.cursor.x a.cursor.y b.cursor.y a.visible b.visible
-    (eqb-true a.size.w b.size.w t.0) (eqb-true a.size.h b.size.h t.1) (cells_is a.rows b.rows s.1) (number_is a.cursor.x b.cursor.x r.1) (number_is a.cursor.y b.cursor.y q.1) (bool_is a.visible b.visible p.1)
+    (eqb-true a.size.w b.size.w t.0) (eqb-true a.size.h b.size.h t.1) (cells_is a.rows b.rows s.1) (number_is a.cursor.x b.cursor.x r.1)
+    (number_is a.cursor.y b.cursor.y q.1) (bool_is a.visible b.visible p.1)
 
 -- ---- and what is equal is the same
 
@@ -96,7 +104,14 @@ bool_self false = refl
 view_self : (a : View) → same_view a a ≡ true
 unfolding same_view
 view_self a =
-    rw (eq-eqb a.size.w a.size.w refl, eq-eqb a.size.h a.size.h refl, cells_self a.rows, number_self a.cursor.x, number_self a.cursor.y, bool_self a.visible) refl
+    rw (
+      eq-eqb a.size.w a.size.w refl,
+      eq-eqb a.size.h a.size.h refl,
+      cells_self a.rows,
+      number_self a.cursor.x,
+      number_self a.cursor.y,
+      bool_self a.visible,
+    ) refl
 
 -- ---- a test that decides whether two views are equal
 

@@ -1,5 +1,6 @@
 -- Calls on a screen buffer as a whole, on modes, and on the title.
-use Rattle.std.specs.Prelude.{ℕ, ℤ, pos, ◌+◌, ◌==◌, ◌&&◌, ◌||◌, Bool, true, not, nat_lt, nat_le, int_le, int_lt, List, [], ◌∷◌, ◌++◌, length, map, unwrap_or, bit_and, if◌then◌else◌}
+use Rattle.std.specs.Prelude.{ℕ, ℤ, pos, ◌+◌, ◌==◌, ◌&&◌, ◌||◌, Bool, true, not, nat_lt, nat_le, int_le, int_lt, List, [], ◌∷◌, ◌++◌, length, map, unwrap_or}
+use Rattle.std.specs.Prelude.{bit_and, if◌then◌else◌}
 use Rattle.con_units.specs.Natural.{natural}
 use Rattle.con_units.specs.declared.code.Code.TheVariants as code
 use Rattle.con_events.specs.declared.reply.Reply.TheVariants as replies
@@ -132,7 +133,8 @@ abbrev pub told_by : State → Told → State
 told_by s t = record s { records = s.records ++ map reported t.reports; title = unwrap_or t.title s.title; cursor_keys = unwrap_or t.keys s.cursor_keys }
 
 abbrev pub written_to : State → ℕ → List ℕ → State
-written_to s id units = told_by (record s { buffers = with_buffer s.buffers id (buffer_written nothing_told units) }) (told_on (buffer_at s.buffers id) nothing_told units)
+written_to s id units =
+    told_by (record s { buffers = with_buffer s.buffers id (buffer_written nothing_told units) }) (told_on (buffer_at s.buffers id) nothing_told units)
 
 abbrev pub wrote : State → ℕ → ℕ → List ℕ → Outcome
 wrote s p h units = on_buffer s p h 2 (λ id.

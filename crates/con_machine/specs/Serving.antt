@@ -60,7 +60,8 @@ with_echo s n e = record (with_screen s n.buffer.0 e.screen) { noted = note_chan
 abbrev pub line_shown : State → Option Noted → Cooked → Cooked → State
 line_shown s None old new = s
 line_shown s (Some n) old new =
-    if shows_line s.buffers n then with_echo s n (echoed (screen_at s.buffers n.buffer.0) n.origin (line_text old) (line_text new) (line_of new).line.caret) else s
+    if shows_line s.buffers n then with_echo s n (echoed (screen_at s.buffers n.buffer.0) n.origin (line_text old) (line_text new) (line_of new).line.caret)
+    else s
 
 -- ---- a line is done
 

@@ -37,17 +37,25 @@ record Last (s : State) (h : List Entry) : Type 0 where
 -- an entry before a history without them
 before : (s : State) (a : Actor) (e : Event) (xs : List Entry) → (run (step s a e).after xs).resized ≡ false → Same (step s a e).after xs
     → let h : List Entry = (record { actor = a; event = e }) ∷ xs in Same s h ⊎ Last s h
-before s a (events.Call c) xs r k = let m = step_moves s a (events.Call c) in inl (record { none = k.none; paints = k.paints ∙ m.paints; sizes = k.sizes ∙ m.sizes })
-before s a (events.Begin w) xs r k = let m = step_moves s a (events.Begin w) in inl (record { none = k.none; paints = k.paints ∙ m.paints; sizes = k.sizes ∙ m.sizes })
-before s a events.Collect xs r k = let m = step_moves s a events.Collect in inl (record { none = k.none; paints = k.paints ∙ m.paints; sizes = k.sizes ∙ m.sizes })
-before s a events.TakeCtrl xs r k = let m = step_moves s a events.TakeCtrl in inl (record { none = k.none; paints = k.paints ∙ m.paints; sizes = k.sizes ∙ m.sizes })
-before s a (events.Exit status) xs r k = let m = step_moves s a (events.Exit status) in inl (record { none = k.none; paints = k.paints ∙ m.paints; sizes = k.sizes ∙ m.sizes })
-before s a (events.Feed bytes) xs r k = let m = step_moves s a (events.Feed bytes) in inl (record { none = k.none; paints = k.paints ∙ m.paints; sizes = k.sizes ∙ m.sizes })
+before s a (events.Call c) xs r k =
+    let m = step_moves s a (events.Call c) in inl (record { none = k.none; paints = k.paints ∙ m.paints; sizes = k.sizes ∙ m.sizes })
+before s a (events.Begin w) xs r k =
+    let m = step_moves s a (events.Begin w) in inl (record { none = k.none; paints = k.paints ∙ m.paints; sizes = k.sizes ∙ m.sizes })
+before s a events.Collect xs r k =
+    let m = step_moves s a events.Collect in inl (record { none = k.none; paints = k.paints ∙ m.paints; sizes = k.sizes ∙ m.sizes })
+before s a events.TakeCtrl xs r k =
+    let m = step_moves s a events.TakeCtrl in inl (record { none = k.none; paints = k.paints ∙ m.paints; sizes = k.sizes ∙ m.sizes })
+before s a (events.Exit status) xs r k =
+    let m = step_moves s a (events.Exit status) in inl (record { none = k.none; paints = k.paints ∙ m.paints; sizes = k.sizes ∙ m.sizes })
+before s a (events.Feed bytes) xs r k =
+    let m = step_moves s a (events.Feed bytes) in inl (record { none = k.none; paints = k.paints ∙ m.paints; sizes = k.sizes ∙ m.sizes })
 before s a events.Quiet xs r k = let m = step_moves s a events.Quiet in inl (record { none = k.none; paints = k.paints ∙ m.paints; sizes = k.sizes ∙ m.sizes })
 before s a (events.Resize size) xs r k = let m = step_moves s a (events.Resize size) in absurd (let e : true ≡ false = sym m.sizes ∙ (sym k.sizes ∙ r) in cc)
 before s a events.Ask xs r k = let m = step_moves s a events.Ask in inl (record { none = k.none; paints = k.paints ∙ m.paints; sizes = k.sizes ∙ m.sizes })
-before s a events.Hangup xs r k = let m = step_moves s a events.Hangup in inl (record { none = k.none; paints = k.paints ∙ m.paints; sizes = k.sizes ∙ m.sizes })
-before s a events.Drained xs r k = let m = step_moves s a events.Drained in inl (record { none = k.none; paints = k.paints ∙ m.paints; sizes = k.sizes ∙ m.sizes })
+before s a events.Hangup xs r k =
+    let m = step_moves s a events.Hangup in inl (record { none = k.none; paints = k.paints ∙ m.paints; sizes = k.sizes ∙ m.sizes })
+before s a events.Drained xs r k =
+    let m = step_moves s a events.Drained in inl (record { none = k.none; paints = k.paints ∙ m.paints; sizes = k.sizes ∙ m.sizes })
 before s a events.Paint xs r k =
     let m = step_moves s a events.Paint in
     let x : Entry = record { actor = a; event = events.Paint } in
@@ -57,7 +65,17 @@ last_one : (s : State) (h : List Entry) → (run s h).resized ≡ false → Same
 last_one s [] r = inl (record { none = refl; paints = refl; sizes = refl })
 last_one s (x ∷ xs) r = elim (last_one (moved s x) xs r) [
   | inl k ↦ before s x.actor x.event xs r k
-  | inr l ↦ inr (record { front = x ∷ l.front; last = l.last; back = l.back; parts = ap (λ (g : List Entry). x ∷ g) l.parts; paint = l.paint; none = l.none; paints = l.paints })
+  | inr l ↦ inr
+      (record {
+        front =
+            x ∷ l.front;
+        last = l.last;
+        back = l.back;
+        parts = ap (λ (g : List Entry). x ∷ g) l.parts;
+        paint = l.paint;
+        none = l.none;
+        paints = l.paints;
+      })
 ]
 
 -- where no Paint is due, there was no Resize, and the view was painted
@@ -88,8 +106,18 @@ shows_all s h n e =
     let u = not_due t.resized t.asked (view_now t) t.painted e in
     elim (last_one s h u.0) [
       | inl k ↦ absurd (none_of t.painted (view_now t) (k.paints ∙ n) u.1)
-      | inr l ↦ record { front = l.front; last = l.last; back = l.back; parts = l.parts; paint = l.paint; none = l.none; view = one_of t.painted (view_now (run s l.front)) (view_now t) l.paints u.1 }
+      | inr l ↦ record {
+        front = l.front;
+        last = l.last;
+        back =
+            l.back;
+        parts = l.parts;
+        paint = l.paint;
+        none = l.none;
+        view = one_of t.painted (view_now (run s l.front)) (view_now t) l.paints u.1;
+      }
     ]
 
-pub painted_shows : (session : Clients) (racks : List (List ℕ)) (h : List Entry) → is_ready (run (begun session racks) h) actors.Painter events.Paint ≡ false → ShowsAll (begun session racks) h
+pub painted_shows : (session : Clients) (racks : List (List ℕ)) (h : List Entry) → is_ready (run (begun session racks) h) actors.Painter events.Paint ≡ false
+    → ShowsAll (begun session racks) h
 painted_shows session racks h e = shows_all (begun session racks) h refl e

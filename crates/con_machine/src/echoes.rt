@@ -76,8 +76,10 @@ pub(crate) fn shows_line(screens: &Screens, note: &Noted) -> bool
 fn echo_on(screen: &mut Screen, origin: Origin, echo: Echo, text: &[u16]) -> Origin
     requires page { IsPage screen.old.page }
     requires inside { (echo.offset ≤ echo.end) × (echo.end ≡ length text.now) }
-    ensures screen { (old new : Cooked) → echo ≡ echo_between (line_of old).line (line_of new).line → text.now ≡ line_text new → screen.new ≡ (echoed screen.old origin (line_text old) (line_text new) (line_of new).line.caret).screen }
-    ensures origin { (old new : Cooked) → echo ≡ echo_between (line_of old).line (line_of new).line → text.now ≡ line_text new → result ≡ (echoed screen.old origin (line_text old) (line_text new) (line_of new).line.caret).origin }
+    ensures screen { (old new : Cooked) → echo ≡ echo_between (line_of old).line (line_of new).line → text.now ≡ line_text new
+        → screen.new ≡ (echoed screen.old origin (line_text old) (line_text new) (line_of new).line.caret).screen }
+    ensures origin { (old new : Cooked) → echo ≡ echo_between (line_of old).line (line_of new).line → text.now ≡ line_text new
+        → result ≡ (echoed screen.old origin (line_text old) (line_text new) (line_of new).line.caret).origin }
     ensures page { IsPage screen.new.page }
     ensures sides { sides screen.new.page ≡ sides screen.old.page }
 {
@@ -97,8 +99,11 @@ pub(crate) fn show(
     requires buffers { AreBuffers screens.old }
     requires live { IsLive screens.old id.0 }
     requires inside { (echo.offset ≤ echo.end) × (echo.end ≡ length text.now) }
-    ensures screen { (old new : Cooked) → echo ≡ echo_between (line_of old).line (line_of new).line → text.now ≡ line_text new → screens.new ≡ screen_left screens.old id.0 (echoed (screen_at screens.old id.0) origin (line_text old) (line_text new) (line_of new).line.caret).screen }
-    ensures origin { (old new : Cooked) → echo ≡ echo_between (line_of old).line (line_of new).line → text.now ≡ line_text new → result ≡ (echoed (screen_at screens.old id.0) origin (line_text old) (line_text new) (line_of new).line.caret).origin }
+    ensures screen { (old new : Cooked) → echo ≡ echo_between (line_of old).line (line_of new).line → text.now ≡ line_text new
+        → screens.new
+        ≡ screen_left screens.old id.0 (echoed (screen_at screens.old id.0) origin (line_text old) (line_text new) (line_of new).line.caret).screen }
+    ensures origin { (old new : Cooked) → echo ≡ echo_between (line_of old).line (line_of new).line → text.now ≡ line_text new
+        → result ≡ (echoed (screen_at screens.old id.0) origin (line_text old) (line_text new) (line_of new).line.caret).origin }
     ensures kept { AreBuffers screens.new }
     ensures counted { (hs : List Handle) → AreCounted screens.old hs → AreCounted screens.new hs }
     ensures remembered { all_remembered screens.new ≡ all_remembered screens.old }

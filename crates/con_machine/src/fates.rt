@@ -48,7 +48,8 @@ pub fn a_peek_changes_no_fate()
 pub fn a_read_answers_the_records_of_its_fate()
     ensures { (s : State) (h later : List Entry) (p : ℕ) (b : Begin) → last_begin s h p ≡ Some b → wants_records b.wanted ≡ true
         → is_attached (run s h).procs p ≡ true → has_done (run s h).reads p ≡ true
-        → (let x : Entry = record { actor = actors.Client p; event = events.Collect } in AnswersRecords (step (run s h) x.actor x.event).reply (fated s (h ++ x ∷ later) (Begun b.place))) }
+        → (let x : Entry = record { actor = actors.Client p; event = events.Collect } in
+        AnswersRecords (step (run s h) x.actor x.event).reply (fated s (h ++ x ∷ later) (Begun b.place))) }
 {
     serving_loses_nothing();
     units_answer_their_piece();
@@ -58,9 +59,11 @@ pub fn a_read_answers_the_records_of_its_fate()
 /// the client's last `Begin`, was the first line read that was not done; and that the console closed exactly where it closed while
 /// the read was not done.
 pub fn a_read_fails_by_its_cause()
-    ensures aborted { (s : State) (h : List Entry) (p : ℕ) (b : Begin) → last_begin s h p ≡ Some b → is_attached (run s h).procs p ≡ true → has_done (run s h).reads p ≡ true
+    ensures aborted { (s : State) (h : List Entry) (p : ℕ) (b : Begin) → last_begin s h p ≡ Some b → is_attached (run s h).procs p ≡ true
+        → has_done (run s h).reads p ≡ true
         → is_aborted (step (run s h) (actors.Client p) events.Collect).reply ≡ was_interrupted (Begun b.place) (pieces s h) }
-    ensures closed { (s : State) (h : List Entry) (p : ℕ) (b : Begin) → last_begin s h p ≡ Some b → is_attached (run s h).procs p ≡ true → has_done (run s h).reads p ≡ true
+    ensures closed { (s : State) (h : List Entry) (p : ℕ) (b : Begin) → last_begin s h p ≡ Some b → is_attached (run s h).procs p ≡ true
+        → has_done (run s h).reads p ≡ true
         → is_closed (step (run s h) (actors.Client p) events.Collect).reply ≡ was_cut_off (Begun b.place) (pieces s h) }
 {
     units_answer_their_piece();
@@ -71,10 +74,12 @@ pub fn a_read_fails_by_its_cause()
 /// lines of its program's history at that moment. Of a read of units: the first units of them. Or the read took no record, since it
 /// asked for none, or was answered by what was left of a line, and then the units are those that its `Begin` found.
 pub fn a_text_is_of_the_records_of_its_fate()
-    ensures { (s : State) (h later : List Entry) (p : ℕ) (b : Begin) (units : List ℕ) → s.noted ≡ [] → last_begin s h p ≡ Some b → is_attached (run s h).procs p ≡ true → has_done (run s h).reads p ≡ true
+    ensures { (s : State) (h later : List Entry) (p : ℕ) (b : Begin) (units : List ℕ) → s.noted ≡ [] → last_begin s h p ≡ Some b
+        → is_attached (run s h).procs p ≡ true → has_done (run s h).reads p ≡ true
         → (let x : Entry = record { actor = actors.Client p; event = events.Collect } in let all = h ++ x ∷ later in
         (step (run s h) x.actor x.event).reply ≡ replies.Units units
-        → AnswersText (opens (console_before s all b.place) p b.wanted) (asked_for b.wanted) (done_for (Begun b.place) (pieces s all)) (fated s all (Begun b.place)) units) }
+        → AnswersText (opens (console_before s all b.place) p b.wanted) (asked_for b.wanted) (done_for (Begun b.place) (pieces s all))
+        (fated s all (Begun b.place)) units) }
 {
     serving_loses_nothing();
     units_answer_their_piece();

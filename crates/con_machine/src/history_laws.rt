@@ -35,7 +35,8 @@ pub fn histories_are_joined()
 
 /// One more entry is a turn of its actor, and of nobody else.
 pub fn an_entry_is_its_actors()
-    ensures own { (s : State) (p : ℕ) (h : List Entry) (x : Entry) → is_client p x.actor ≡ true → turns s p (h ++ x ∷ []) ≡ turns s p h ++ turn_of (run s h) p x ∷ [] }
+    ensures own { (s : State) (p : ℕ) (h : List Entry) (x : Entry) → is_client p x.actor ≡ true
+        → turns s p (h ++ x ∷ []) ≡ turns s p h ++ turn_of (run s h) p x ∷ [] }
     ensures other { (s : State) (p : ℕ) (h : List Entry) (x : Entry) → is_client p x.actor ≡ false → turns s p (h ++ x ∷ []) ≡ turns s p h }
     ensures sent_own { (h : List Entry) (x : Entry) → is_terminal x.actor ≡ true → sent (h ++ x ∷ []) ≡ sent h ++ x.event ∷ [] }
     ensures sent_other { (h : List Entry) (x : Entry) → is_terminal x.actor ≡ false → sent (h ++ x ∷ []) ≡ sent h }
@@ -44,11 +45,16 @@ pub fn an_entry_is_its_actors()
 
 /// Rounds go on by one more turn, and by one more round.
 pub fn rounds_go_on()
-    ensures turn { (b : Begun) (h : List Entry) (by : List Actor) (ts : List (Option Event)) (a : Actor) (t : Option Event) → AreTurns false b h by ts → IsTurn b (h ++ entries_of by ts) a t → AreTurns false b h (by ++ a ∷ []) (ts ++ t ∷ []) }
-    ensures entries { (b : Begun) (h : List Entry) (by : List Actor) (ts : List (Option Event)) (a : Actor) (t : Option Event) → AreTurns false b h by ts → entries_of (by ++ a ∷ []) (ts ++ t ∷ []) ≡ entries_of by ts ++ entry_of a t }
-    ensures broken { (b : Begun) (h : List Entry) (by more : List Actor) (ts : List (Option Event)) → AreTurns false b h by ts → AreTurns true b h (by ++ more) ts }
-    ensures round { (b : Begun) (h : List Entry) (rounds : List (List (Option Event))) (one : List (Option Event)) → AreRounds b h rounds → AreTurns false b (h ++ all_entries (all_order b) rounds) (all_order b) one → is_nobody one ≡ false → AreRounds b h (rounds ++ one ∷ []) }
-    ensures all_entries { (by : List Actor) (rounds : List (List (Option Event))) (one : List (Option Event)) → all_entries by (rounds ++ one ∷ []) ≡ all_entries by rounds ++ entries_of by one }
+    ensures turn { (b : Begun) (h : List Entry) (by : List Actor) (ts : List (Option Event)) (a : Actor) (t : Option Event) → AreTurns false b h by ts
+        → IsTurn b (h ++ entries_of by ts) a t → AreTurns false b h (by ++ a ∷ []) (ts ++ t ∷ []) }
+    ensures entries { (b : Begun) (h : List Entry) (by : List Actor) (ts : List (Option Event)) (a : Actor) (t : Option Event) → AreTurns false b h by ts
+        → entries_of (by ++ a ∷ []) (ts ++ t ∷ []) ≡ entries_of by ts ++ entry_of a t }
+    ensures broken { (b : Begun) (h : List Entry) (by more : List Actor) (ts : List (Option Event)) → AreTurns false b h by ts
+        → AreTurns true b h (by ++ more) ts }
+    ensures round { (b : Begun) (h : List Entry) (rounds : List (List (Option Event))) (one : List (Option Event)) → AreRounds b h rounds
+        → AreTurns false b (h ++ all_entries (all_order b) rounds) (all_order b) one → is_nobody one ≡ false → AreRounds b h (rounds ++ one ∷ []) }
+    ensures all_entries { (by : List Actor) (rounds : List (List (Option Event))) (one : List (Option Event))
+        → all_entries by (rounds ++ one ∷ []) ≡ all_entries by rounds ++ entries_of by one }
 {}
 
 /// An Ask and a Resize stand until the next Paint, which shows what there is; no other event changes what is asked for, whether

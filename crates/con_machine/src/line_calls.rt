@@ -4,7 +4,8 @@ ghost use Rattle.con_procs.specs.Procs.{is_attached};
 ghost use Rattle.con_history.specs.Histories.{lines_of, room_for_configure};
 ghost use Rattle.con_alias.specs.Aliases.{entries_in};
 ghost use Rattle.con_alias.specs.Room.{room_for, has_room};
-ghost use Rattle.con_machine.specs.LineCalls.{told_history_info, set_history, listed_history, cleared_history, added_alias, removed_alias, told_alias, listed_aliases, info_numbers, pair_of};
+ghost use Rattle.con_machine.specs.LineCalls.{told_history_info, set_history, listed_history, cleared_history, added_alias, removed_alias, told_alias};
+ghost use Rattle.con_machine.specs.LineCalls.{listed_aliases, info_numbers, pair_of};
 
 use crate::console::Console;
 use crate::copies::{numbers, text};

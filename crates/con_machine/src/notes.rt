@@ -133,7 +133,9 @@ impl Notes {
     pub fn start(&mut self, process: u8, buffer: BufferId, birth: u64, width: u16, x: u16, y: u16)
         requires inside { x < width }
         requires low { y < 2 ^ 15 }
-        ensures { self.new ≡ record self.old { list = note_changed (λ n. record n { buffer = buffer; birth = birth; origin = cell_before width x y n.ahead }) self.old.list process } }
+        ensures { self.new ≡ record self.old {
+          list = note_changed (λ n. record n { buffer = buffer; birth = birth; origin = cell_before width x y n.ahead }) self.old.list process;
+        } }
     {
         start(
             self.list.as_mut_slice(),

@@ -37,7 +37,8 @@ impl Console {
     /// where the active buffer, its shown screen or its window's place is another one than at the last Paint.
     pub(crate) fn paint_room(&self) -> Result<PaintRoom, OutOfMemory>
         ensures room { IfOk result (λ r. IsPaintRoom self.now.state r) }
-        ensures moved { IfOk result (λ r. ¬ (self.now.seen ≡ Some (seen_at self.now.state.buffers)) → r.marks ≡ replicate (view_now self.now.state).size.h true) }
+        ensures moved { IfOk result (λ r. ¬ (self.now.seen ≡ Some (seen_at self.now.state.buffers))
+            → r.marks ≡ replicate (view_now self.now.state).size.h true) }
     {
         let alloc = self.title.allocator();
         let fresh = is_fresh(self.resized, &self.painted);

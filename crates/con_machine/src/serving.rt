@@ -30,7 +30,8 @@ impl Console {
     // Its line took a record.
     fn show_line(&mut self, p: u8, echo: Echo)
         requires inside { (echo.offset ≤ echo.end) × (echo.end ≡ length (head_text self.old.state.reads)) }
-        ensures state { (old new : Cooked) → echo ≡ echo_between (line_of old).line (line_of new).line → head_text self.old.state.reads ≡ line_text new → self.new.state ≡ line_shown self.old.state (noted_of self.old.state.noted p) old new }
+        ensures state { (old new : Cooked) → echo ≡ echo_between (line_of old).line (line_of new).line → head_text self.old.state.reads ≡ line_text new
+            → self.new.state ≡ line_shown self.old.state (noted_of self.old.state.noted p) old new }
         ensures spare { self.new.spare ≡ self.old.spare }
     {
         let Some(note) = self.notes.of(p) else {
@@ -80,8 +81,10 @@ impl Console {
         ensures told { IsTold (pumped_of self.old.state).act (pumped_of self.old.state).reads }
         ensures inside { IsIn result (head_text (pumped_of self.old.state).reads) }
         ensures idle { is_idle result ≡ not (is_some (pumped_of self.old.state).act) }
-        ensures settles { settled self.old.state.aliases self.old.state.reads self.old.state.records self.old.state.histories ≡ settled_after self.old.state.aliases (pumped_of self.old.state) }
-        ensures less { is_some (pumped_of self.old.state).act ≡ true → work (pumped_of self.old.state).reads (pumped_of self.old.state).records < work self.old.state.reads self.old.state.records }
+        ensures settles { settled self.old.state.aliases self.old.state.reads self.old.state.records self.old.state.histories
+            ≡ settled_after self.old.state.aliases (pumped_of self.old.state) }
+        ensures less { is_some (pumped_of self.old.state).act ≡ true
+            → work (pumped_of self.old.state).reads (pumped_of self.old.state).records < work self.old.state.reads self.old.state.records }
     {
         self.readers
             .pump(&mut self.records, &mut self.histories, &self.aliases)

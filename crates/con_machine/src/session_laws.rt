@@ -20,7 +20,8 @@ pub fn a_session_opens()
 
 /// Where no Paint is ready, there was one, nothing was resized behind it, and it showed what there is now.
 pub fn the_last_paint_shows_all()
-    ensures { (session : Clients) (racks : List (List ℕ)) (h : List Entry) → is_ready (run (begun session racks) h) actors.Painter events.Paint ≡ false → ShowsAll (begun session racks) h }
+    ensures { (session : Clients) (racks : List (List ℕ)) (h : List Entry) → is_ready (run (begun session racks) h) actors.Painter events.Paint ≡ false
+        → ShowsAll (begun session racks) h }
 {}
 
 /// And the other way: where the last Paint showed what there is now, nothing was resized behind it, and nothing is asked for, no Paint
@@ -31,5 +32,7 @@ pub fn nothing_is_due()
 
 /// Once the terminal's side has ended, it is never so that all who are left wait for reads.
 pub fn nobody_waits_at_the_end()
-    ensures { (session : Clients) (racks : List (List ℕ)) (h : List Entry) → has_ended false (sent h) ≡ true → ((p : ℕ) → 0 < p → p ≤ length session.scripts → WaitsOrGone (run (begun session racks) h) p) → (p : ℕ) → 0 < p → p ≤ length session.scripts → is_attached (run (begun session racks) h).procs p ≡ false }
+    ensures { (session : Clients) (racks : List (List ℕ)) (h : List Entry) → has_ended false (sent h) ≡ true
+        → ((p : ℕ) → 0 < p → p ≤ length session.scripts → WaitsOrGone (run (begun session racks) h) p) → (p : ℕ) → 0 < p → p ≤ length session.scripts
+        → is_attached (run (begun session racks) h).procs p ≡ false }
 {}
