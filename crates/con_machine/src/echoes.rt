@@ -21,7 +21,7 @@ use con_screens::Screens;
 use con_units::{BufferId, index_of};
 
 /// Where a screen's cursor stands, and how wide its buffer is.
-#[derive(Clone, Copy, PartialEq, Eq, Debug)]
+#[derive(Clone, Copy)]
 pub struct Spot {
     pub width: u16,
     pub x: u16,

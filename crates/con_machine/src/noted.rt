@@ -8,7 +8,7 @@ use con_units::BufferId;
 /// What is noted of a process's open line read: its handle and how many units it asked for at most; whether it echoes,
 /// and how many units of its line stood on the screen when it began; from its start on, the buffer on which its line
 /// shows, by id and birth, and the cell of its first unit; and whether a masked control ended it.
-#[derive(Clone, Copy, PartialEq, Eq, Debug)]
+#[derive(Clone, Copy)]
 pub struct Noted {
     pub process: u8,
     pub handle: u32,

@@ -6,7 +6,7 @@ use con_handles::Object;
 use con_units::BufferId;
 
 /// The buffer, whether its alternate screen, and the window's left column and top row.
-#[derive(Clone, Copy, PartialEq, Eq, Debug)]
+#[derive(Clone, Copy, PartialEq, Eq)]
 pub struct Seen {
     pub buffer: BufferId,
     pub alternate: bool,
