@@ -58,6 +58,12 @@ impl Model for Console {
 }
 
 impl Console {
+    /// Lets the console go, with all of its memory. Who is done with a console calls it: what drops one itself has in its own
+    /// proof all that is dropped with it.
+    pub fn discard(self) {
+        drop(self);
+    }
+
     /// What a handle stands for, and whether the call may be.
     pub(crate) fn guard(&self, p: u8, h: u32, kind: Kind, right: u8) -> Result<Object, Code>
         ensures is { result ≡ guard self.now.state p h kind right }
