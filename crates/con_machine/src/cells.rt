@@ -105,6 +105,7 @@ fn plain_fill(unit: u16, word: u16) -> Cell
     ensures plain { plain_cell result ≡ result }
 {
     let attr = Attr::of(word);
+    // For `plain`: a look at the word tells what every attribute is.
     let _ = attr.bits();
     Cell::new(unit, attr)
 }

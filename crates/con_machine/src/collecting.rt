@@ -15,8 +15,8 @@ use con_units::{OutOfMemory, Units};
 impl Console {
     /// The memory of a Collect: what of a line's text is left for its handle, in memory that was taken when the read began.
     pub(crate) fn collect_room(&mut self, p: u8) -> Result<Option<Units>, OutOfMemory>
-        ensures room { IfOk result
-            (λ back. HasBack back (noted_of self.old.state.noted p) (answer_in (slice_get self.old.state.reads (place_of self.old.state.reads p)))) }
+        ensures room { IfOk result (λ back.
+            HasBack back (noted_of self.old.state.noted p) (answer_in (slice_get self.old.state.reads (place_of self.old.state.reads p)))) }
         ensures same { self.new ≡ self.old }
     {
         let Some(note) = self.notes.of(p) else {

@@ -57,6 +57,7 @@ impl Console {
             Ok(number) => match self.screens.create(room) {
                 Err(_) => Reply::Fail(Code::Limit),
                 Ok(id) => {
+                    // It gets `number`, which is free.
                     let _ = self.handles.open(p, Object::Output(id), rights as u8);
                     Reply::Number(number)
                 }

@@ -61,6 +61,7 @@ fn open_one(handles: &mut Handles, p: u8, object: Object) -> Result<(), OutOfMem
     ensures table { IsTable handles.new.open_ones }
 {
     handles.reserve()?;
+    // Where the process has all its handles there is none more, as in `opened_ones`.
     let _ = handles.open(p, object, 3);
     Ok(())
 }

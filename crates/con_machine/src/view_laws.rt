@@ -25,6 +25,7 @@ impl Console {
         ensures high { (view_now self.now.state).size.h ≡ self.now.state.buffers.h }
         ensures window { IsWindow self.now.state.buffers.w self.now.state.buffers.h }
     {
+        // A part that is read tells what holds of every console, from which all clauses follow.
         let _ = &self.screens;
     }
 }
