@@ -28,11 +28,11 @@ use Rattle.con_readers.specs.declared.open.OpenRead.TheVariants as reads
 use Rattle.con_records.specs.declared.record.Record.{Record}
 use Rattle.con_machine.specs.State.{State, rest_in, noted_of, without_noted}
 use Rattle.con_machine.specs.History.{run}
-use Rattle.con_machine.specs.Reads.{answer_told, front_of, is_empty}
+use Rattle.con_machine.specs.Reads.{answer_told, front_of, is_empty, line_opened}
 use Rattle.con_machine.specs.Outcome.{has_bit}
 use Rattle.con_machine.specs.Step.{step}
 use Rattle.con_machine.specs.Fates.{Begun, Begin, How, Served, Emptied, Interrupted, CutOff, Piece, pieces, last_begin}
-use Rattle.con_machine.specs.Answers.{opens, console_before, line_opened, by_how, read_after, is_interruption, is_cut, was_interrupted, was_cut_off, is_aborted, is_closed}
+use Rattle.con_machine.specs.Answers.{opens, console_before, by_how, read_after, is_interruption, is_cut, was_interrupted, was_cut_off, is_aborted, is_closed}
 use Rattle.con_machine.specs.declared.noted.Noted.{Noted}
 use Rattle.con_machine.proofs.FateLists.{log}
 use Rattle.con_machine.proofs.Served.{UnitsPiece}

@@ -19,10 +19,10 @@ use Rattle.con_readers.specs.declared.open.OpenRead.TheVariants as reads
 use Rattle.con_machine.specs.State.{State, noted_of, rest_in}
 use Rattle.con_machine.specs.Outcome.{Outcome, by_answer, guard, guarded, has_bit}
 use Rattle.con_machine.specs.Client.{is_fail}
-use Rattle.con_machine.specs.Reads.{began, began_line, began_units, answered_with, rest_answered, line_begun, with_read, front_of, first_note, is_empty, history_used, read_answer, records_answer, is_no_initial}
+use Rattle.con_machine.specs.Reads.{began, began_line, began_units, answered_with, rest_answered, line_begun, with_read, front_of, first_note, is_empty, history_used, read_answer, records_answer, is_no_initial, line_opened, line_read, units_read}
 use Rattle.con_machine.specs.Step.{effect, step, is_outside, client_of, finished}
 use Rattle.con_machine.specs.Fates.{Begin, Begins, begin_at, begin_or, begun_by, effect_pieces, end_pieces, step_pieces}
-use Rattle.con_machine.specs.Answers.{opens, opens_text, opens_line, opens_units, line_opened}
+use Rattle.con_machine.specs.Answers.{opens, opens_text}
 use Rattle.con_machine.proofs.Served.{UnitsPiece, IsProper}
 use Rattle.con_machine.proofs.Woken.{NoteTold, told_of, behind_own, behind_other}
 use Rattle.con_machine.specs.declared.noted.Noted.{Noted}
@@ -108,7 +108,7 @@ unfolding IsProper
 units_by s p n true none = plain_begun s p (reads.Done (answers.Units [])) (answered_with s p []) none refl tt refl
 units_by s p n false none = plain_begun s p (reads.Units n) (with_read s p (reads.Units n)) none refl tt refl
 
-units_is : (s : State) (p n : ℕ) → is_open s.reads p ≡ false → IsBegun s p (opens_units n) None (began_units s p n)
+units_is : (s : State) (p n : ℕ) → is_open s.reads p ≡ false → IsBegun s p (units_read n) None (began_units s p n)
 units_is s p n none = units_by s p n (n == 0) none
 
 read_is : (s : State) (p h n : ℕ) (initial : List ℕ) (mask : ℕ) → is_open s.reads p ≡ false
@@ -123,7 +123,7 @@ read_is s p h n initial mask none =
     let later : OpenRead = if is_empty rest then line else some in
     let later_note : Option NoteTold = if is_empty rest then line_note h n else None in
     let line_then : Option NoteTold = if n == 0 then None else later_note in
-    pick s p (has_bit s.mode 2) (opens_line s p h n initial mask) (opens_units n) line_then None (began_line t p h n initial mask) (began_units s p n)
+    pick s p (has_bit s.mode 2) (line_read s p n (rest_in s.rests p h) initial mask) (units_read n) line_then None (began_line t p h n initial mask) (began_units s p n)
     (pick s p (n == 0) nothing later None later_note (answered_with t p []) (if is_empty rest then line_begun t p h n initial mask else rest_answered t p h n rest) (plain_begun s p nothing (answered_with t p []) none refl tt refl)
     (pick s p (is_empty rest) line some (line_note h n) None (line_begun t p h n initial mask) (rest_answered t p h n rest) (line_is s p h n initial mask none) (plain_begun s p some (rest_answered t p h n rest) none refl tt refl)))
     (units_is s p n none)

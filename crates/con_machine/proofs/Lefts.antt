@@ -17,7 +17,7 @@ use Rattle.con_machine.specs.Outcome.{Outcome, done, by_answer, with_object, has
 use Rattle.con_machine.specs.HandleCalls.{opened, owned as object_owned}
 use Rattle.con_machine.specs.Call.{called}
 use Rattle.con_machine.specs.Closing.{hung_up}
-use Rattle.con_machine.specs.Reads.{collected, took_ctrl, left, answer_told}
+use Rattle.con_machine.specs.Reads.{collected, took_ctrl, left, answer_told, line_opened, units_read}
 use Rattle.con_machine.specs.Painting.{painted}
 use Rattle.con_machine.specs.Terminal.{fed, quiet, resized}
 use Rattle.con_machine.specs.Step.{effect, finished}
@@ -35,7 +35,7 @@ use Rattle.con_machine.specs.HandleCalls.{handle_closed}
 use Rattle.con_machine.specs.History.{run}
 use Rattle.con_machine.specs.Reads.{began as read_began, line_cut, part_told, part_left, line_front, front_of, back_of, answered_with, with_read, rest_answered, line_begun, began_units, history_used, read_answer, records_answer, is_empty}
 use Rattle.con_machine.specs.Step.{step, is_outside, client_of}
-use Rattle.con_machine.specs.Answers.{opens, opens_units, line_opened}
+use Rattle.con_machine.specs.Answers.{opens}
 use Rattle.con_machine.specs.Left.{Leaves, LeftBy, handle_of}
 use Rattle.con_screens.specs.Resize.{all_resized}
 use Rattle.con_machine.specs.EventLaws.{Core, call_walk, fed_walk, quiet_walk, hung_walk, size_core, finished_walk}
@@ -249,7 +249,7 @@ line_by s c p hd h n w initial mask false true handle opened = inl (inl (begun_s
 line_by s c p hd h n w initial mask false false handle opened = rest_step s c p hd h n w (history_used s c) replies.Done refl handle opened (set_is (back_of n (rest_in s.rests c h)) s.rests c h p hd)
 
 text_by : (s : State) (c p hd h n : ℕ) (w : Wanted) (initial : List ℕ) (mask : ℕ) (a m b : Bool) → handle_of w ≡ h
-    → opens s c w ≡ (if a then (if m then reads.Done (answers.Units []) else if b then line_opened s c initial mask else reads.Done (answers.Units (front_of n (rest_in s.rests c h)))) else opens_units n)
+    → opens s c w ≡ (if a then (if m then reads.Done (answers.Units []) else if b then line_opened s c initial mask else reads.Done (answers.Units (front_of n (rest_in s.rests c h)))) else units_read n)
     → Stepped s c p hd (events.Begin w) (done (if a then (if m then answered_with (history_used s c) c [] else if b then line_begun (history_used s c) c h n initial mask else rest_answered (history_used s c) c h n (rest_in s.rests c h)) else began_units s c n))
 text_by s c p hd h n w initial mask true m b handle opened = line_by s c p hd h n w initial mask m b handle opened
 text_by s c p hd h n w initial mask false m b handle opened = inl (units_by s c p hd n (n == 0))

@@ -22,14 +22,14 @@ use Rattle.con_screens.specs.Resize.{all_resized}
 use Rattle.con_machine.specs.State.{State, noted_of, without_noted, is_rest_of, is_rest_by, rest_in, with_rest, without_rest, without_rests}
 use Rattle.con_machine.specs.Outcome.{Outcome, refused, done, by_answer, with_object, has_bit}
 use Rattle.con_machine.specs.HandleCalls.{owned as object_owned, handle_closed}
-use Rattle.con_machine.specs.Answers.{opens, opens_line, opens_units, line_opened}
+use Rattle.con_machine.specs.Answers.{opens}
 use Rattle.con_machine.specs.Call.{called}
 use Rattle.con_machine.specs.Closing.{hung_up}
 use Rattle.con_machine.specs.EventLaws.{Core, call_walk, fed_walk, quiet_walk, hung_walk, size_core, finished_walk}
 use Rattle.con_machine.specs.History.{run}
 use Rattle.con_machine.specs.Left.{LineLeaves, handle_of}
 use Rattle.con_machine.specs.Painting.{painted}
-use Rattle.con_machine.specs.Reads.{began as read_began, began_line, began_units, collected, took_ctrl, left, answer_told, line_cut, part_told, part_left, line_front, front_of, back_of, answered_with, with_read, rest_answered, line_begun, history_used, read_answer, records_answer, is_empty}
+use Rattle.con_machine.specs.Reads.{began as read_began, began_line, began_units, collected, took_ctrl, left, answer_told, line_cut, part_told, part_left, line_front, front_of, back_of, answered_with, with_read, rest_answered, line_begun, history_used, read_answer, records_answer, is_empty, line_opened, line_read, units_read}
 use Rattle.con_machine.specs.Rested.{takes, takes_in, at_once, ends, ends_in, closes, is_line_of, IsLeft}
 use Rattle.con_machine.specs.Step.{step, effect, finished, is_outside, client_of}
 use Rattle.con_machine.specs.Terminal.{fed, quiet, resized}
@@ -230,7 +230,7 @@ units_by s c p hd n w true opened = begin_same s c p hd w (answered_with s c [])
 units_by s c p hd n w false opened = begin_same s c p hd w (with_read s c (reads.Units n)) refl (ap at_once opened)
 
 text_by : (s : State) (c p hd h n : ℕ) (w : Wanted) (initial : List ℕ) (mask : ℕ) (a : Bool) → handle_of w ≡ h
-    → opens s c w ≡ (if a then opens_line s c h n initial mask else opens_units n)
+    → opens s c w ≡ (if a then line_read s c n (rest_in s.rests c h) initial mask else units_read n)
     → Going s c p hd (events.Begin w) (done (if a then began_line (history_used s c) c h n initial mask else began_units s c n))
 text_by s c p hd h n w initial mask true handle opened = line_by s c p hd h n w initial mask (n == 0) (is_empty (rest_in s.rests c h)) handle refl opened
 text_by s c p hd h n w initial mask false handle opened = units_by s c p hd n w (n == 0) opened

@@ -1,5 +1,5 @@
 -- What a read is after all that was done for it, from the console in which it began.
-use Rattle.std.specs.Prelude.{ℕ, ◌==◌, Bool, true, false, List, [], fold, take, if◌then◌else◌}
+use Rattle.std.specs.Prelude.{ℕ, Bool, true, false, List, [], fold, take, if◌then◌else◌}
 use Rattle.std.specs.List.{list_any}
 use Rattle.con_units.specs.declared.code.Code.TheVariants as code
 use Rattle.con_events.specs.declared.entry.Entry.{Entry}
@@ -7,7 +7,6 @@ use Rattle.con_events.specs.declared.event.Wanted.{Wanted}
 use Rattle.con_events.specs.declared.event.Wanted.TheVariants as wanted
 use Rattle.con_events.specs.declared.reply.Reply.{Reply}
 use Rattle.con_events.specs.declared.reply.Reply.TheVariants as replies
-use Rattle.con_procs.specs.Procs.{program_of}
 use Rattle.con_readers.specs.Serving.{served}
 use Rattle.con_readers.specs.declared.answer.Answer.TheVariants as answers
 use Rattle.con_readers.specs.declared.open.OpenRead.{OpenRead}
@@ -16,27 +15,13 @@ use Rattle.con_records.specs.declared.record.Record.{Record}
 use Rattle.con_machine.specs.State.{State, rest_in}
 use Rattle.con_machine.specs.History.{run}
 use Rattle.con_machine.specs.Outcome.{has_bit}
-use Rattle.con_machine.specs.Reads.{front_of, is_empty}
+use Rattle.con_machine.specs.Reads.{line_read, units_read}
 use Rattle.con_machine.specs.Fates.{How, Served, Emptied, Interrupted, CutOff, Taker, Piece, done_for}
 
 -- ---- what a Begin that is not refused opens in a console
 
-abbrev pub line_opened : State → ℕ → List ℕ → ℕ → OpenRead
-line_opened s p initial mask =
-    reads.Line (record { program = program_of s.procs p; insert = has_bit s.mode 0x20; initial = initial; mask = mask; presses = [] })
-
--- in line mode: nothing was asked for; or a line; or what is left of one answers at once
-abbrev pub opens_line : State → ℕ → ℕ → ℕ → List ℕ → ℕ → OpenRead
-opens_line s p h n initial mask =
-    if n == 0 then reads.Done (answers.Units [])
-    else if is_empty (rest_in s.rests p h) then line_opened s p initial mask
-    else reads.Done (answers.Units (front_of n (rest_in s.rests p h)))
-
-abbrev pub opens_units : ℕ → OpenRead
-opens_units n = if n == 0 then reads.Done (answers.Units []) else reads.Units n
-
 abbrev pub opens_text : State → ℕ → ℕ → ℕ → List ℕ → ℕ → OpenRead
-opens_text s p h n initial mask = if has_bit s.mode 2 then opens_line s p h n initial mask else opens_units n
+opens_text s p h n initial mask = if has_bit s.mode 2 then line_read s p n (rest_in s.rests p h) initial mask else units_read n
 
 unfoldable pub opens : State → ℕ → Wanted → OpenRead
 opens s p (wanted.Read h n) = opens_text s p h n [] 0

@@ -73,13 +73,16 @@ first_note s p h n initial = record {
   woken = false;
 }
 
+-- the line that a read opens
+abbrev pub line_opened : State → ℕ → List ℕ → ℕ → OpenRead
+line_opened s p initial mask =
+    reads.Line (record { program = program_of s.procs p; insert = has_bit s.mode 0x20; initial = initial; mask = mask; presses = [] })
+
 abbrev pub line_begun : State → ℕ → ℕ → ℕ → List ℕ → ℕ → State
-line_begun s p h n initial mask =
-    record
-    (with_read s p (reads.Line (record { program = program_of s.procs p; insert = has_bit s.mode 0x20; initial = initial; mask = mask; presses = [] }))) {
-      noted = s.noted ++ first_note s p h n initial ∷ [];
-      rests = rest_begun s.rests p h;
-    }
+line_begun s p h n initial mask = record (with_read s p (line_opened s p initial mask)) {
+  noted = s.noted ++ first_note s p h n initial ∷ [];
+  rests = rest_begun s.rests p h;
+}
 
 abbrev pub is_empty : List ℕ → Bool
 is_empty [] = true
@@ -91,6 +94,17 @@ began_line s p h n initial mask =
     if n == 0 then answered_with s p []
     else if is_empty (rest_in s.rests p h) then line_begun s p h n initial mask
     else rest_answered s p h n (rest_in s.rests p h)
+
+-- the read that a line read opens, by what is left for its handle: nothing was asked for; or a line; or what is left answers at once
+abbrev pub line_read : State → ℕ → ℕ → List ℕ → List ℕ → ℕ → OpenRead
+line_read s p n rest initial mask =
+    if n == 0 then reads.Done (answers.Units [])
+    else if is_empty rest then line_opened s p initial mask
+    else reads.Done (answers.Units (front_of n rest))
+
+-- the read that a read of units opens, without line mode
+abbrev pub units_read : ℕ → OpenRead
+units_read n = if n == 0 then reads.Done (answers.Units []) else reads.Units n
 
 -- a read of units, without line mode
 abbrev pub began_units : State → ℕ → ℕ → State

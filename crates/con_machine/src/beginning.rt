@@ -6,8 +6,8 @@ ghost use Rattle.con_procs.specs.Procs.{is_attached, program_of};
 ghost use Rattle.con_readers.specs.Reads.{is_open};
 ghost use Rattle.con_machine.specs.State.{rest_in};
 ghost use Rattle.con_machine.specs.Reads.{is_no_initial, is_empty, back_of, read_answer, records_answer, began_read, began_read_input, began_line};
-ghost use Rattle.con_machine.specs.Reads.{history_used, first_note, with_read};
-ghost use Rattle.con_machine.specs.Began.{line_read, units_read, IsLineRoom, IsBeginning};
+ghost use Rattle.con_machine.specs.Reads.{history_used, first_note, with_read, line_read, units_read};
+ghost use Rattle.con_machine.specs.Began.{IsLineRoom, IsBeginning};
 ghost use Rattle.con_readers.specs.declared.open.OpenRead.TheVariants as reads;
 
 use crate::console::Console;
