@@ -1,5 +1,6 @@
 -- The memory that each call is given.
 use Rattle.std.specs.Prelude.{ℕ, ◌≡◌, ◌≤◌, ◌<◌, ◌*◌, Bool, true, false, List, length, IsTrue}
+use Rattle.con_units.specs.Limits.{most_items, most_records}
 use Rattle.con_alias.specs.Room.{room_for, has_room}
 use Rattle.con_events.specs.declared.call.Call.{Call}
 use Rattle.con_events.specs.declared.call.Call.TheVariants as calls
@@ -65,7 +66,7 @@ IsFitRoom c p handle w h (rooms.Alias r) = ⊥
 -- what a text tells, and ten records for each of its units
 abbrev pub IsTextRoom : Held → List ℕ → CallRoom → Type 0
 IsTextRoom c units (rooms.Text a) =
-    (a.told ≡ nothing_told) × (length units ≤ 16384 → length units ≤ a.room) × (length units ≤ 16384 → 10 * length units ≤ c.spare.records)
+    (a.told ≡ nothing_told) × (length units ≤ most_items → length units ≤ a.room) × (length units ≤ most_items → 10 * length units ≤ c.spare.records)
 IsTextRoom c units (rooms.Told reply) = ⊥
 IsTextRoom c units rooms.Nothing = ⊥
 IsTextRoom c units (rooms.Buffer b) = ⊥
@@ -117,7 +118,7 @@ IsCallRoom c p (calls.FillUnits h x y n unit) room = Unit {0}
 IsCallRoom c p (calls.FillAttrs h x y n word) room = Unit {0}
 IsCallRoom c p (calls.Scroll h rect clip x y unit word) room = Unit {0}
 IsCallRoom c p (calls.Peek h n) room = IsAnswer (peeked c.state p h n) room
-IsCallRoom c p (calls.WriteInput h records) room = length records ≤ 1024 → length records ≤ c.spare.records
+IsCallRoom c p (calls.WriteInput h records) room = length records ≤ most_records → length records ≤ c.spare.records
 IsCallRoom c p (calls.Count h) room = IsAnswer (counted c.state p h) room
 IsCallRoom c p (calls.Flush h) room = Unit {0}
 IsCallRoom c p calls.HistoryInfo room = IsAnswer (told_history_info c.state) room

@@ -1,5 +1,6 @@
 -- Calls on the cells of the shown screen of a buffer: rectangles and runs.
 use Rattle.std.specs.Prelude.{ℕ, ℤ, ◌==◌, ◌&&◌, Bool, true, nat_lt, List, [], ◌∷◌, length, map, replicate, Option, Result, Ok, Err, if◌then◌else◌}
+use Rattle.con_units.specs.Limits.{most_items}
 use Rattle.con_units.specs.Attr.{plain}
 use Rattle.con_units.specs.Glyph.{Glyph, cell_of}
 use Rattle.con_units.specs.declared.code.Code.{Code}
@@ -36,7 +37,7 @@ with_cells s id picture = record s { buffers = cells_left s.buffers id picture }
 
 -- more cells than one call may read or write
 abbrev pub is_over : ℕ → Bool
-is_over count = nat_lt 16384 count
+is_over count = nat_lt most_items count
 
 -- how many cells of a rectangle the buffer has
 abbrev pub used_in : Picture → Rect → ℕ

@@ -3,6 +3,7 @@
 use Rattle.std.specs.Prelude.{◌≡◌, ◌⊎◌, ℕ, suc, ◌+◌, ◌-◌, ◌==◌, ◌&&◌, Bool, true, false, nat_lt, List, [], ◌∷◌, ◌++◌, length, map, filter, Option, None, Some}
 use Rattle.std.specs.Prelude.{Result, Ok, Err, if◌then◌else◌}
 use Rattle.std.specs.List.{find}
+use Rattle.con_units.specs.Limits.{most_items, most_records}
 use Rattle.con_units.specs.Split.{split_after}
 use Rattle.con_units.specs.declared.code.Code.{Code}
 use Rattle.con_units.specs.declared.code.Code.TheVariants as code
@@ -51,7 +52,7 @@ use Rattle.con_machine.specs.Client.{is_fail}
 -- WriteConsoleInput of no more than 1,024 records
 abbrev pub records_written : Result Object Code → List Record → List Record
 records_written (Err why) records = []
-records_written (Ok o) records = if nat_lt 1024 (length records) then [] else records
+records_written (Ok o) records = if nat_lt most_records (length records) then [] else records
 
 -- what a screen tells of itself where a text asks for it, as keys
 abbrev pub reports_in : State → ℕ → List ℕ → List Record
@@ -60,7 +61,7 @@ reports_in s id units = map reported (told_on (buffer_at s.buffers id) nothing_t
 -- WriteConsole of no more than 16,384 units
 abbrev pub reports_written : State → Result Object Code → List ℕ → List Record
 reports_written s (Err why) units = []
-reports_written s (Ok o) units = if nat_lt 16384 (length units) then [] else reports_in s (buffer_of o) units
+reports_written s (Ok o) units = if nat_lt most_items (length units) then [] else reports_in s (buffer_of o) units
 
 abbrev pub call_arrivals : State → ℕ → Call → List Record
 call_arrivals s p (calls.WriteInput h records) = records_written (guard s p h kind.Input 2) records

@@ -1,5 +1,6 @@
 -- Calls on the input queue.
 use Rattle.std.specs.Prelude.{ℕ, ◌==◌, nat_lt, List, [], ◌++◌, length, take, min, if◌then◌else◌}
+use Rattle.con_units.specs.Limits.{most_records}
 use Rattle.con_units.specs.declared.code.Code.TheVariants as code
 use Rattle.con_records.specs.declared.record.Record.{Record}
 use Rattle.con_machine.specs.State.{State}
@@ -9,7 +10,7 @@ use Rattle.con_events.specs.declared.reply.Reply.TheVariants as replies
 
 -- the first n records
 abbrev pub peek_told : List Record → ℕ → Reply
-peek_told rs n = if n == 0 then replies.Fail code.BadArgument else if nat_lt 1024 n then replies.Fail code.Limit else replies.Records (take n rs)
+peek_told rs n = if n == 0 then replies.Fail code.BadArgument else if nat_lt most_records n then replies.Fail code.Limit else replies.Records (take n rs)
 
 -- PeekConsoleInput
 abbrev pub peeked : State → ℕ → ℕ → ℕ → Outcome
@@ -18,7 +19,7 @@ peeked s p h n = on_input s p h 1 (answered s (peek_told s.records n))
 -- WriteConsoleInput
 abbrev pub wrote_input : State → ℕ → ℕ → List Record → Outcome
 wrote_input s p h records = on_input s p h 2 (
-    if nat_lt 1024 (length records) then refused s code.Limit
+    if nat_lt most_records (length records) then refused s code.Limit
     else answered (record s { records = s.records ++ records }) (replies.Number (length records)))
 
 -- GetNumberOfConsoleInputEvents

@@ -1,5 +1,6 @@
 //! A read begins.
 ghost use Rattle.std.specs.Prelude.{◌≡◌, ◌≤◌, ◌<◌, true, false, [], Some, length, IfOk, OnOk};
+ghost use Rattle.con_units.specs.Limits.{line_units};
 ghost use Rattle.con_alias.specs.Aliases.{has_control};
 ghost use Rattle.con_history.specs.Histories.{room_for_use};
 ghost use Rattle.con_procs.specs.Procs.{is_attached, program_of};
@@ -23,6 +24,7 @@ use con_events::Reply;
 use con_handles::Kind;
 use con_readers::{Answer, OpenRead, WantsRecords, WantsUnits};
 use con_screen::Origin;
+use con_units::limits::{LINE_UNITS, MOST_ITEMS, MOST_RECORDS};
 use con_units::{BufferId, Code, OutOfMemory, Units};
 
 /// The input mode bits of lines and of echo.
@@ -31,13 +33,13 @@ const LINE_INPUT: u32 = 0x0002;
 const ECHO_INPUT: u32 = 0x0004;
 
 /// The most units that the text of a line has, with its expansion and CR LF.
-const LINE_UNITS: usize = 5122;
+const TEXT_UNITS: usize = 5122;
 
 // Whether a read can't begin with a text: it has a control, or more than 1,024 units, or more than are asked for.
 fn is_no_initial(initial: &[u16], n: u32) -> bool
     ensures { result ≡ is_no_initial initial.now n }
 {
-    has_control(initial) || 1024 < initial.len() || (n as usize) < initial.len()
+    has_control(initial) || LINE_UNITS < initial.len() || (n as usize) < initial.len()
 }
 
 fn is_empty(units: &[u16]) -> bool
@@ -56,7 +58,7 @@ impl Console {
             Ok(_) => {
                 if self.readers.open(p) || is_no_initial(initial, n) {
                     Err(Code::BadArgument)
-                } else if 16384 < n {
+                } else if MOST_ITEMS < n as usize {
                     Err(Code::Limit)
                 } else {
                     Ok(())
@@ -74,7 +76,7 @@ impl Console {
             Ok(_) => {
                 if self.readers.open(p) || n == 0 {
                     Err(Code::BadArgument)
-                } else if 1024 < n {
+                } else if MOST_RECORDS < n as usize {
                     Err(Code::Limit)
                 } else {
                     Ok(())
@@ -85,7 +87,7 @@ impl Console {
 
     // What is noted of a line read when it begins.
     fn first_note(&self, p: u8, h: u32, n: u32, initial: &[u16]) -> Noted
-        requires { length initial.now ≤ 1024 }
+        requires { length initial.now ≤ line_units }
         ensures { result ≡ first_note self.now.state p h n initial.now }
     {
         Noted {
@@ -105,7 +107,7 @@ impl Console {
     fn begin_line(&mut self, p: u8, h: u32, n: u32, initial: &[u16], mask: u32, room: LineRoom)
         requires attached { is_attached self.old.state.procs p ≡ true }
         requires none { is_open self.old.state.reads p ≡ false }
-        requires few { length initial.now ≤ 1024 }
+        requires few { length initial.now ≤ line_units }
         requires reads { 0 < self.old.spare.reads }
         requires noted { 0 < self.old.spare.noted }
         requires rests { 0 < self.old.spare.rests }
@@ -197,7 +199,7 @@ impl Console {
         mask: u32,
     ) -> Result<OpenRead, OutOfMemory>
         requires attached { is_attached self.now.state.procs p ≡ true }
-        requires few { length initial.now ≤ 1024 }
+        requires few { length initial.now ≤ line_units }
         requires plain { has_control initial.now ≡ false }
         ensures { IfOk result (λ r. r ≡ line_read self.now.state p n (rest_in self.now.state.rests p h) initial.now mask) }
     {
@@ -232,7 +234,7 @@ impl Console {
         if n == 0 || !is_empty(self.rests.of(p, h)) {
             return Ok(Units(Vec::new(alloc)));
         }
-        match Vec::with_capacity(alloc, LINE_UNITS) {
+        match Vec::with_capacity(alloc, TEXT_UNITS) {
             Ok(room) => Ok(Units(room)),
             Err(_) => Err(OutOfMemory),
         }
@@ -248,7 +250,7 @@ impl Console {
         mask: u32,
     ) -> Result<LineRoom, OutOfMemory>
         requires attached { is_attached self.old.state.procs p ≡ true }
-        requires few { length initial.now ≤ 1024 }
+        requires few { length initial.now ≤ line_units }
         requires plain { has_control initial.now ≡ false }
         ensures room { IfOk result (λ r. IsLineRoom r self.old.state p h n initial.now mask) }
         ensures same { self.new ≡ self.old }

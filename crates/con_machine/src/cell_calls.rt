@@ -13,6 +13,7 @@ use crate::console::Console;
 use crate::rect_room::RectRoom;
 use con_events::{Numbers, Reply, Words};
 use con_grid::Grid;
+use con_units::limits::MOST_ITEMS;
 use con_units::{Attr, Cell, Code, Coord, OutOfMemory, Rect, Rows, Units};
 use std::alloc::Global;
 
@@ -125,7 +126,7 @@ fn sides(rect: Rect, room: Vec<i64>) -> Numbers
 fn told_rect(alloc: Global, grid: &Grid, rect: Rect) -> Result<Reply, OutOfMemory>
     ensures { IfOk result (λ r. r ≡ rect_told grid.now rect) }
 {
-    let count = con_rects::used_count(grid, rect).min(16384);
+    let count = con_rects::used_count(grid, rect).min(MOST_ITEMS);
     let Ok(mut rows) = Vec::with_capacity(alloc, count) else {
         return Err(OutOfMemory);
     };
@@ -144,7 +145,7 @@ fn run_cells(
 ) -> Result<Result<Vec<Cell>, Code>, OutOfMemory>
     ensures { IfOk result (λ r. IsRun r grid.now from n) }
 {
-    let count = con_rects::run_count(grid, from, n).min(16384);
+    let count = con_rects::run_count(grid, from, n).min(MOST_ITEMS);
     let Ok(mut room) = Vec::with_capacity(alloc, count) else {
         return Err(OutOfMemory);
     };

@@ -1,11 +1,13 @@
 //! Calls on the input queue.
 ghost use Rattle.std.specs.Prelude.{◌≡◌, ◌≤◌, length, IfOk};
+ghost use Rattle.con_units.specs.Limits.{most_records};
 ghost use Rattle.con_machine.specs.InputCalls.{peek_told, peeked, wrote_input, counted, flushed};
 
 use crate::console::Console;
 use con_events::Reply;
 use con_handles::Kind;
 use con_records::{Record, Records, Taken};
+use con_units::limits::MOST_RECORDS;
 use con_units::{Code, OutOfMemory};
 use std::alloc::Global;
 
@@ -16,7 +18,7 @@ fn peek(alloc: Global, records: &Records, n: u32) -> Result<Reply, OutOfMemory>
     if n == 0 {
         return Ok(Reply::Fail(Code::BadArgument));
     }
-    if 1024 < n {
+    if MOST_RECORDS < n as usize {
         return Ok(Reply::Fail(Code::Limit));
     }
     let Ok(mut room) = Vec::with_capacity(alloc, (n as usize).min(records.count())) else {
@@ -39,14 +41,14 @@ impl Console {
 
     /// `WriteConsoleInput`. 1816: more than 1,024 records.
     pub(crate) fn write_input(&mut self, p: u8, h: u32, records: &[Record]) -> Reply
-        requires room { length records.now ≤ 1024 → length records.now ≤ self.old.spare.records }
+        requires room { length records.now ≤ most_records → length records.now ≤ self.old.spare.records }
         ensures state { self.new.state ≡ (wrote_input self.old.state p h records.now).after }
         ensures reply { result ≡ (wrote_input self.old.state p h records.now).reply }
     {
         match self.guard(p, h, Kind::Input, 2) {
             Err(code) => Reply::Fail(code),
             Ok(_) => {
-                if 1024 < records.len() {
+                if MOST_RECORDS < records.len() {
                     return Reply::Fail(Code::Limit);
                 }
                 self.records.write(records);

@@ -1,5 +1,6 @@
 //! The memory that a client's call takes, got before it has its effect.
 ghost use Rattle.std.specs.Prelude.{◌≡◌, ◌≤◌, ◌<◌, length, true, IsTrue, IfOk};
+ghost use Rattle.con_units.specs.Limits.{most_records};
 ghost use Rattle.con_alias.specs.Room.{room_for, has_room};
 ghost use Rattle.con_history.specs.Histories.{room_for_configure};
 ghost use Rattle.con_machine.specs.CallRooms.{IsCallRoom, IsBufferRoom, IsFitRoom, IsTextRoom, IsCellRoom};
@@ -14,6 +15,7 @@ use con_events::{Call, Words};
 use con_history::HistoryInfo;
 use con_records::Taken;
 use con_screen::Answers;
+use con_units::limits::{MOST_ITEMS, MOST_RECORDS};
 use con_units::{OutOfMemory, Rect, Units};
 
 // This number, or none where it is above a limit.
@@ -52,7 +54,7 @@ impl Console {
         ensures state { self.new.state ≡ self.old.state }
         ensures room { IfOk result (λ room. IsTextRoom self.new text.now room) }
     {
-        let count = within(text.len(), 16384);
+        let count = within(text.len(), MOST_ITEMS);
         self.records.reserve(10 * count)?;
         Ok(CallRoom::Text(Answers::room(self.title.allocator(), count)?))
     }
@@ -66,9 +68,9 @@ impl Console {
 
     fn write_room(&mut self, records: &Taken) -> Result<CallRoom, OutOfMemory>
         ensures state { self.new.state ≡ self.old.state }
-        ensures room { IfOk result (λ _. length records.now ≤ 1024 → length records.now ≤ self.new.spare.records) }
+        ensures room { IfOk result (λ _. length records.now ≤ most_records → length records.now ≤ self.new.spare.records) }
     {
-        self.records.reserve(within(records.0.len(), 1024))?;
+        self.records.reserve(within(records.0.len(), MOST_RECORDS))?;
         Ok(CallRoom::Nothing)
     }
 

@@ -8,12 +8,13 @@ ghost use Rattle.con_machine.specs.Step.{is_clients, is_painters, is_actors, cli
 use crate::console::Console;
 use con_events::{Actor, Event};
 use con_units::Size;
+use con_units::limits::{MOST_COLUMNS, MOST_WINDOW_ROWS};
 
 /// Whether a window has this size: 1 to 512 by 1 to 256.
 pub(crate) fn is_size(size: Size) -> bool
     ensures { result ≡ is_size size }
 {
-    1 <= size.w && size.w <= 512 && 1 <= size.h && size.h <= 256
+    1 <= size.w && size.w <= MOST_COLUMNS && 1 <= size.h && size.h <= MOST_WINDOW_ROWS
 }
 
 /// Whether an event is a client's.

@@ -1,5 +1,6 @@
 //! The size of a buffer.
 ghost use Rattle.std.specs.Prelude.{◌≡◌, ◌==◌, ◌&&◌, ◌||◌, not, true, nat_le, List, IfOk, Option, Some};
+ghost use Rattle.con_units.specs.Limits.{most_columns, most_buffer_rows};
 ghost use Rattle.con_handles.specs.declared.handle.Handle.{Handle};
 ghost use Rattle.con_screen.specs.Fit.{IsFit};
 ghost use Rattle.con_screens.specs.Buffers.{AreBuffers, IsLive, is_alternate};
@@ -14,12 +15,16 @@ use crate::showing::window;
 use con_events::Reply;
 use con_screen::Fit;
 use con_screens::Screens;
+use con_units::limits::{MOST_BUFFER_ROWS, MOST_COLUMNS};
 use con_units::{BufferId, Code, OutOfMemory, Size};
 
 fn is_within(window: Size, w: u32, h: u32) -> bool
-    ensures { result ≡ (nat_le window.w w && nat_le window.h h && nat_le w 512 && nat_le h 2048) }
+    ensures { result ≡ (nat_le window.w w && nat_le window.h h && nat_le w most_columns && nat_le h most_buffer_rows) }
 {
-    u32::from(window.w) <= w && u32::from(window.h) <= h && w <= 512 && h <= 2048
+    u32::from(window.w) <= w
+        && u32::from(window.h) <= h
+        && w <= u32::from(MOST_COLUMNS)
+        && h <= u32::from(MOST_BUFFER_ROWS)
 }
 
 // Whether a buffer may have this size.
@@ -59,7 +64,6 @@ fn refit(screens: &mut Screens, id: BufferId, w: u32, h: u32, fit: Fit)
     ensures kept { AreBuffers screens.new }
     ensures counted { (hs : List Handle) → AreCounted screens.old hs → AreCounted screens.new hs }
 {
-    let _ = (w, h);
     screens.screen_mut(id).resize(fit);
 }
 

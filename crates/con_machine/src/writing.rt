@@ -1,5 +1,6 @@
 //! Text that is written on a buffer.
 ghost use Rattle.std.specs.Prelude.{◌≡◌, ◌≤◌, ◌*◌, length, List, unwrap_or, Option};
+ghost use Rattle.con_units.specs.Limits.{most_items};
 ghost use Rattle.con_handles.specs.declared.handle.Handle.{Handle};
 ghost use Rattle.con_screen.specs.Told.{nothing_told};
 ghost use Rattle.con_screens.specs.Buffer.{buffer_written, told_on};
@@ -14,6 +15,7 @@ use crate::typing::store_units;
 use con_events::Reply;
 use con_screen::{Answers, is_told_within};
 use con_screens::Screens;
+use con_units::limits::MOST_ITEMS;
 use con_units::{BufferId, Code};
 
 // Writes units on a buffer.
@@ -68,15 +70,15 @@ impl Console {
     /// `WriteConsole`. 1816: more than 16,384 units.
     pub(crate) fn write(&mut self, p: u8, h: u32, units: &[u16], answers: &mut Answers) -> Reply
         requires nothing { answers.old.told ≡ nothing_told }
-        requires room { length units.now ≤ 16384 → length units.now ≤ answers.old.room }
-        requires records { length units.now ≤ 16384 → 10 * length units.now ≤ self.old.spare.records }
+        requires room { length units.now ≤ most_items → length units.now ≤ answers.old.room }
+        requires records { length units.now ≤ most_items → 10 * length units.now ≤ self.old.spare.records }
         ensures state { self.new.state ≡ (wrote self.old.state p h units.now).after }
         ensures reply { result ≡ (wrote self.old.state p h units.now).reply }
     {
         match self.output(p, h, 2) {
             Err(code) => Reply::Fail(code),
             Ok(id) => {
-                if 16384 < units.len() {
+                if MOST_ITEMS < units.len() {
                     return Reply::Fail(Code::Limit);
                 }
                 self.write_on(id, units, answers);
