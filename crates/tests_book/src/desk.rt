@@ -88,7 +88,8 @@ pub fn lines(book: Book<Desk>, opening: Pass<Desk>) -> Vec<Line>
     requires opening { (view_of opening).opens ≡ true }
     requires whole { length (view_of opening).kept ≡ length (view_of opening).made }
     requires begins { (view_of opening).start.entered ≡ 0 }
-    ensures { (log : List (Logged TickEvent)) × (is_legal desk_next desk_ready (view_of opening).start log ≡ true) × (result.items ≡ map (λ x. record { actor = x.actor }) log) }
+    ensures { (log : List (Logged TickEvent)) × (is_legal desk_next desk_ready (view_of opening).start log ≡ true)
+        × (result.items ≡ map (λ x. record { actor = x.actor }) log) }
 {
     let Closed { machine, log } = book.close(opening);
     let Desk {

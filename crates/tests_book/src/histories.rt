@@ -16,9 +16,14 @@ use con_book::{Book, Machine, Pass};
 
 /// What more entries do to what a pass has seen.
 pub fn seen_further<M: Machine>(pass: &Pass<M>)
-    ensures own { (more : List (Logged M.Event)) → own (actor_of pass.now) (seen pass.now ++ more) ≡ own (actor_of pass.now) (seen pass.now) ++ own (actor_of pass.now) more }
-    ensures after { (more : List (Logged M.Event)) → after M.next (view_of pass.now).start (seen pass.now ++ more) ≡ after M.next (after M.next (view_of pass.now).start (seen pass.now)) more }
-    ensures legal { (more : List (Logged M.Event)) → is_legal M.next M.is_ready (view_of pass.now).start (seen pass.now ++ more) ≡ (is_legal M.next M.is_ready (view_of pass.now).start (seen pass.now) && is_legal M.next M.is_ready (after M.next (view_of pass.now).start (seen pass.now)) more) }
+    ensures own { (more : List (Logged M.Event))
+        → own (actor_of pass.now) (seen pass.now ++ more) ≡ own (actor_of pass.now) (seen pass.now) ++ own (actor_of pass.now) more }
+    ensures after { (more : List (Logged M.Event))
+        → after M.next (view_of pass.now).start (seen pass.now ++ more) ≡ after M.next (after M.next (view_of pass.now).start (seen pass.now)) more }
+    ensures legal { (more : List (Logged M.Event))
+        → is_legal M.next M.is_ready (view_of pass.now).start (seen pass.now ++ more)
+        ≡ (is_legal M.next M.is_ready (view_of pass.now).start (seen pass.now)
+        && is_legal M.next M.is_ready (after M.next (view_of pass.now).start (seen pass.now)) more) }
 {
     histories_are_joined::<M>();
     let _pass = pass;
@@ -48,9 +53,11 @@ pub fn next_actor<M: Machine>(book: &Book<M>, opening: &mut Pass<M>, actor: u32)
 /// Where a pass begins with a machine that counts, what it has seen does to the machine what it does without the count, and the count
 /// is as much higher.
 pub fn counted_alike<M: Machine>(pass: &Pass<M>)
-    ensures after { (c : Counted M.State) → c.state ≡ (view_of pass.now).start → (after (counting M.next) c (seen pass.now)).state ≡ after M.next (view_of pass.now).start (seen pass.now) }
+    ensures after { (c : Counted M.State) → c.state ≡ (view_of pass.now).start
+        → (after (counting M.next) c (seen pass.now)).state ≡ after M.next (view_of pass.now).start (seen pass.now) }
     ensures count { (c : Counted M.State) → (after (counting M.next) c (seen pass.now)).entered ≡ c.entered + length (seen pass.now) }
-    ensures legal { (c : Counted M.State) → c.state ≡ (view_of pass.now).start → is_legal (counting M.next) (λ c. M.is_ready c.state) c (seen pass.now) ≡ is_legal M.next M.is_ready (view_of pass.now).start (seen pass.now) }
+    ensures legal { (c : Counted M.State) → c.state ≡ (view_of pass.now).start
+        → is_legal (counting M.next) (λ c. M.is_ready c.state) c (seen pass.now) ≡ is_legal M.next M.is_ready (view_of pass.now).start (seen pass.now) }
 {
     a_count_changes_nothing::<M>();
     let _pass = pass;

@@ -81,26 +81,46 @@ fn sixteen<R: Threads + Wait + Sync>(
     Some(dismissed(book, opening, crew))
 }
 
-#[test]
-fn counts_each_turn_of_16_threads_once(rt: HostRuntime) -> Result<(), Fail> {
-    let Some(outcome) = sixteen(&rt, rt.alloc(), Tick::Any, 1000) else {
-        panic!(rt; "no memory")
-    };
-    assert!(rt; outcome.count == 16_000 && outcome.log.len() == 16_000);
+// The machine's count, the entries of the log, the actors of whom it has so many, the replies, their sum, and how many found
+// their event ready in the end.
+fn told(outcome: &Outcome, times: usize) -> [u64; 6] {
+    let mut whole = 0u64;
     for actor in 1..17 {
-        assert!(rt; outcome.log.iter().filter(|x| x.actor == actor).count() == 1000);
+        if outcome.log.iter().filter(|x| x.actor == actor).count() == times {
+            whole += 1;
+        }
     }
-    // The replies are 0 to 15,999, each once.
-    assert!(rt; outcome.replies == 16_000 && outcome.sum == 127_992_000 && outcome.ready == 16);
-    Ok(())
+    [
+        outcome.count,
+        outcome.log.len() as u64,
+        whole,
+        u64::from(outcome.replies),
+        outcome.sum,
+        u64::from(outcome.ready),
+    ]
 }
 
+fn sixteen_told<R: Threads + Wait + Sync>(
+    rt: &R,
+    alloc: Global,
+    event: Tick,
+    times: u32,
+) -> Option<[u64; 6]> {
+    match sixteen(rt, alloc, event, times) {
+        Some(outcome) => Some(told(&outcome, times as usize)),
+        None => None,
+    }
+}
+
+// Each turn of 16 threads is counted once, and the replies are 0 to 15,999, each once; and an event that is ready once is answered to one
+// of them, and to all others with nothing.
 #[test]
-fn answers_none_to_all_but_one_of_16_threads(rt: HostRuntime) -> Result<(), Fail> {
-    let Some(outcome) = sixteen(&rt, rt.alloc(), Tick::AtEven, 3) else {
-        panic!(rt; "no memory")
-    };
-    assert!(rt; outcome.count == 1 && outcome.log.len() == 1);
-    assert!(rt; outcome.replies == 1 && outcome.sum == 0 && outcome.ready == 0);
+fn each_turn_of_16_threads_is_one_entry(rt: HostRuntime) -> Result<(), Fail> {
+    let all = sixteen_told(&rt, rt.alloc(), Tick::Any, 1000);
+    let one = sixteen_told(&rt, rt.alloc(), Tick::AtEven, 3);
+    assert!(rt;
+        all == Some([16_000, 16_000, 16, 16_000, 127_992_000, 16])
+            && one == Some([1, 1, 0, 1, 0, 0])
+    );
     Ok(())
 }

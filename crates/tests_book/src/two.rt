@@ -50,35 +50,47 @@ fn two<R: Threads + Wait + Sync>(rt: &R, alloc: Global, turns: u32) -> Option<Cl
     Some(book.close(first))
 }
 
-#[test]
-fn counts_each_turn_once(rt: HostRuntime) -> Result<(), Fail> {
-    let Some(Closed { machine, log }) = two(&rt, rt.alloc(), 1000) else {
-        panic!(rt; "no memory")
-    };
+// The machine's count, the entries of each of two threads, and all of the log.
+fn counts<R: Threads + Wait + Sync>(rt: &R, alloc: Global) -> Option<[u64; 4]> {
+    let Closed { machine, log } = two(rt, alloc, 1000)?;
     let by_one = log.iter().filter(|x| x.actor == 1).count();
     let by_two = log.iter().filter(|x| x.actor == 2).count();
-    assert!(rt; machine.count == 2000 && by_one == 1000 && by_two == 1000 && log.len() == 2000);
-    Ok(())
+    Some([
+        machine.count,
+        by_one as u64,
+        by_two as u64,
+        log.len() as u64,
+    ])
 }
 
-#[test]
-fn answers_none_where_the_event_is_not_ready(rt: HostRuntime) -> Result<(), Fail> {
-    let Ok(Opened { book, mut pass }) = Book::new(rt.alloc(), Counter { count: 0 }) else {
-        panic!(rt; "no memory")
-    };
-    let first = book.turn_if_ready(&rt, &mut pass, Tick::AtEven).ok();
-    let second = book.turn_if_ready(&rt, &mut pass, Tick::AtEven).ok();
-    let third = book.turn_if_ready(&rt, &mut pass, Tick::AtEven).ok();
-    let ready = book.check(&rt, &mut pass, &Tick::AtEven);
-    assert!(rt; first == Some(Some(0)) && second == Some(None) && third == Some(None) && !ready);
-    Ok(())
+// What three turns of an event are answered that is ready before the first alone, and whether it is ready behind them.
+fn answers<R: Wait>(rt: &R, alloc: Global) -> Option<([Option<Option<u64>>; 3], bool)> {
+    let Opened { book, mut pass } = Book::new(alloc, Counter { count: 0 }).ok()?;
+    let first = book.turn_if_ready(rt, &mut pass, Tick::AtEven).ok();
+    let second = book.turn_if_ready(rt, &mut pass, Tick::AtEven).ok();
+    let third = book.turn_if_ready(rt, &mut pass, Tick::AtEven).ok();
+    let ready = book.check(rt, &mut pass, &Tick::AtEven);
+    Some(([first, second, third], ready))
 }
 
-#[test]
-fn a_ring_after_the_mark_ends_the_wait(rt: HostRuntime) -> Result<(), Fail> {
+// How often a bell was rung that one thread waits for and another rings.
+fn rings<R: Threads + Wait + Sync>(rt: &R) -> u64 {
     let bell = Bell::new();
     let seen = bell.mark();
-    let ((), ()) = join(&rt, || bell.wait(&rt, seen), || bell.ring());
-    assert!(rt; bell.mark() == 1);
+    let ((), ()) = join(rt, || bell.wait(rt, seen), || bell.ring());
+    bell.mark()
+}
+
+// Each turn is counted once; an event that is not ready is answered with nothing; and a ring after the mark ends the wait.
+#[test]
+fn turns_answers_and_a_bell(rt: HostRuntime) -> Result<(), Fail> {
+    let counts = counts(&rt, rt.alloc());
+    let answers = answers(&rt, rt.alloc());
+    let rings = rings(&rt);
+    assert!(rt;
+        counts == Some([2000, 1000, 1000, 2000])
+            && answers == Some(([Some(Some(0)), Some(None), Some(None)], false))
+            && rings == 1
+    );
     Ok(())
 }
