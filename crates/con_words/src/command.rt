@@ -3,7 +3,7 @@
 ghost use Rattle.std.specs.Prelude.{◌≡◌, codes, false, IfOk, map, option_map, string_bytes};
 ghost use Rattle.clap.specs.declared.builder.command.Command.TheViews.{out-Command};
 ghost use Rattle.clap.specs.Words.{FailsBy, app_of, fault_of, first_of, found_of, rows_of, subcommand_of, subcommand_rows_of};
-ghost use Rattle.con_words.specs.Command.{bare, host, taking, taking_files, with_word, files_in, files_shown};
+ghost use Rattle.con_words.specs.Command.{and_more, bare, host, taking, taking_files, with_word, files_in, files_shown};
 
 use clap::{Arg, ArgMatches, Command, Error};
 use std::alloc::{AllocError, Global};
@@ -52,24 +52,38 @@ fn alone<'a>(alloc: Global) -> Command<'a>
         .disable_help_subcommand(true)
 }
 
-// The command with its subcommands.
+// The command with one subcommand more, which takes one word.
+fn with_taking<'a>(
+    alloc: Global,
+    command: Command<'a>,
+    name: &'a str,
+) -> Result<Command<'a>, AllocError>
+    ensures { IfOk result (λ c. app_of c ≡ and_more (app_of command.entry) (taking name.entry.now)) }
+{
+    let more = taking_one(alloc, name)?;
+    command.subcommand(more)
+}
+
+// The command with the subcommand more that takes four words.
+fn with_taking_files<'a>(alloc: Global, command: Command<'a>) -> Result<Command<'a>, AllocError>
+    ensures { IfOk result (λ c. app_of c ≡ and_more (app_of command.entry) taking_files) }
+{
+    let more = taking_files(alloc)?;
+    command.subcommand(more)
+}
+
+// The command with its subcommands. Where memory is wanted no other command is there to be dropped: the proof of each such way is dear.
 fn command<'a>(alloc: Global) -> Result<Command<'a>, AllocError>
     ensures { IfOk result (λ c. app_of c ≡ host) }
 {
     let typing = Command::new(alloc, "type");
-    let playing = taking_one(alloc, "play")?;
-    let turning = taking_one(alloc, "solo")?;
-    let generating = taking_one(alloc, "gen")?;
-    let running = taking_one(alloc, "run")?;
-    let mirroring = taking_one(alloc, "mirror")?;
-    let auditing = taking_files(alloc)?;
     let one = alone(alloc).subcommand(typing)?;
-    let two = one.subcommand(playing)?;
-    let three = two.subcommand(turning)?;
-    let four = three.subcommand(generating)?;
-    let five = four.subcommand(running)?;
-    let six = five.subcommand(mirroring)?;
-    six.subcommand(auditing)
+    let two = with_taking(alloc, one, "play")?;
+    let three = with_taking(alloc, two, "solo")?;
+    let four = with_taking(alloc, three, "gen")?;
+    let five = with_taking(alloc, four, "run")?;
+    let six = with_taking(alloc, five, "mirror")?;
+    with_taking_files(alloc, six)
 }
 
 /// What the command makes of the words.
