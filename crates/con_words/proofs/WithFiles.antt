@@ -1,16 +1,16 @@
 -- What the command makes of `audit` and four words: a step of its walk for each.
-use Rattle.std.proofs.Common.{◌≡◌, ℕ, true, false, nat_eq, List, [], ◌∷◌, codes, ap, refl, Some, None, ◌∙◌}
+use Rattle.std.proofs.Common.{◌≡◌, ℕ, false, nat_eq, List, [], ◌∷◌, codes, ap, refl, Some, None, ◌∙◌}
 use Rattle.std.specs.Prelude.{fold}
 use Rattle.clap.specs.Faults.{check_fault, defaults_fault, level_fault, settle_fault, step_fault, turn_fault, walk_fault}
 use Rattle.clap.specs.Kinds.{Kinds, or_else}
-use Rattle.clap.specs.Simple.{Shape, filled, new_rule, new_shape, with_index}
-use Rattle.clap.specs.Walk.{Held, Names, Row, Rule, Step, Walk, after_step, arg_by_index, finished, idle, nothing_held, reading_by, rows_after, settled, to_positional, value, walk, walked, word_met}
+use Rattle.clap.specs.Simple.{Shape}
+use Rattle.clap.specs.Walk.{Held, Names, Row, Rule, Step, Walk, after_step, arg_by_index, finished, idle, nothing_held, rows_after, settled, to_positional, value, walk, walked, word_met}
 use Rattle.clap.specs.Words.{fault_of, subcommand_of, Text}
-use Rattle.clap.specs.declared.parser.matches.ValueSource.TheVariants.{CommandLine}
 use Rattle.clap.proofs.OnLiterals.{clap_on_literals}
 use Rattle.con_words.specs.Command.{host}
 use Rattle.con_words.specs.Naming.{form_met}
 use Rattle.con_words.specs.Words.{auditing, of_words}
+use Rattle.con_words.proofs.WithWord.{rule, leaf, row}
 
 -- ---- a word that is a value
 
@@ -36,19 +36,13 @@ one_more s ns w v x rest none next = ap (λ (k : Kinds). or_else k (walk_fault s
 
 -- ---- the subcommand, as the command builds it
 
-abbrev rule : Text → ℕ → Rule
-rule id i = with_index i (filled (record (new_rule id) { required = true }))
-
 abbrev rules : List Rule
 rules = rule (codes "session") 1 ∷ rule (codes "link") 2 ∷ rule (codes "stream") 3 ∷ rule (codes "report") 4 ∷ []
 
-abbrev leaf : Shape
-leaf = record (new_shape (codes "audit")) { rules = rules; no_binary_name = true; disable_help_flag = true; disable_help_subcommand = true; is_built = true }
+abbrev audit : Shape
+audit = leaf (codes "audit") rules
 
 -- ---- what it holds behind each word
-
-abbrev row : Text → Text → Row
-row id v = record { id = id; values = v ∷ []; count = None; source = Some CommandLine; reading = reading_by (rule id 1) }
 
 abbrev holding : List Row → Text → Text → Held
 holding rows id v = record { rows = rows; pending = Some (id, v ∷ []); skip = 0 }
@@ -94,15 +88,15 @@ module _ (y z u v : ℕ) (ys zs us vs : Text) (i : nat_eq y 45 ≡ false) (j : n
   walk_is = ap (λ (w : Walk). fold (walked rules []) w (b ∷ c ∷ d ∷ [])) first ∙ (ap (λ (w : Walk). fold (walked rules []) w (c ∷ d ∷ [])) second
       ∙ (ap (λ (w : Walk). fold (walked rules []) w (d ∷ [])) third ∙ fourth))
 
-  walk_passes : walk_fault leaf [] (at 1 nothing_held) (a ∷ b ∷ c ∷ d ∷ []) ≡ []
+  walk_passes : walk_fault audit [] (at 1 nothing_held) (a ∷ b ∷ c ∷ d ∷ []) ≡ []
   unfolding walk_fault
-  walk_passes = one_more leaf [] _ _ a (b ∷ c ∷ d ∷ []) (turn_value leaf 1 nothing_held y ys i) first ∙ (one_more leaf [] _ _ b (c ∷ d ∷ []) (turn_value leaf 2 (one_held a) z zs j) second
-      ∙ (one_more leaf [] _ _ c (d ∷ []) (turn_value leaf 3 (two_held a b) u us k) third ∙ one_more leaf [] _ _ d [] (turn_value leaf 4 (three_held a b c) v vs l) fourth))
+  walk_passes = one_more audit [] _ _ a (b ∷ c ∷ d ∷ []) (turn_value audit 1 nothing_held y ys i) first ∙ (one_more audit [] _ _ b (c ∷ d ∷ []) (turn_value audit 2 (one_held a) z zs j) second
+      ∙ (one_more audit [] _ _ c (d ∷ []) (turn_value audit 3 (two_held a b) u us k) third ∙ one_more audit [] _ _ d [] (turn_value audit 4 (three_held a b c) v vs l) fourth))
 
 -- ---- behind the last word
 
 abbrev behind : Held → Kinds
-behind h = or_else (settle_fault leaf.rules leaf.args_override_self h) (or_else (defaults_fault (settled leaf.rules h).rows leaf.rules) (check_fault leaf (finished leaf.rules h) false))
+behind h = or_else (settle_fault audit.rules audit.args_override_self h) (or_else (defaults_fault (settled audit.rules h).rows audit.rules) (check_fault audit (finished audit.rules h) false))
 
 behind_four : (a b c d : Text) → behind (four_held a b c d) ≡ []
 unfolding clap_on_literals
@@ -117,11 +111,11 @@ stops : (a b c d : Text) → subcommand_of host (codes "audit" ∷ a ∷ b ∷ c
 unfolding clap_on_literals
 stops a b c d = refl
 
-enters : (a b c d : Text) → fault_of host (codes "audit" ∷ a ∷ b ∷ c ∷ d ∷ []) ≡ or_else (level_fault leaf [] nothing_held (a ∷ b ∷ c ∷ d ∷ []) false []) []
+enters : (a b c d : Text) → fault_of host (codes "audit" ∷ a ∷ b ∷ c ∷ d ∷ []) ≡ or_else (level_fault audit [] nothing_held (a ∷ b ∷ c ∷ d ∷ []) false []) []
 unfolding clap_on_literals
 enters a b c d = refl
 
-level : (ws : List Text) (w : Walk) → walk_fault leaf [] (at 1 nothing_held) ws ≡ [] → walk rules [] nothing_held ws ≡ w → behind w.held ≡ [] → level_fault leaf [] nothing_held ws false [] ≡ []
+level : (ws : List Text) (w : Walk) → walk_fault audit [] (at 1 nothing_held) ws ≡ [] → walk rules [] nothing_held ws ≡ w → behind w.held ≡ [] → level_fault audit [] nothing_held ws false [] ≡ []
 level ws w none is rest = ap (λ (ks : Kinds). or_else ks (behind (walk rules [] nothing_held ws).held)) none ∙ (ap (λ (w : Walk). behind w.held) is ∙ rest)
 
 pub audit_taken : (y z u v : ℕ) (ys zs us vs : Text) → nat_eq y 45 ≡ false → nat_eq z 45 ≡ false → nat_eq u 45 ≡ false → nat_eq v 45 ≡ false

@@ -1,13 +1,13 @@
 -- The form that a subcommand and its word are.
-use Rattle.std.specs.Prelude.{Bool, true, false, ◌&&◌, List, [], ◌∷◌, Option, Some, None, codes, option_and_then, if◌then◌else◌}
+use Rattle.std.specs.Prelude.{Bool, true, false, ◌&&◌, List, [], ◌∷◌, Option, Some, None, codes, option_map, option_and_then, if◌then◌else◌}
 use Rattle.std.specs.Str.{bytes_eq}
 use Rattle.clap.specs.Words.{Row, Text}
 use Rattle.con_words.specs.Command.{Files, Named, files_in, first_word}
-use Rattle.con_words.specs.Words.{Asked, typing, running, solo, mirroring, auditing, at_size, of_seed, is_word, size_of, seed_of}
+use Rattle.con_words.specs.Words.{Asked, typing, playing, running, solo, mirroring, auditing, generating, is_word, size_of, seed_of}
 
 abbrev pub of_size : Option Text → Option Asked
 of_size None = None
-of_size (Some word) = at_size (size_of word)
+of_size (Some word) = option_map playing (size_of word)
 
 abbrev pub of_name : Option Text → Option Asked
 of_name None = None
@@ -23,7 +23,7 @@ of_mirror (Some word) = Some (mirroring word)
 
 abbrev pub of_number : Option Text → Option Asked
 of_number None = None
-of_number (Some word) = of_seed (seed_of word)
+of_number (Some word) = option_map generating (seed_of word)
 
 abbrev pub form_named : Named → Option Asked
 form_named p =
@@ -51,5 +51,6 @@ abbrev pub may_be_form : List Text → Bool
 may_be_form [] = true
 may_be_form (word ∷ []) = is_word word
 may_be_form (word ∷ more ∷ []) = is_word word && is_word more
-may_be_form (name ∷ session ∷ link ∷ stream ∷ report ∷ []) = bytes_eq name (codes "audit") && is_word session && is_word link && is_word stream && is_word report
+may_be_form (name ∷ session ∷ link ∷ stream ∷ report ∷ []) =
+    bytes_eq name (codes "audit") && is_word session && is_word link && is_word stream && is_word report
 may_be_form _ = false

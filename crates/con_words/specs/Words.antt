@@ -1,7 +1,9 @@
 -- Which words are a form.
-use Rattle.std.specs.Prelude.{ℕ, ◌+◌, ◌-◌, ◌*◌, ◌<◌, ◌≤◌, Bool, false, not, ◌&&◌, ◌==◌, nat_le, List, [], ◌∷◌, take, drop, Option, Some, None, codes, option_and_then, if◌then◌else◌}
+use Rattle.std.specs.Prelude.{ℕ, ◌+◌, ◌-◌, ◌*◌, ◌<◌, ◌≤◌, Bool, false, not, ◌&&◌, ◌==◌, nat_le, List, [], ◌∷◌, take, drop, codes}
+use Rattle.std.specs.Prelude.{Option, Some, None, option_map, option_and_then, if◌then◌else◌}
 use Rattle.std.specs.List.{list_all, position}
 use Rattle.std.specs.Str.{bytes_eq}
+use Rattle.con_units.specs.Limits.{most_columns, most_window_rows}
 use Rattle.con_units.specs.declared.place.Size.{Size}
 
 -- what the words ask for: a text to be typed, bytes to be played at a size, the session of a file by threads, by turns, or by turns with a second terminal,
@@ -33,30 +35,22 @@ number_of (a ∷ b ∷ []) = if is_first a && is_digit b then Some (digit_of a *
 number_of (a ∷ b ∷ c ∷ []) = if is_first a && is_digit b && is_digit c then Some (digit_of a * 100 + digit_of b * 10 + digit_of c) else None
 number_of _ = None
 
-abbrev pub at_most : ℕ → Option ℕ → Option ℕ
-at_most most None = None
-at_most most (Some n) = if nat_le n most then Some n else None
-
 -- the number of 1 to `most` that the digits spell
 abbrev pub side_of : List ℕ → ℕ → Option ℕ
-side_of digits most = at_most most (number_of digits)
+side_of digits most = option_and_then (λ n. if nat_le n most then Some n else None) (number_of digits)
 
 -- 'x'
 abbrev pub is_x : ℕ → Bool
 is_x byte = byte == 0x78
 
-abbrev pub both_sides : Option ℕ → Option ℕ → Option Size
-both_sides None _ = None
-both_sides (Some w) None = None
-both_sides (Some w) (Some h) = Some (record { w = w; h = h })
-
-abbrev pub size_at : List ℕ → Option ℕ → Option Size
-size_at word None = None
-size_at word (Some at) = both_sides (side_of (take at word) 512) (side_of (drop (at + 1) word) 256)
+-- the size that stands around an 'x' at this place
+abbrev pub size_at : List ℕ → ℕ → Option Size
+size_at word at =
+    option_and_then (λ w. option_map (λ h. record { w = w; h = h }) (side_of (drop (at + 1) word) most_window_rows)) (side_of (take at word) most_columns)
 
 -- the size that a word WxH names: W of 1 to 512, H of 1 to 256
 abbrev pub size_of : List ℕ → Option Size
-size_of word = size_at word (position is_x word)
+size_of word = option_and_then (size_at word) (position is_x word)
 
 -- a number with one decimal digit more, of at most 4,294,967,295
 abbrev pub with_digit : ℕ → ℕ → Option ℕ
@@ -78,40 +72,26 @@ seed_of (byte ∷ bytes) = if byte == 0x30 then zero_alone bytes else spelled_af
 
 -- a window's size
 abbrev pub IsWindow : Size → Type 0
-IsWindow size = (0 < size.w) × (0 < size.h) × (size.w ≤ 512) × (size.h ≤ 256)
-
-abbrev pub at_size : Option Size → Option Asked
-at_size None = None
-at_size (Some size) = Some (playing size)
-
-abbrev pub of_seed : Option ℕ → Option Asked
-of_seed None = None
-of_seed (Some seed) = Some (generating seed)
+IsWindow size = (0 < size.w) × (0 < size.h) × (size.w ≤ most_columns) × (size.h ≤ most_window_rows)
 
 -- not empty, and does not begin with '-'
 abbrev pub is_word : List ℕ → Bool
 is_word [] = false
 is_word (byte ∷ bytes) = not (byte == 0x2D)
 
-abbrev pub alone : List ℕ → Option Asked
-alone name = if bytes_eq (codes "type") name then Some typing else None
-
 abbrev pub with_word : List ℕ → List ℕ → Option Asked
 with_word name word =
-    if bytes_eq (codes "play") name then at_size (size_of word)
+    if bytes_eq (codes "play") name then option_map playing (size_of word)
     else if bytes_eq (codes "solo") name then Some (solo word)
-    else if bytes_eq (codes "gen") name then of_seed (seed_of word)
+    else if bytes_eq (codes "gen") name then option_map generating (seed_of word)
     else if bytes_eq (codes "run") name then Some (running word)
     else if bytes_eq (codes "mirror") name then Some (mirroring word)
     else None
 
-abbrev pub with_files : List ℕ → List ℕ → List ℕ → List ℕ → List ℕ → Option Asked
-with_files name session link stream report = if bytes_eq (codes "audit") name then Some (auditing session link stream report) else None
-
 abbrev pub of_words : List (List ℕ) → Option Asked
-of_words (name ∷ []) = alone name
+of_words (name ∷ []) = if bytes_eq (codes "type") name then Some typing else None
 of_words (name ∷ word ∷ []) = with_word name word
-of_words (name ∷ session ∷ link ∷ stream ∷ report ∷ []) = with_files name session link stream report
+of_words (name ∷ session ∷ link ∷ stream ∷ report ∷ []) = if bytes_eq (codes "audit") name then Some (auditing session link stream report) else None
 of_words _ = None
 
 -- what the words ask for; they are no form where one of them is empty or begins with '-'

@@ -1,10 +1,12 @@
 //! The words of the command line.
-ghost use Rattle.std.specs.Prelude.{◌≡◌, ℕ, ◌+◌, ◌*◌, ◌-◌, ◌≤◌, ◌<◌, ◌==◌, List, [], ◌∷◌, length, map, take, drop, Option, Some, None, IfSome, IfOk, IsTrue, string_bytes};
+ghost use Rattle.std.specs.Prelude.{◌≡◌, ℕ, ◌+◌, ◌*◌, ◌-◌, ◌≤◌, ◌<◌, ◌==◌};
+ghost use Rattle.std.specs.Prelude.{List, [], ◌∷◌, length, map, take, drop, Option, Some, None, IfSome, IfOk, IsTrue, string_bytes};
 ghost use Rattle.std.specs.List.{position};
 
 use crate::command::{Files, files, matches, word};
 use clap::ArgMatches;
 use clap::error::ErrorKind;
+use con_units::limits::{MOST_COLUMNS, MOST_WINDOW_ROWS};
 use con_units::{OutOfMemory, Size};
 use std::alloc::Global;
 
@@ -38,8 +40,8 @@ impl<'a> Form<'a> {
     ghost use Rattle.con_words.specs.Asked.{asked_of, IsWindowed};
 
     /// The form that the words are, and `None` where they are none: `type` alone, `play` with a size of 1 to 512
-    /// by 1 to 256, in decimal digits without a sign or a leading zero, joined by `x`, `run`, `solo` or `mirror` with a name, `audit` with four, or `gen` with a
-    /// number of 0 to 4,294,967,295, in decimal digits without a sign or a leading zero. An empty word and one that begins with `-` stand in no form.
+    /// by 1 to 256, in decimal digits without a sign or a leading zero, joined by `x`, `run`, `solo` or `mirror` with a name, `audit` with four, or `gen` with
+    /// a number of 0 to 4,294,967,295, in decimal digits without a sign or a leading zero. An empty word and one that begins with `-` stand in no form.
     pub fn of(alloc: Global, words: &'a [String]) -> Result<Option<Form<'a>>, OutOfMemory>
         ensures form { IfOk result (λ form. option_map asked_of form ≡ form_of (map string_bytes words.entry.now)) }
         ensures window { IfOk result (λ form. IfSome form IsWindowed) }
@@ -268,10 +270,10 @@ fn size_in(word: &[u8]) -> Option<Size>
     let Some(at) = place_of_x(word) else {
         return None;
     };
-    let Some(w) = side(&word[..at], 512) else {
+    let Some(w) = side(&word[..at], MOST_COLUMNS) else {
         return None;
     };
-    let Some(h) = side(&word[at + 1..], 256) else {
+    let Some(h) = side(&word[at + 1..], MOST_WINDOW_ROWS) else {
         return None;
     };
     Some(Size { w, h })
