@@ -14,7 +14,8 @@ use con_units::{Code, OutOfMemory, Units};
 /// Opens a handle: no process has a number twice, or more than 64 of them, and one handle more stands for the object.
 pub fn opened(handles: &mut Handles, process: u8, object: Object, rights: u8) -> Result<u32, Code>
     requires { 0 < handles.old.spare }
-    ensures counted { IfOk result (λ _. (t : Object → Bool) → tally (on t) handles.new.open_ones ≡ (if t object then 1 else 0) + tally (on t) handles.old.open_ones) }
+    ensures counted { IfOk result (λ _. (t : Object → Bool)
+        → tally (on t) handles.new.open_ones ≡ (if t object then 1 else 0) + tally (on t) handles.old.open_ones) }
     ensures refused { IfErr result (λ _. handles.new ≡ handles.old) }
     ensures once { (p n : ℕ) → tally (is_at p n) handles.new.open_ones ≤ 1 }
     ensures few { (p : ℕ) → tally (is_owned p) handles.new.open_ones ≤ 64 }
@@ -25,7 +26,8 @@ pub fn opened(handles: &mut Handles, process: u8, object: Object, rights: u8) ->
 
 /// Closes a handle: one handle less stands for its object.
 pub fn closed(handles: &mut Handles, process: u8, handle: u32) -> Result<Object, Code>
-    ensures counted { IfOk result (λ o. (t : Object → Bool) → (if t o then 1 else 0) + tally (on t) handles.new.open_ones ≡ tally (on t) handles.old.open_ones) }
+    ensures counted { IfOk result (λ o. (t : Object → Bool)
+        → (if t o then 1 else 0) + tally (on t) handles.new.open_ones ≡ tally (on t) handles.old.open_ones) }
     ensures once { (p n : ℕ) → tally (is_at p n) handles.new.open_ones ≤ 1 }
 {
     is_counted();
@@ -34,7 +36,8 @@ pub fn closed(handles: &mut Handles, process: u8, handle: u32) -> Result<Object,
 
 /// Takes a process's handles one after another, as a process that exits does.
 pub fn taken(handles: &mut Handles, process: u8) -> Option<Object>
-    ensures counted { IfSome result (λ o. (t : Object → Bool) → (if t o then 1 else 0) + tally (on t) handles.new.open_ones ≡ tally (on t) handles.old.open_ones) }
+    ensures counted { IfSome result (λ o. (t : Object → Bool)
+        → (if t o then 1 else 0) + tally (on t) handles.new.open_ones ≡ tally (on t) handles.old.open_ones) }
     ensures none { IfNone result (handles.new ≡ handles.old) }
 {
     handles.take_any(process)

@@ -1,7 +1,8 @@
-//! Tests of handles, processes and handlers, as a caller sees them.
+//! Tests of handles, processes and handlers, as a caller sees them. All of it is proved with the tests, so once.
 #![tactic(auto)]
 
-pub mod callers;
+#[cfg(test)]
+mod callers;
 #[cfg(test)]
 mod chains;
 #[cfg(test)]
