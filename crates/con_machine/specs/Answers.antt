@@ -52,15 +52,11 @@ read_after p r pieces = fold (done_to p) r pieces
 
 abbrev pub is_interruption : How → Bool
 is_interruption Interrupted = true
-is_interruption (Served hs al) = false
-is_interruption Emptied = false
-is_interruption CutOff = false
+is_interruption _ = false
 
 abbrev pub is_cut : How → Bool
 is_cut CutOff = true
-is_cut (Served hs al) = false
-is_cut Emptied = false
-is_cut Interrupted = false
+is_cut _ = false
 
 -- ctrl+C to all came while the read was the first line read that is not done
 abbrev pub was_interrupted : Taker → List Piece → Bool

@@ -26,27 +26,11 @@ is_clients (events.Begin w) = true
 is_clients events.Collect = true
 is_clients events.TakeCtrl = true
 is_clients (events.Exit n) = true
-is_clients (events.Feed b) = false
-is_clients events.Quiet = false
-is_clients (events.Resize size) = false
-is_clients events.Ask = false
-is_clients events.Hangup = false
-is_clients events.Drained = false
-is_clients events.Paint = false
+is_clients _ = false
 
 abbrev pub is_painters : Event → Bool
 is_painters events.Paint = true
-is_painters (events.Call c) = false
-is_painters (events.Begin w) = false
-is_painters events.Collect = false
-is_painters events.TakeCtrl = false
-is_painters (events.Exit n) = false
-is_painters (events.Feed b) = false
-is_painters events.Quiet = false
-is_painters (events.Resize size) = false
-is_painters events.Ask = false
-is_painters events.Hangup = false
-is_painters events.Drained = false
+is_painters _ = false
 
 abbrev pub is_actors : Actor → Event → Bool
 is_actors (actors.Client p) e = is_clients e
