@@ -45,7 +45,8 @@ pub record Painted (w h y : ℕ) (after : State) (row : List Glyph) (old new : L
 
 -- a row is painted, or nothing is written
 abbrev pub RowStep : Bool → Bool → ℕ → List Glyph → List Glyph → State → List ℕ → List ℕ → State → Type 0
-RowStep true known y row was before old new after = (h : ℕ) (s : Page) → Stands (length row) h before.attr s → IsAt before.spot s → y < h → (known ≡ true → row_of (length row) s.cells y ≡ was) → Painted (length row) h y after row old new s
+RowStep true known y row was before old new after = (h : ℕ) (s : Page) → Stands (length row) h before.attr s → IsAt before.spot s → y < h
+    → (known ≡ true → row_of (length row) s.cells y ≡ was) → Painted (length row) h y after row old new s
 RowStep false known y row was before old new after = (new ≡ old) × (after ≡ before)
 
 -- the first y rows of a page are painted, where they had to be
@@ -61,5 +62,6 @@ pub record Reach (w h : ℕ) (v : List Glyph) (after : State) (n y : ℕ) (old n
 
 -- the bytes paint the first y rows of every page that is as far as it is known, and there are none where nothing differs
 pub record Rows (w h : ℕ) (v shadow : List Glyph) (known : Bool) (before : State) (old new : List ℕ) (y : ℕ) (after : State) : Type 0 where
-  pub reach : (s : Page) → Stands w h before.attr s → IsAt before.spot s → (known ≡ true → s.cells ≡ shadow) → Reach w h v after (w * rows_to_paint known w y v shadow) y old new s
+  pub reach : (s : Page) → Stands w h before.attr s → IsAt before.spot s → (known ≡ true → s.cells ≡ shadow)
+      → Reach w h v after (w * rows_to_paint known w y v shadow) y old new s
   pub quiet : known ≡ true → v ≡ shadow → (new ≡ old) × (after ≡ before)

@@ -39,8 +39,10 @@ pub record Lifted (w : ℕ) (cells : List Glyph) (after : Spot) (ink : Attribute
   pub place : IsAt after (record s { x = x })
 
 -- the bytes bring a terminal to a known pen, and lift its rows or not
-pub record Lifts (w h : ℕ) (known : Bool) (v was now : List Glyph) (at after : Spot) (before ink : Attribute) (every : Bool) (rows : ℕ) (old new : List ℕ) : Type 0 where
-  pub leads : (s : Page) → Sized w h s → IsAt at s → (known ≡ true → s.pen ≡ pen_for before) → (known ≡ true → s.cells ≡ was) → (cells : List Glyph) × Lifted w cells after ink old new s × (length cells ≡ h * w) × (known ≡ true → cells ≡ now)
+pub record Lifts (w h : ℕ) (known : Bool) (v was now : List Glyph) (at after : Spot) (before ink : Attribute) (every : Bool) (rows : ℕ)
+    (old new : List ℕ) : Type 0 where
+  pub leads : (s : Page) → Sized w h s → IsAt at s → (known ≡ true → s.pen ≡ pen_for before) → (known ≡ true → s.cells ≡ was)
+      → (cells : List Glyph) × Lifted w cells after ink old new s × (length cells ≡ h * w) × (known ≡ true → cells ≡ now)
   pub pen : (known ≡ true → IsPen (pen_for before)) → IsPen (pen_for ink)
   pub same : every ≡ false → now ≡ was
   pub size : length now ≡ h * w

@@ -52,7 +52,8 @@ background_numbers a = colour_numbers 48 a.back (background_number a)
 
 -- the numbers that these changes are sent by
 unfoldable pub numbers_of : Changes → Attribute → List ℕ
-numbers_of c a = part c.reset 0 ++ part c.bold (bold_number a) ++ part c.underline (underline_number a) ++ part c.negative (negative_number a) ++ parts c.foreground (foreground_numbers a) ++ parts c.background (background_numbers a)
+numbers_of c a = part c.reset 0 ++ part c.bold (bold_number a) ++ part c.underline (underline_number a) ++ part c.negative (negative_number a)
+    ++ parts c.foreground (foreground_numbers a) ++ parts c.background (background_numbers a)
 
 -- some part is changed
 abbrev pub is_some : Changes → Bool

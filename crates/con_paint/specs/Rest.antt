@@ -15,4 +15,5 @@ cleared_from tail s = record s { cells = filled s.cells (tail * s.w) (s.h * s.w)
 -- the rows from this one on are erased, or there are none
 pub record RestStep (w h tail : ℕ) (before : State) (old new : List ℕ) (after : State) : Type 0 where
   pub none : h ≤ tail → (new ≡ old) × (after ≡ before)
-  pub some : tail < h → ((s : Page) → s.pen ≡ pen_for before.attr → IsAt before.spot s → s.w ≡ w → s.h ≡ h → Leads old new s (cleared_from tail s) (h * w - tail * w)) × (after ≡ record { attr = plain 7; spot = record { known = true; x = 0; y = tail } })
+  pub some : tail < h → ((s : Page) → s.pen ≡ pen_for before.attr → IsAt before.spot s → s.w ≡ w → s.h ≡ h
+      → Leads old new s (cleared_from tail s) (h * w - tail * w)) × (after ≡ record { attr = plain 7; spot = record { known = true; x = 0; y = tail } })

@@ -36,5 +36,6 @@ patched now row s = behind s.erase (pasted now s.from (piece row s.from s.upto))
 
 -- the end of row y is erased from a column on, in the starting pen, or nothing is written
 abbrev pub RowEnd : Bool → ℕ → ℕ → State → State → List ℕ → List ℕ → Type 0
-RowEnd true x y before after old new = ((s : Page) → s.pen ≡ pen_for before.attr → IsAt before.spot s → (x < s.w) × (y < s.h) → Leads old new s (end_erased s x y) (s.w - x)) × (after ≡ record { attr = plain 7; spot = record { known = true; x = x; y = y } })
+RowEnd true x y before after old new = ((s : Page) → s.pen ≡ pen_for before.attr → IsAt before.spot s → (x < s.w) × (y < s.h)
+    → Leads old new s (end_erased s x y) (s.w - x)) × (after ≡ record { attr = plain 7; spot = record { known = true; x = x; y = y } })
 RowEnd false x y before after old new = (new ≡ old) × (after ≡ before)

@@ -26,7 +26,8 @@ question n last = record { private = true; count = 1; params = sixteen (n ∷ []
 abbrev pub ground_items : List Item
 ground_items =
     items.Csi (record { private = false; count = 0; params = sixteen []; inter = 0x21; last = 0x70 })
-    ∷ items.Csi (question 69 0x6C) ∷ items.Csi (question 6 0x6C) ∷ items.Csi (csi (4 ∷ []) 0x6C) ∷ items.Csi (csi (20 ∷ []) 0x6C) ∷ items.Csi (question 7 0x68) ∷ items.Csi (question 5 0x6C) ∷ items.Csi (question 2026 0x6C)
+    ∷ items.Csi (question 69 0x6C) ∷ items.Csi (question 6 0x6C) ∷ items.Csi (csi (4 ∷ []) 0x6C) ∷ items.Csi (csi (20 ∷ []) 0x6C)
+    ∷ items.Csi (question 7 0x68) ∷ items.Csi (question 5 0x6C) ∷ items.Csi (question 2026 0x6C)
     ∷ items.Csi (csi [] 0x72) ∷ items.Charset 0x42 ∷ items.Csi (csi (0 ∷ []) 0x6D) ∷ []
 
 -- numbers of at most three decimal

@@ -69,8 +69,10 @@ pub(crate) fn renewed(before: Checksums, differs: bool, row: &[Cell]) -> Checksu
 /// Whether each row has the checksum that the row so many behind it had.
 pub(crate) fn agree(sums: &[Checksums], by: usize) -> bool
     requires { by ≤ length sums.now }
-    ensures agree { result ≡ true → (y : ℕ) (a b : Checksums) → y + by < length sums.now → (slice_index_or sums.now y a).now ≡ (slice_index_or sums.now (y + by) b).was }
-    ensures differ { ((y : ℕ) (a b : Checksums) → y + by < length sums.now → (slice_index_or sums.now y a).now ≡ (slice_index_or sums.now (y + by) b).was) → result ≡ true }
+    ensures agree { result ≡ true → (y : ℕ) (a b : Checksums) → y + by < length sums.now
+        → (slice_index_or sums.now y a).now ≡ (slice_index_or sums.now (y + by) b).was }
+    ensures differ { ((y : ℕ) (a b : Checksums) → y + by < length sums.now
+        → (slice_index_or sums.now y a).now ≡ (slice_index_or sums.now (y + by) b).was) → result ≡ true }
 {
     for y in 0..sums.len() - by {
         let now = sums[y].now;

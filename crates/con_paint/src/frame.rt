@@ -57,7 +57,8 @@ fn aim_of(caret: Caret) -> Spot {
 fn settle(out: &mut Vec<u8>, spot: Spot, caret: Caret) -> Spot
     requires small { (caret.x < 999) × (caret.y < 999) }
     requires room { vec_len out.old + 11 ≤ vec_capacity out.old }
-    ensures leads { (s : Page) → (caret.visible ≡ true → (caret.x < s.w) × (caret.y < s.h)) → IsAt spot s → Leads out.old.items out.new.items s (if caret.visible then record s { x = caret.x; y = caret.y; pending = false } else s) 0 }
+    ensures leads { (s : Page) → (caret.visible ≡ true → (caret.x < s.w) × (caret.y < s.h)) → IsAt spot s
+        → Leads out.old.items out.new.items s (if caret.visible then record s { x = caret.x; y = caret.y; pending = false } else s) 0 }
     ensures spot { result ≡ (if caret.visible then record { known = true; x = caret.x; y = caret.y } else spot) }
     ensures quiet { (caret.visible ≡ true → (spot.known ≡ true) × (spot.x ≡ caret.x) × (spot.y ≡ caret.y)) → out.new.items ≡ out.old.items }
     ensures capacity { vec_capacity out.new ≡ vec_capacity out.old }
@@ -110,9 +111,12 @@ fn must_turn(known: bool, hidden: bool, was: bool, now: bool) -> bool
 fn finish(out: &mut Vec<u8>, known: bool, hidden: bool, was: bool, spot: Spot, caret: Caret) -> Spot
     requires small { (caret.x < 999) × (caret.y < 999) }
     requires room { vec_len out.old + 17 ≤ vec_capacity out.old }
-    ensures placed { (s : Page) → (s.x < s.w) × (s.y < s.h) → (caret.visible ≡ true → (caret.x < s.w) × (caret.y < s.h)) → (hidden ≡ true → s.visible ≡ false) → (hidden ≡ false → known ≡ true → s.visible ≡ was) → IsAt spot s → Placed out.old.items out.new.items s caret result }
+    ensures placed { (s : Page) → (s.x < s.w) × (s.y < s.h) → (caret.visible ≡ true → (caret.x < s.w) × (caret.y < s.h))
+        → (hidden ≡ true → s.visible ≡ false) → (hidden ≡ false → known ≡ true → s.visible ≡ was) → IsAt spot s
+        → Placed out.old.items out.new.items s caret result }
     ensures spot { result ≡ (if caret.visible then record { known = true; x = caret.x; y = caret.y } else spot) }
-    ensures quiet { known ≡ true → hidden ≡ false → was ≡ caret.visible → (caret.visible ≡ true → (spot.known ≡ true) × (spot.x ≡ caret.x) × (spot.y ≡ caret.y)) → out.new.items ≡ out.old.items }
+    ensures quiet { known ≡ true → hidden ≡ false → was ≡ caret.visible
+        → (caret.visible ≡ true → (spot.known ≡ true) × (spot.x ≡ caret.x) × (spot.y ≡ caret.y)) → out.new.items ≡ out.old.items }
     ensures capacity { vec_capacity out.new ≡ vec_capacity out.old }
     ensures few { vec_len out.new ≤ vec_len out.old + 17 }
 {
@@ -139,13 +143,17 @@ pub(crate) fn draw(
     requires few { (0 < size.w) × (size.w ≤ 512) × (size.h ≤ 256) }
     requires lengths { (length cells.now ≡ size.h * size.w) × (length shadow.now ≡ size.h * size.w) × (length marks.now ≡ size.h) }
     requires few_rows { lifting.rows ≤ size.h }
-    requires marked { known ≡ true → lifting.lifted ≡ false → (y : ℕ) → y < size.h → slice_index_or marks.now y false ≡ false → row_of size.w cells.now y ≡ row_of size.w shadow.now y }
+    requires marked { known ≡ true → lifting.lifted ≡ false → (y : ℕ) → y < size.h → slice_index_or marks.now y false ≡ false
+        → row_of size.w cells.now y ≡ row_of size.w shadow.now y }
     requires lifted { known ≡ true → lifting.lifted ≡ true → (y : ℕ) → y < size.h - lifting.rows → row_of size.w cells.now y ≡ row_of size.w shadow.now y }
     requires small { (caret.x < 999) × (caret.y < 999) }
     requires room { vec_len out.old + 80 + size.h * (11 + 57 * size.w) ≤ vec_capacity out.old }
-    ensures drawn { (s : Page) → Stands size.w size.h lifting.attr s → IsAt spot s → (known ≡ true → (s.cells ≡ shadow.now) × (s.visible ≡ was)) → (caret.visible ≡ true → (caret.x < size.w) × (caret.y < size.h)) → Drawn size.w size.h cells.now (size.w * rows_to_paint known size.w size.h cells.now shadow.now) caret result out.old.items out.new.items s }
+    ensures drawn { (s : Page) → Stands size.w size.h lifting.attr s → IsAt spot s → (known ≡ true → (s.cells ≡ shadow.now) × (s.visible ≡ was))
+        → (caret.visible ≡ true → (caret.x < size.w) × (caret.y < size.h))
+        → Drawn size.w size.h cells.now (size.w * rows_to_paint known size.w size.h cells.now shadow.now) caret result out.old.items out.new.items s }
     ensures spot { caret.visible ≡ true → result.spot ≡ record { known = true; x = caret.x; y = caret.y } }
-    ensures quiet { known ≡ true → cells.now ≡ shadow.now → lifting.rows ≡ 0 → was ≡ caret.visible → (caret.visible ≡ true → (spot.known ≡ true) × (spot.x ≡ caret.x) × (spot.y ≡ caret.y)) → out.new.items ≡ out.old.items }
+    ensures quiet { known ≡ true → cells.now ≡ shadow.now → lifting.rows ≡ 0 → was ≡ caret.visible
+        → (caret.visible ≡ true → (spot.known ≡ true) × (spot.x ≡ caret.x) × (spot.y ≡ caret.y)) → out.new.items ≡ out.old.items }
     ensures capacity { vec_capacity out.new ≡ vec_capacity out.old }
     ensures few { vec_len out.new ≤ vec_len out.old + 80 + size.h * (11 + 57 * size.w) }
 {

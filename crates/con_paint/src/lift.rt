@@ -1,11 +1,11 @@
 //! The begin of a frame, which may lift the rows of a terminal.
-ghost use Rattle.std.specs.Prelude.{◌≡◌, ◌+◌, ◌-◌, ◌*◌, ◌<◌, ◌≤◌, ℕ, true, false, not, ◌&&◌, ◌||◌, ◌++◌, [], length, take, drop, replicate, slice_index_or, if◌then◌else◌};
+ghost use Rattle.std.specs.Prelude.{◌≡◌, ◌+◌, ◌-◌, ◌*◌, ◌<◌, ◌≤◌, ℕ, true, false, not, ◌&&◌, ◌++◌};
+ghost use Rattle.std.specs.Prelude.{length, take, drop, replicate, slice_index_or, if◌then◌else◌};
 ghost use Rattle.std.specs.Vec.{vec_len, vec_capacity};
 ghost use Rattle.con_units.specs.Attr.{plain};
 ghost use Rattle.con_units.specs.Glyph.{blank_cell};
 ghost use Rattle.con_units.specs.View.{row_of};
 ghost use Rattle.con_term.specs.Page.{Page};
-ghost use Rattle.con_paint.specs.Leads.{Leads};
 ghost use Rattle.con_paint.specs.Ink.{pen_for};
 ghost use Rattle.con_paint.specs.Checksum.{IsSummed, AreSummed};
 ghost use Rattle.con_paint.specs.Compared.{same_cells, differing, IsLifted};
@@ -186,7 +186,8 @@ fn scroll(
     requires few { (size.w ≤ 512) × (size.h ≤ 256) × (by ≤ size.h) × (0 < by) }
     requires cells { length shadow.old.items ≡ size.h * size.w }
     requires room { vec_len out.old + 50 ≤ vec_capacity out.old }
-    ensures lifted { (s : Page) → s.w ≡ size.w → s.h ≡ size.h → s.x < s.w → s.pen ≡ pen_for before → IsAt at s → Lifted size.w (lifted_cells s.cells (by * size.w)) result (plain 7) out.old.items out.new.items s }
+    ensures lifted { (s : Page) → s.w ≡ size.w → s.h ≡ size.h → s.x < s.w → s.pen ≡ pen_for before → IsAt at s
+        → Lifted size.w (lifted_cells s.cells (by * size.w)) result (plain 7) out.old.items out.new.items s }
     ensures cells { shadow.new.items ≡ lifted_cells shadow.old.items (by * size.w) }
     ensures capacity { vec_capacity out.new ≡ vec_capacity out.old }
     ensures few { vec_len out.new ≤ vec_len out.old + 50 }
@@ -225,7 +226,8 @@ fn lift_by_least(
     requires rows { rows ≡ differing size.w size.h cells.now shadow.old.items }
     requires summed { AreSummed true size.w size.h cells.now shadow.old.items sums.now }
     requires room { vec_len out.old + 50 ≤ vec_capacity out.old }
-    ensures lifts { Lifts size.w size.h true cells.now shadow.old.items shadow.new.items at result.spot before result.attr result.lifted result.rows out.old.items out.new.items }
+    ensures lifts { Lifts size.w size.h true cells.now shadow.old.items shadow.new.items at result.spot before result.attr result.lifted result.rows
+        out.old.items out.new.items }
     ensures capacity { vec_capacity out.new ≡ vec_capacity out.old }
     ensures few { vec_len out.new ≤ vec_len out.old + 50 }
 {
@@ -258,7 +260,8 @@ fn lift_if(
     requires rows { rows ≡ differing size.w size.h cells.now shadow.old.items }
     requires summed { AreSummed true size.w size.h cells.now shadow.old.items sums.now }
     requires room { vec_len out.old + 50 ≤ vec_capacity out.old }
-    ensures lifts { Lifts size.w size.h true cells.now shadow.old.items shadow.new.items at result.spot before result.attr result.lifted result.rows out.old.items out.new.items }
+    ensures lifts { Lifts size.w size.h true cells.now shadow.old.items shadow.new.items at result.spot before result.attr result.lifted result.rows
+        out.old.items out.new.items }
     ensures capacity { vec_capacity out.new ≡ vec_capacity out.old }
     ensures few { vec_len out.new ≤ vec_len out.old + 50 }
 {
@@ -287,7 +290,8 @@ pub(crate) fn begin(
     requires rows { rows ≡ rows_to_paint known size.w size.h cells.now shadow.old.items }
     requires summed { AreSummed known size.w size.h cells.now shadow.old.items sums.now }
     requires room { vec_len out.old + 53 ≤ vec_capacity out.old }
-    ensures lifts { Lifts size.w size.h known cells.now shadow.old.items shadow.new.items at result.spot before result.attr result.lifted result.rows out.old.items out.new.items }
+    ensures lifts { Lifts size.w size.h known cells.now shadow.old.items shadow.new.items at result.spot before result.attr result.lifted result.rows
+        out.old.items out.new.items }
     ensures capacity { vec_capacity out.new ≡ vec_capacity out.old }
     ensures few { vec_len out.new ≤ vec_len out.old + 53 }
 {

@@ -93,7 +93,8 @@ fn keep_rows(
 )
     requires few { (size.w ≤ 512) × (size.h ≤ 256) × (rows ≤ size.h) }
     requires lengths { (length cells.now ≡ size.h * size.w) × (length shadow.old ≡ size.h * size.w) × (length marks.now ≡ size.h) }
-    requires marked { known ≡ true → lifted ≡ false → (y : ℕ) → y < size.h → slice_index_or marks.now y false ≡ false → row_of size.w cells.now y ≡ row_of size.w shadow.old y }
+    requires marked { known ≡ true → lifted ≡ false → (y : ℕ) → y < size.h → slice_index_or marks.now y false ≡ false
+        → row_of size.w cells.now y ≡ row_of size.w shadow.old y }
     requires lifted { known ≡ true → lifted ≡ true → (y : ℕ) → y < size.h - rows → row_of size.w cells.now y ≡ row_of size.w shadow.old y }
     ensures { shadow.new ≡ cells.now }
 {
@@ -120,7 +121,8 @@ fn keep(
 )
     requires few { (size.w ≤ 512) × (size.h ≤ 256) × (rows ≤ size.h) }
     requires lengths { (length cells.now ≡ size.h * size.w) × (length shadow.old.items ≡ size.h * size.w) × (length marks.now ≡ size.h) }
-    requires marked { known ≡ true → lifted ≡ false → (y : ℕ) → y < size.h → slice_index_or marks.now y false ≡ false → row_of size.w cells.now y ≡ row_of size.w shadow.old.items y }
+    requires marked { known ≡ true → lifted ≡ false → (y : ℕ) → y < size.h → slice_index_or marks.now y false ≡ false
+        → row_of size.w cells.now y ≡ row_of size.w shadow.old.items y }
     requires lifted { known ≡ true → lifted ≡ true → (y : ℕ) → y < size.h - rows → row_of size.w cells.now y ≡ row_of size.w shadow.old.items y }
     ensures { shadow.new.items ≡ cells.now }
 {
@@ -179,7 +181,8 @@ impl Painter {
         requires view { IsWhole view.now }
         requires size { (view.now.size.w ≡ self.old.w) × (view.now.size.h ≡ self.old.h) }
         requires marks { length marks.now ≡ self.old.h }
-        requires marked { self.old.known ≡ true → (y : ℕ) → y < self.old.h → slice_index_or marks.now y false ≡ false → row_of self.old.w view.now.rows y ≡ row_of self.old.w self.old.cells y }
+        requires marked { self.old.known ≡ true → (y : ℕ) → y < self.old.h → slice_index_or marks.now y false ≡ false
+            → row_of self.old.w view.now.rows y ≡ row_of self.old.w self.old.cells y }
         requires room { vec_len out.old + frame_room self.old.w self.old.h ≤ vec_capacity out.old }
         ensures paints { (t : Terminal) → Allows self.old t → Paints self.old self.new view.now (drop (length out.old.items) out.new.items) t }
         ensures appends { out.new.items ≡ out.old.items ++ drop (length out.old.items) out.new.items }
@@ -189,6 +192,7 @@ impl Painter {
         ensures capacity { vec_capacity out.new ≡ vec_capacity out.old }
         ensures few { vec_len out.new ≤ vec_len out.old + frame_room self.old.w self.old.h }
     {
+        // it opens the painter: what it has kept is known to each call below, for all clauses
         let _ = &self.size;
         let caret = caret_of(view);
         let cells = view.rows.as_slice();

@@ -1,5 +1,5 @@
 //! Pens: the shortest control sequence that makes the pen of one attribute that of another.
-ghost use Rattle.std.specs.Prelude.{◌≡◌, ◌+◌, ◌/◌, ◌%◌, ◌<◌, ◌≤◌, ◌++◌, ◌==◌, ℕ, true, false, nat_le, ◌||◌};
+ghost use Rattle.std.specs.Prelude.{◌≡◌, ◌+◌, ◌/◌, ◌%◌, ◌<◌, ◌≤◌, ◌++◌, ◌==◌, true, false, nat_le, ◌||◌};
 ghost use Rattle.std.specs.Vec.{vec_len, vec_capacity};
 ghost use Rattle.con_units.specs.Attr.{IsAttribute};
 ghost use Rattle.con_term.specs.Nibble.{nibble as nibble_of};

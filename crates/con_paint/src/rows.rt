@@ -80,7 +80,8 @@ fn first_rows(
 ) -> State
     requires few { (0 < size.w) × (size.w ≤ 512) × (size.h ≤ 256) × (tail ≤ size.h) }
     requires lengths { (length cells.now ≡ size.h * size.w) × (length shadow.now ≡ size.h * size.w) × (length marks.now ≡ size.h) }
-    requires marked { known ≡ true → lifted ≡ false → (y : ℕ) → y < size.h → slice_index_or marks.now y false ≡ false → row_of size.w cells.now y ≡ row_of size.w shadow.now y }
+    requires marked { known ≡ true → lifted ≡ false → (y : ℕ) → y < size.h → slice_index_or marks.now y false ≡ false
+        → row_of size.w cells.now y ≡ row_of size.w shadow.now y }
     requires lifted { known ≡ true → lifted ≡ true → (y : ℕ) → y < first → row_of size.w cells.now y ≡ row_of size.w shadow.now y }
     requires room { vec_len out.old + size.h * (11 + 57 * size.w) ≤ vec_capacity out.old }
     ensures rows { Rows size.w size.h cells.now shadow.now known before out.old.items out.new.items tail result }
@@ -208,7 +209,8 @@ pub(crate) fn rows(
     requires blank { drop (tail * size.w) cells.now ≡ replicate ((size.h - tail) * size.w) blank_cell }
     requires differ { rows_to_paint known size.w size.h cells.now shadow.now ≡ rows_to_paint known size.w tail cells.now shadow.now + (size.h - tail) }
     requires lengths { (length cells.now ≡ size.h * size.w) × (length shadow.now ≡ size.h * size.w) × (length marks.now ≡ size.h) }
-    requires marked { known ≡ true → lifted ≡ false → (y : ℕ) → y < size.h → slice_index_or marks.now y false ≡ false → row_of size.w cells.now y ≡ row_of size.w shadow.now y }
+    requires marked { known ≡ true → lifted ≡ false → (y : ℕ) → y < size.h → slice_index_or marks.now y false ≡ false
+        → row_of size.w cells.now y ≡ row_of size.w shadow.now y }
     requires lifted { known ≡ true → lifted ≡ true → (y : ℕ) → y < first → row_of size.w cells.now y ≡ row_of size.w shadow.now y }
     requires room { vec_len out.old + 57 + size.h * (11 + 57 * size.w) ≤ vec_capacity out.old }
     ensures rows { Rows size.w size.h cells.now shadow.now known before out.old.items out.new.items size.h result }

@@ -1,5 +1,5 @@
 //! The part of a row that is written: from the first cell that differs to the last one, or to the blanks at the row's end.
-ghost use Rattle.std.specs.Prelude.{◌≡◌, ◌+◌, ◌-◌, ◌*◌, ◌<◌, ◌≤◌, ℕ, List, Bool, true, false, length, take, drop, replicate};
+ghost use Rattle.std.specs.Prelude.{◌≡◌, ◌+◌, ◌-◌, ◌*◌, ◌<◌, ◌≤◌, ℕ, List, true, false, length, take, drop, replicate};
 ghost use Rattle.std.specs.Vec.{vec_len, vec_capacity};
 ghost use Rattle.con_units.specs.Attr.{plain};
 ghost use Rattle.con_units.specs.Glyph.{Glyph, blank_cell};
@@ -217,7 +217,9 @@ pub(crate) fn line(
     requires lengths { length row.now ≡ length was.now }
     requires inside { spans.IsSpan row.now span }
     requires room { vec_len out.old + 11 + 57 * length row.now ≤ vec_capacity out.old }
-    ensures painted { (h : ℕ) (s : Page) → Stands (length row.now) h before.attr s → IsAt before.spot s → y < h → (known ≡ true → row_of (length row.now) s.cells y ≡ was.now) → take span.from row.now ≡ take span.from (row_of (length row.now) s.cells y) → spans.patched (row_of (length row.now) s.cells y) row.now span ≡ row.now → Painted (length row.now) h y result row.now out.old.items out.new.items s }
+    ensures painted { (h : ℕ) (s : Page) → Stands (length row.now) h before.attr s → IsAt before.spot s → y < h
+        → (known ≡ true → row_of (length row.now) s.cells y ≡ was.now) → take span.from row.now ≡ take span.from (row_of (length row.now) s.cells y)
+        → spans.patched (row_of (length row.now) s.cells y) row.now span ≡ row.now → Painted (length row.now) h y result row.now out.old.items out.new.items s }
     ensures capacity { vec_capacity out.new ≡ vec_capacity out.old }
     ensures few { vec_len out.new ≤ vec_len out.old + 11 + 57 * length row.now }
 {
