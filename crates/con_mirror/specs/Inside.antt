@@ -12,7 +12,8 @@ use Rattle.con_mirror.specs.declared.mirror.Mirror.TheInside.{Inside}
 
 -- where the part begins where the one before did, its rows whose rows of the view have no mark stand there
 abbrev pub IsSince : View → List Bool → ℕ → ℕ → ℕ → ℕ → Bool → List Glyph → Type 0
-IsSince v since left top w h stays cells = stays ≡ true → (k : ℕ) → k < h → top + k < length since → slice_index_or since (top + k) false ≡ false → part_row v left w (top + k) ≡ row_of w cells k
+IsSince v since left top w h stays cells = stays ≡ true → (k : ℕ) → k < h → top + k < length since → slice_index_or since (top + k) false ≡ false
+    → part_row v left w (top + k) ≡ row_of w cells k
 
 -- the view that was given last, if one was
 abbrev pub given_in : Option Given → Option View

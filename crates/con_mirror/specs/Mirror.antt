@@ -15,7 +15,8 @@ pub record Following : Type 0 where
 -- A mark for each row of a view. One without is as it was in the view that was given last.
 pub record AreSince (given : Option View) (v : View) (marks : List Bool) : Type 0 where
   pub count : length marks ≡ v.size.h
-  pub same : (last : View) → given ≡ Some last → (y : ℕ) → y < v.size.h → slice_index_or marks y false ≡ false → (last.size.w ≡ v.size.w) × (row_of v.size.w v.rows y ≡ row_of v.size.w last.rows y)
+  pub same : (last : View) → given ≡ Some last → (y : ℕ) → y < v.size.h → slice_index_or marks y false ≡ false
+      → (last.size.w ≡ v.size.w) × (row_of v.size.w v.rows y ≡ row_of v.size.w last.rows y)
 
 -- the size of a painter's terminal
 abbrev pub size_in : Kept → Size

@@ -1,7 +1,6 @@
 //! The part of a view that a terminal of another size shows.
 ghost use Rattle.std.specs.Prelude.{◌≡◌, ℕ, ◌+◌, ◌*◌, ◌<◌, ◌≤◌, ◌≤ℤ◌, pos, true, false, ◌++◌, get_or, length, replicate, slice_index_or, take, drop};
 ghost use Rattle.con_units.specs.Glyph.{blank_cell};
-ghost use Rattle.con_units.specs.Limits.{IsWindow};
 ghost use Rattle.con_units.specs.Natural.{natural};
 ghost use Rattle.con_units.specs.View.{row_of, IsWhole};
 ghost use Rattle.con_mirror.specs.Part.{corner, cursor_from, left_of, padded, part, part_rows, top_of};
@@ -258,7 +257,8 @@ pub(crate) fn put_part(
     requires since { IsSince view.now since.now corner.left corner.top shown.old.size.w shown.old.size.h stays shown.old.rows }
     ensures part { shown.new ≡ part view.now shown.old.size }
     ensures count { length marks.new ≡ shown.old.size.h }
-    ensures same { (y : ℕ) → y < shown.old.size.h → slice_index_or marks.new y false ≡ false → row_of shown.old.size.w shown.new.rows y ≡ row_of shown.old.size.w shown.old.rows y }
+    ensures same { (y : ℕ) → y < shown.old.size.h → slice_index_or marks.new y false ≡ false
+        → row_of shown.old.size.w shown.new.rows y ≡ row_of shown.old.size.w shown.old.rows y }
 {
     let size = shown.size;
     renew(
