@@ -1,9 +1,9 @@
 //! The control handlers of a client of a run that is audited, as numbers.
-ghost use Rattle.std.specs.Prelude.{◌≡◌, ℕ, map, option_map, Option, length, is_some, unwrap_or};
+ghost use Rattle.std.specs.Prelude.{◌≡◌, Option};
 ghost use Rattle.con_handlers.specs.Answers.{answer, raised};
 ghost use Rattle.con_handlers.specs.Delivery.{newest};
-ghost use Rattle.con_machine.specs.Chain.{Handler, answers_to, asked_once, delivered_to, is_handled, without_handler};
-ghost use Rattle.con_audit.specs.Links.{handler_of, handlers_of};
+ghost use Rattle.con_machine.specs.Chain.{answers_to, asked_once, delivered_to, is_handled, without_handler};
+ghost use Rattle.con_audit.specs.Links.{handlers_of};
 
 /// A handler: its place in the rack, its kind, and how often it was asked.
 #[derive(Clone, Copy, PartialEq, Eq, Debug)]

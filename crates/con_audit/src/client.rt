@@ -1,7 +1,7 @@
 //! A client of a run that is audited: how far it is, and what it may enter next.
 ghost use Rattle.std.specs.Prelude.{◌≡◌, ◌↔◌, ◌==◌, true, drop, get_or, MatchResult, if◌then◌else◌};
 ghost use Rattle.con_events.specs.declared.call.Call.TheVariants as calls;
-ghost use Rattle.con_machine.specs.Client.{starting, event_of, next_event, due, ctrl_exit, is_fail, MayGoOn, MayBy, chained, took, moved_on};
+ghost use Rattle.con_machine.specs.Client.{starting, event_of, next_event, due, is_fail, MayGoOn, MayBy, chained, took, moved_on};
 ghost use Rattle.con_machine.specs.Client as client;
 ghost use Rattle.con_audit.specs.Judging.{is_gone};
 ghost use Rattle.con_audit.specs.Track.{stance_of, turn};

@@ -1,5 +1,5 @@
 //! The frames of a link that stands in memory.
-ghost use Rattle.std.specs.Prelude.{◌≡◌, ◌≤◌, Some, drop, length, IfOk};
+ghost use Rattle.std.specs.Prelude.{◌≤◌, Some, drop, length, IfOk};
 ghost use Rattle.con_audit.specs.Audit.{AreFrames};
 
 use con_link::{LinkFault, all_frames};

@@ -1,5 +1,5 @@
 //! What is known behind the entries of a run that is audited, and what is found of one entry more.
-ghost use Rattle.std.specs.Prelude.{◌≡◌, ◌↔◌, ◌<◌, ◌≤◌, ◌-◌, ◌&&◌, ◌==◌, ℕ, List, [], true, false, not, length, map, set, get_or, slice_get, All, Some, IfOk};
+ghost use Rattle.std.specs.Prelude.{◌≡◌, ◌↔◌, ◌<◌, ◌≤◌, ◌-◌, ◌&&◌, ◌==◌, List, [], true, false, not, length, map, set, get_or, slice_get, All, Some, IfOk};
 ghost use Rattle.con_units.specs.declared.place.Size.{Size};
 ghost use Rattle.con_units.specs.declared.view.Frame.{Frame};
 ghost use Rattle.con_units.specs.declared.view.View.{View};
@@ -20,7 +20,7 @@ ghost use Rattle.con_audit.specs.Audit.{Given, last_end};
 ghost use Rattle.con_audit.specs.Partial.{IsKnown};
 ghost use Rattle.con_audit.specs.Side.{Side as Sides};
 ghost use Rattle.con_audit.specs.Track.{turn};
-ghost use Rattle.con_audit.specs.Watching.{watching, watched, IsSeen};
+ghost use Rattle.con_audit.specs.Watching.{watched, IsSeen};
 ghost use Rattle.con_audit.specs.Judging.{AreTracks, Stands, IsSaid, MayStand, EndsAt, Pictures, client_at, entered_by, side_by, all_gone, Judges, IsAnswered};
 
 use crate::client::Track;

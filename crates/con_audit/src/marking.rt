@@ -2,10 +2,11 @@
 ghost use Rattle.std.specs.Prelude.{◌≡◌, ℕ, ◌&&◌, ◌==◌, true, false, not, length, fold, option_to_list, if◌then◌else◌};
 ghost use Rattle.con_term.specs.Effect.{effect};
 ghost use Rattle.con_term.specs.Pen.{starting_pen};
-ghost use Rattle.con_term.specs.Page.{IsPage, Page};
+ghost use Rattle.con_term.specs.Page.{Page};
 ghost use Rattle.con_vtgram.specs.State.{item_of};
 ghost use Rattle.con_vtgram.specs.declared.item.Item.TheVariants as Item;
-ghost use Rattle.con_audit.specs.Known.{ink, marked, final, rests_on_cursor, tells_cursor, tells_visible, tells_pen, all_learned, has_zero, reading, resets, is_single};
+ghost use Rattle.con_audit.specs.Known.{ink, marked, final, rests_on_cursor, tells_cursor, tells_visible};
+ghost use Rattle.con_audit.specs.Known.{tells_pen, all_learned, has_zero, reading, resets, is_single};
 ghost use Rattle.con_audit.specs.Flags.{any_of, known_by, is_sgr, forgotten, shade_csi, lift_csi, plain_csi, flags_after, next_place};
 
 use con_term::page::Page;
@@ -96,6 +97,7 @@ fn rests_on_cursor(found: Found, unit: u16, csi: &Csi) -> bool
 fn tells_cursor(found: Found, unit: u16, csi: &Csi) -> bool
     ensures { result ≡ any_of tells_cursor (item_of found unit csi.now) }
 {
+    // no item of one unit tells it: the clause alone speaks of the unit
     let _ = unit;
     match found {
         Found::Sequence => {
@@ -109,6 +111,7 @@ fn tells_cursor(found: Found, unit: u16, csi: &Csi) -> bool
 fn tells_visible(found: Found, unit: u16, csi: &Csi) -> bool
     ensures { result ≡ any_of tells_visible (item_of found unit csi.now) }
 {
+    // no item of one unit tells it: the clause alone speaks of the unit
     let _ = unit;
     match found {
         Found::Sequence => {
