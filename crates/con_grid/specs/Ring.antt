@@ -28,7 +28,8 @@ pub record IsRun (len top from upto : ℕ) : Type 0 where
 -- the cells from one place up to another lie side by side in the block, from `at` on
 pub record IsSpot (block : List Glyph) (top from upto at : ℕ) : Type 0 where
   pub inside : at + (upto - from) ≤ length block
-  pub over : (part : List Glyph) → length part ≡ upto - from → turned (written_over block at (at + (upto - from)) part) top ≡ written_over (turned block top) from upto part
+  pub over : (part : List Glyph) → length part ≡ upto - from
+      → turned (written_over block at (at + (upto - from)) part) top ≡ written_over (turned block top) from upto part
   pub part : part_of (turned block top) from upto ≡ part_of block at (at + (upto - from))
 
 -- the cell at a place lies at `i` of the block

@@ -1,6 +1,7 @@
 //! The grid.
-ghost use Rattle.std.specs.Prelude.{◌≡◌, ℕ, ◌+◌, ◌-◌, ◌*◌, ◌<◌, ◌≤◌, ◌^◌, Some, None, slice_set, slice_get, length, replicate, true, false, IfOk};
-ghost use Rattle.con_grid.specs.Picture.{IsInside, IsPicture, IsUntouched, place, filled, part_lifted, part_lowered, lifted, raised, rows_shifted, units_put, resized, cell_of};
+ghost use Rattle.std.specs.Prelude.{◌≡◌, ℕ, ◌+◌, ◌-◌, ◌*◌, ◌<◌, ◌≤◌, ◌^◌, Some, None, slice_set, slice_get, length, replicate, true, IfOk};
+ghost use Rattle.con_grid.specs.Picture.{IsInside, IsPicture, IsUntouched, place, filled, part_lifted, part_lowered};
+ghost use Rattle.con_grid.specs.Picture.{lifted, raised, rows_shifted, units_put, resized, cell_of};
 ghost use Rattle.con_grid.specs.Parts.{PartsFollowRows};
 ghost use Rattle.con_units.specs.Plain.{is_plain};
 ghost use Rattle.std.specs.List.{list_all};
@@ -276,7 +277,8 @@ impl Grid {
         requires some { (0 < size.w) × (0 < size.h) }
         requires few { (size.w ≤ 512) × (size.h ≤ 2048) }
         ensures grid { IfOk result (λ g. g ≡ resized self.now size.w size.h lost cell) }
-        ensures cells { IfOk result (λ g. (x y : ℕ) → x < size.w → y < size.h → cell_of g.cells size.w x y cell ≡ cell_of self.now.cells self.now.width x (y + lost) cell) }
+        ensures cells { IfOk result (λ g. (x y : ℕ) → x < size.w → y < size.h
+            → cell_of g.cells size.w x y cell ≡ cell_of self.now.cells self.now.width x (y + lost) cell) }
         ensures picture { IfOk result (λ g. IsPicture g) }
     {
         let alloc = self.cells.allocator();
