@@ -1,5 +1,6 @@
 -- Runs of cells: row by row from a place up to the end of the grid.
-use Rattle.std.specs.Prelude.{ℕ, pos, ◌+◌, ◌*◌, ◌-◌, List, length, replicate, take, drop, min, slice_index_or, Bool, nat_le, nat_lt, int_le, ◌&&◌, if◌then◌else◌}
+use Rattle.std.specs.Prelude.{ℕ, pos, ◌+◌, ◌*◌, ◌-◌, List, length, replicate, take, drop, min, slice_index_or}
+use Rattle.std.specs.Prelude.{Bool, nat_le, nat_lt, int_le, ◌&&◌, if◌then◌else◌}
 use Rattle.con_units.specs.Glyph.{Glyph}
 use Rattle.con_units.specs.Stored.{stored_unit}
 use Rattle.con_units.specs.Attr.{plain}

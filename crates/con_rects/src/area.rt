@@ -1,5 +1,5 @@
 //! The part of a rectangle that a buffer has.
-ghost use Rattle.std.specs.Prelude.{◌≡◌, ℕ, ℤ, pos, negsuc, ◌-ℤ◌, ◌+ℤ◌, ◌<◌, ◌≤◌, ◌^◌, ◌↔◌, ◌⊎◌};
+ghost use Rattle.std.specs.Prelude.{◌≡◌, ℤ, pos, negsuc, ◌-ℤ◌, ◌<◌, ◌≤◌, ◌↔◌};
 ghost use Rattle.con_units.specs.Natural.{natural};
 ghost use Rattle.con_units.specs.Rect.{IsIn};
 ghost use Rattle.con_rects.specs.Area.{past, area_in, area_size, is_within, has_cells, used_rect, rect_of, whole, wide};
@@ -124,7 +124,8 @@ pub fn used(size: Size, rect: Rect) -> Rect
     requires tall { size.h ≤ 2048 }
     ensures rect { result ≡ used_rect rect size.w size.h }
     ensures common { (x y : ℤ) → IsIn result x y ↔ (IsIn rect x y × IsIn (whole size.w size.h) x y) }
-    ensures none { ((x y : ℤ) → ¬ (IsIn rect x y × IsIn (whole size.w size.h) x y)) → result ≡ record { left = pos 0; top = pos 0; right = negsuc 0; bottom = negsuc 0 } }
+    ensures none { ((x y : ℤ) → ¬ (IsIn rect x y × IsIn (whole size.w size.h) x y))
+        → result ≡ record { left = pos 0; top = pos 0; right = negsuc 0; bottom = negsuc 0 } }
 {
     area_of(&rect, size.w as usize, size.h as usize).rect()
 }

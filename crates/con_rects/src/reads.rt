@@ -1,7 +1,7 @@
 //! Reading the cells of a rectangle or a run.
-ghost use Rattle.std.specs.Prelude.{true, take, drop, ◌≡◌, ℕ, ◌+◌, ◌-◌, ◌*◌, ◌<◌, ◌≤◌, [], min, length, vec_capacity, slice_get, Some, IfOk, IfErr};
+ghost use Rattle.std.specs.Prelude.{true, take, drop, ◌≡◌, ◌+◌, ◌-◌, ◌*◌, ◌<◌, ◌≤◌, [], min, length, vec_capacity, slice_get, Some, IfOk, IfErr};
 ghost use Rattle.con_units.specs.declared.code.Code.TheVariants.{Limit};
-ghost use Rattle.con_rects.specs.Area.{area_in, has_cells, area_size, used_size, used_rect, columns_of, rows_of};
+ghost use Rattle.con_rects.specs.Area.{has_cells, area_size, used_size, used_rect};
 ghost use Rattle.con_rects.specs.Rules.{area_cells, rect_cells, as_read};
 ghost use Rattle.con_rects.specs.Runs.{run_count, run_cells};
 
@@ -42,7 +42,8 @@ fn read_area(grid: &Grid, area: &Area, out: &mut Vec<Cell>)
 pub fn read_rect(grid: &Grid, rect: Rect, out: &mut Vec<Cell>) -> Result<Rect, Code>
     requires empty { out.old.items ≡ [] }
     requires spare { min 16384 (used_size rect grid.now.width grid.now.height) ≤ vec_capacity out.old }
-    ensures done { IfOk result (λ r. (used_size rect grid.now.width grid.now.height ≤ 16384) × (r ≡ used_rect rect grid.now.width grid.now.height) × (out.new.items ≡ rect_cells grid.now rect)) }
+    ensures done { IfOk result (λ r. (used_size rect grid.now.width grid.now.height ≤ 16384) × (r ≡ used_rect rect grid.now.width grid.now.height)
+        × (out.new.items ≡ rect_cells grid.now rect)) }
     ensures refused { IfErr result (λ e. (e ≡ Limit) × (16384 < used_size rect grid.now.width grid.now.height) × (out.new.items ≡ [])) }
 {
     let size = grid.size();
@@ -62,6 +63,7 @@ fn read_cells(grid: &Grid, from: usize, n: usize, out: &mut Vec<Cell>)
     requires spare { n ≤ vec_capacity out.old }
     ensures cells { out.new.items ≡ take n (drop from (as_read grid.now).cells) }
 {
+    // the grid is a picture, for `cells`
     let _size = grid.size();
     for k in 0..n {
         out.push_reserved(read_cell(grid, from + k));

@@ -1,10 +1,10 @@
 //! Writing over the cells of a run.
-ghost use Rattle.std.specs.Prelude.{replicate, ◌≡◌, ℕ, ℤ, pos, ◌+◌, ◌-◌, ◌*◌, ◌<◌, ◌≤◌, ◌≤ℤ◌, ◌^◌, ◌&&◌, min, length, int_le, nat_lt, slice_index_or, slice_get, Some, IfOk, IfErr};
-ghost use Rattle.con_units.specs.Natural.{natural};
+ghost use Rattle.std.specs.Prelude.{replicate, ◌≡◌, ◌+◌, ◌-◌, ◌*◌, ◌<◌, ◌≤◌, ◌^◌, ◌&&◌, min, length, IfOk, IfErr};
 ghost use Rattle.con_units.specs.declared.code.Code.TheVariants.{Limit};
 ghost use Rattle.con_grid.specs.Picture.{IsPicture, place as place_of};
 ghost use Rattle.con_rects.specs.Rules.{redrawn};
-ghost use Rattle.con_rects.specs.Runs.{has_place, run_length, run_count, run_rule, run_cells, with_unit, with_word, units_written, words_written, unit_filled, word_filled};
+ghost use Rattle.con_rects.specs.Runs.{has_place, run_length, run_count, run_rule, with_unit};
+ghost use Rattle.con_rects.specs.Runs.{with_word, units_written, words_written, unit_filled, word_filled};
 
 use crate::area::natural_of;
 use con_grid::Grid;
@@ -61,6 +61,7 @@ fn fill_unit(grid: &mut Grid, from: usize, n: usize, unit: u16)
     ensures grid { grid.new ≡ redrawn grid.old (run_rule grid.old from n with_unit (replicate n unit)) }
     ensures picture { IsPicture grid.new }
 {
+    // the grid is a picture, for `picture` where nothing is written
     let _size = grid.size();
     for k in 0..n {
         let cell = other_unit(grid.at(from + k), unit);
@@ -74,6 +75,7 @@ fn fill_word(grid: &mut Grid, from: usize, n: usize, word: u16)
     ensures grid { grid.new ≡ redrawn grid.old (run_rule grid.old from n with_word (replicate n word)) }
     ensures picture { IsPicture grid.new }
 {
+    // the grid is a picture, for `picture` where nothing is written
     let _size = grid.size();
     for k in 0..n {
         let cell = other_word(grid.at(from + k), word);
@@ -88,6 +90,7 @@ fn write_units(grid: &mut Grid, from: usize, n: usize, units: &[u16])
     ensures grid { grid.new ≡ redrawn grid.old (run_rule grid.old from n with_unit units.now) }
     ensures picture { IsPicture grid.new }
 {
+    // the grid is a picture, for `picture` where nothing is written
     let _size = grid.size();
     for k in 0..n {
         let cell = other_unit(grid.at(from + k), units[k]);
@@ -102,6 +105,7 @@ fn write_words(grid: &mut Grid, from: usize, n: usize, words: &[u16])
     ensures grid { grid.new ≡ redrawn grid.old (run_rule grid.old from n with_word words.now) }
     ensures picture { IsPicture grid.new }
 {
+    // the grid is a picture, for `picture` where nothing is written
     let _size = grid.size();
     for k in 0..n {
         let cell = other_word(grid.at(from + k), words[k]);
@@ -114,7 +118,8 @@ fn write_words(grid: &mut Grid, from: usize, n: usize, words: &[u16])
 ///
 /// A start outside the grid changes none. `Limit` says that there are more than 16,384.
 pub fn write_run_units(grid: &mut Grid, from: Coord, units: &[u16]) -> Result<u32, Code>
-    ensures done { IfOk result (λ r. (run_count grid.old from (length units.now) ≤ 16384) × (r ≡ run_count grid.old from (length units.now)) × (grid.new ≡ units_written grid.old from units.now)) }
+    ensures done { IfOk result (λ r. (run_count grid.old from (length units.now) ≤ 16384) × (r ≡ run_count grid.old from (length units.now))
+        × (grid.new ≡ units_written grid.old from units.now)) }
     ensures refused { IfErr result (λ e. (e ≡ Limit) × (16384 < run_count grid.old from (length units.now)) × (grid.new ≡ grid.old)) }
     ensures picture { IsPicture grid.new }
 {
@@ -132,7 +137,8 @@ pub fn write_run_units(grid: &mut Grid, from: Coord, units: &[u16]) -> Result<u3
 ///
 /// A start outside the grid changes none. `Limit` says that there are more than 16,384.
 pub fn write_run_attrs(grid: &mut Grid, from: Coord, words: &[u16]) -> Result<u32, Code>
-    ensures done { IfOk result (λ r. (run_count grid.old from (length words.now) ≤ 16384) × (r ≡ run_count grid.old from (length words.now)) × (grid.new ≡ words_written grid.old from words.now)) }
+    ensures done { IfOk result (λ r. (run_count grid.old from (length words.now) ≤ 16384) × (r ≡ run_count grid.old from (length words.now))
+        × (grid.new ≡ words_written grid.old from words.now)) }
     ensures refused { IfErr result (λ e. (e ≡ Limit) × (16384 < run_count grid.old from (length words.now)) × (grid.new ≡ grid.old)) }
     ensures picture { IsPicture grid.new }
 {

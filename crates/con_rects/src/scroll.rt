@@ -1,8 +1,8 @@
 //! Scrolling a rectangle.
-ghost use Rattle.std.specs.Prelude.{◌≡◌, ℕ, ◌+◌, ◌-◌, ◌*◌, ◌<◌, ◌≤◌, true, false};
+ghost use Rattle.std.specs.Prelude.{◌≡◌, ◌+◌, ◌-◌, ◌*◌, ◌<◌, ◌≤◌, true, false};
 ghost use Rattle.con_units.specs.Glyph.{plain_cell};
 ghost use Rattle.con_grid.specs.Picture.{IsPicture};
-ghost use Rattle.con_rects.specs.Area.{area_in, has_cells};
+ghost use Rattle.con_rects.specs.Area.{has_cells};
 ghost use Rattle.con_rects.specs.Rules.{redrawn};
 ghost use Rattle.con_rects.specs.Scroll.{scrolled};
 ghost use Rattle.con_rects.specs.Moves.{shift_to, clip_area, common, shifted, move_rule, free_rule, goes_back, goes_on, ComesFrom};
@@ -160,6 +160,7 @@ fn move_into(grid: &mut Grid, to: &Area, shift: &Shift)
     ensures grid { grid.new ≡ redrawn grid.old (move_rule grid.old to.now shift.now) }
     ensures picture { IsPicture grid.new }
 {
+    // the grid is a picture, for `picture` where nothing is written
     let _size = grid.size();
     if to.has_cells() {
         move_cells(grid, to, shift);
@@ -173,6 +174,7 @@ fn fill_out(grid: &mut Grid, from: &Area, to: &Area, fill: Cell)
     ensures grid { grid.new ≡ redrawn grid.old (free_rule grid.old from.now to.now fill) }
     ensures picture { IsPicture grid.new }
 {
+    // the grid is a picture, for `picture` where nothing is written
     let _size = grid.size();
     if from.has_cells() {
         fill_left(grid, from, to, fill);

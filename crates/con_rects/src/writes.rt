@@ -1,5 +1,5 @@
 //! Writing over the cells of a rectangle.
-ghost use Rattle.std.specs.Prelude.{true, ◌≡◌, ℕ, ℤ, pos, ◌-ℤ◌, ◌+◌, ◌*◌, ◌<◌, ◌≤◌, ◌^◌, length, slice_index_or, IfOk, IfErr};
+ghost use Rattle.std.specs.Prelude.{true, ◌≡◌, pos, ◌-ℤ◌, ◌+◌, ◌*◌, ◌<◌, ◌≤◌, ◌^◌, length, slice_index_or, IfOk, IfErr};
 ghost use Rattle.con_units.specs.Natural.{natural};
 ghost use Rattle.con_units.specs.Glyph.{plain_cell};
 ghost use Rattle.con_units.specs.declared.code.Code.TheVariants.{Limit};
@@ -53,7 +53,8 @@ fn write_area(grid: &mut Grid, area: &Area, rect: &Rect, cells: &[Cell])
 /// `Limit` says that this part has more than 16,384 cells.
 pub fn write_rect(grid: &mut Grid, rect: Rect, cells: &[Cell]) -> Result<Rect, Code>
     requires full { length cells.now ≡ cell_count rect }
-    ensures done { IfOk result (λ r. (used_size rect grid.old.width grid.old.height ≤ 16384) × (r ≡ used_rect rect grid.old.width grid.old.height) × (grid.new ≡ rect_written grid.old rect cells.now)) }
+    ensures done { IfOk result (λ r. (used_size rect grid.old.width grid.old.height ≤ 16384) × (r ≡ used_rect rect grid.old.width grid.old.height)
+        × (grid.new ≡ rect_written grid.old rect cells.now)) }
     ensures refused { IfErr result (λ e. (e ≡ Limit) × (16384 < used_size rect grid.old.width grid.old.height) × (grid.new ≡ grid.old)) }
     ensures picture { IsPicture grid.new }
 {
