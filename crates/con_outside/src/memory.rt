@@ -1,6 +1,7 @@
 //! The outside in memory, which can be told to fail.
 
-ghost use Rattle.std.specs.Prelude.{ℕ, ◌≡◌, ◌+◌, ◌-◌, ◌<◌, ◌≤◌, List, [], ◌++◌, length, take, drop, Option, Some, None, IfOk, OnErr, IfSome, IsTrue, ◌↔◌, Contains, min};
+ghost use Rattle.std.specs.Prelude.{ℕ, ◌≡◌, ◌+◌, ◌-◌, ◌<◌, ◌≤◌, List, [], ◌++◌, length, take, drop, Option};
+ghost use Rattle.std.specs.Prelude.{Some, None, IfOk, OnErr, IfSome, IsTrue, ◌↔◌, Contains, min};
 ghost use Rattle.con_outside.specs.Outside.{Rose, then_left, then_written};
 
 use crate::traits::{Failed, Fault, Sink, Source};
