@@ -2,7 +2,8 @@
 use Rattle.std.specs.Prelude.{◌≡◌, ◌≢◌, ℕ, Bool, true, false, ◌==◌, ◌&&◌, ◌||◌, if◌then◌else◌, nat_lt, min, List, [], ◌∷◌, ◌++◌, length}
 use Rattle.std.specs.List.{list_all}
 use Rattle.con_vtgram.specs.Numbers.{parameters}
-use Rattle.con_vtgram.specs.Text.{is_intermediate, is_parameter_unit, is_digit_or_semicolon, is_question, after_question, only_intermediate, sixteen, opens_string, stays, string_text}
+use Rattle.con_vtgram.specs.Text.{is_intermediate, is_parameter_unit, is_digit_or_semicolon, is_question, after_question}
+use Rattle.con_vtgram.specs.Text.{only_intermediate, sixteen, opens_string, stays, string_text}
 use Rattle.con_vtgram.specs.State.{Parameters}
 use Rattle.con_vtgram.specs.State.{State}
 use Rattle.con_vtgram.specs.State.{Ground, Escape, Nested, Open, First, Second, Text, TextEscape}

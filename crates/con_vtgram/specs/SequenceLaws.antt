@@ -25,9 +25,11 @@ first_left u true = refl
 first_left u false = none_left u (is_intermediate u)
 
 -- ESC [, the units of the first part and one more unit can go on
-pub first-is_front : (first : List ℕ) (u : ℕ) → list_all is_parameter_unit first ≡ true → csi_is_front (first ++ u ∷ []) ≡ (is_parameter_unit u || is_intermediate u)
+pub first-is_front : (first : List ℕ) (u : ℕ) → list_all is_parameter_unit first ≡ true
+    → csi_is_front (first ++ u ∷ []) ≡ (is_parameter_unit u || is_intermediate u)
 first-is_front first u h = rw (skip_all is_parameter_unit first (u ∷ []) h) (first_left u (is_parameter_unit u))
 
 -- ESC [, the units of the first part and a last unit are a whole sequence
-pub first-whole : (first : List ℕ) (u : ℕ) → list_all is_parameter_unit first ≡ true → is_parameter_unit u ≡ false → is_intermediate u ≡ false → csi_whole (first ++ u ∷ []) ≡ cond (ends_control u) (Some (csi_items first [] u)) None
+pub first-whole : (first : List ℕ) (u : ℕ) → list_all is_parameter_unit first ≡ true → is_parameter_unit u ≡ false → is_intermediate u ≡ false
+    → csi_whole (first ++ u ∷ []) ≡ cond (ends_control u) (Some (csi_items first [] u)) None
 first-whole first u h a b = rw (skip_all is_parameter_unit first (u ∷ []) h, front_all is_parameter_unit first (u ∷ []) h, a, b, append_none first) refl

@@ -2,7 +2,7 @@
 ghost use Rattle.std.specs.Prelude.{◌≡◌, ◌≢◌, ℕ, true, false, nat_lt, length, List, [], ◌∷◌, ◌++◌, option_to_list, ◌≤◌, take, drop, vec_capacity};
 ghost use Rattle.con_vtgram.specs.Spoken.{text_of};
 ghost use Rattle.con_vtgram.specs.TitleKept.{IsQuiet, KeepsTitle, Titles, is_title_name, is_title_item};
-ghost use Rattle.con_units.specs.Split.{begun, next};
+ghost use Rattle.con_units.specs.Split.{next};
 ghost use Rattle.con_units.specs.Stored as units;
 ghost use Rattle.con_vtgram.specs.Text as text;
 ghost use Rattle.con_vtgram.specs.State.{state_of, item_of, parameters_of};
@@ -152,7 +152,8 @@ impl Sequence {
 
     // Ends, and tells whether it is an item.
     fn end(&mut self, last: u16) -> Found
-        ensures gives { (first is : List ℕ) → Reads (parameters_of self.old) first → self.old.single ≡ nat_lt (length is) 2 → self.old.csi.inter ≡ text.only_intermediate is → option_to_list (item_of result last self.new.csi) ≡ text.csi_items first is last }
+        ensures gives { (first is : List ℕ) → Reads (parameters_of self.old) first → self.old.single ≡ nat_lt (length is) 2
+            → self.old.csi.inter ≡ text.only_intermediate is → option_to_list (item_of result last self.new.csi) ≡ text.csi_items first is last }
         ensures quiet { is_title_item (item_of result last self.new.csi) ≡ false }
     {
         if !self.plain {
@@ -270,7 +271,8 @@ fn named(name: Name, unit: u16) -> Name
 // Keeps the text of a title, one unit on.
 fn keep_title(title: &mut Vec<u16>, name: Name, unit: u16)
     requires { 255 ≤ vec_capacity title.old }
-    ensures title { (opener : ℕ) (text : List ℕ) → name ≡ name_of opener text → (is_title_name name ≡ true → title.old.items ≡ take 255 (drop 2 text)) → is_title_name (name_of opener (text ++ unit ∷ [])) ≡ true → title.new.items ≡ take 255 (drop 2 (text ++ unit ∷ [])) }
+    ensures title { (opener : ℕ) (text : List ℕ) → name ≡ name_of opener text → (is_title_name name ≡ true → title.old.items ≡ take 255 (drop 2 text))
+        → is_title_name (name_of opener (text ++ unit ∷ [])) ≡ true → title.new.items ≡ take 255 (drop 2 (text ++ unit ∷ [])) }
     ensures capacity { vec_capacity title.new ≡ vec_capacity title.old }
     ensures short { length title.old.items ≤ 255 → length title.new.items ≤ 255 }
 {
@@ -295,7 +297,8 @@ fn push_up_to(title: &mut Vec<u16>, unit: u16)
 }
 
 fn string_found(name: Name) -> Found
-    ensures gives { (opener : ℕ) (body : List ℕ) (unit : ℕ) (s : Sequence) → name ≡ name_of opener (text.string_text body) → option_to_list (item_of result unit s.csi) ≡ text.string_items opener body }
+    ensures gives { (opener : ℕ) (body : List ℕ) (unit : ℕ) (s : Sequence) → name ≡ name_of opener (text.string_text body)
+        → option_to_list (item_of result unit s.csi) ≡ text.string_items opener body }
     ensures title { (unit : ℕ) (s : Sequence) → is_title_item (item_of result unit s.csi) ≡ is_title_name name }
 {
     match name {
@@ -308,8 +311,11 @@ fn string_found(name: Name) -> Found
 
 fn from_text(name: Name, unit: u16, title: &mut Vec<u16>) -> Next
     requires { 255 ≤ vec_capacity title.old }
-    ensures gives { (s : Sequence) (opener : ℕ) (body : List ℕ) → Inside name opener body → Gives (state_of result.phase s) (item_of result.found unit s.csi) (0x1B ∷ opener ∷ body) unit }
-    ensures title { (s : Sequence) (opener : ℕ) (body : List ℕ) → Inside name opener body → (is_title_name name ≡ true → title.old.items ≡ text_of body) → Titles (state_of result.phase s) (item_of result.found unit s.csi) (0x1B ∷ opener ∷ body) unit title.new.items }
+    ensures gives { (s : Sequence) (opener : ℕ) (body : List ℕ) → Inside name opener body
+        → Gives (state_of result.phase s) (item_of result.found unit s.csi) (0x1B ∷ opener ∷ body) unit }
+    ensures title { (s : Sequence) (opener : ℕ) (body : List ℕ) → Inside name opener body
+        → (is_title_name name ≡ true → title.old.items ≡ text_of body)
+        → Titles (state_of result.phase s) (item_of result.found unit s.csi) (0x1B ∷ opener ∷ body) unit title.new.items }
     ensures capacity { vec_capacity title.new ≡ vec_capacity title.old }
     ensures short { length title.old.items ≤ 255 → length title.new.items ≤ 255 }
 {
@@ -340,8 +346,10 @@ fn from_text(name: Name, unit: u16, title: &mut Vec<u16>) -> Next
 }
 
 fn from_text_escape(name: Name, unit: u16) -> Next
-    ensures gives { (s : Sequence) (opener : ℕ) (body : List ℕ) → Inside name opener body → Gives (state_of result.phase s) (item_of result.found unit s.csi) (0x1B ∷ opener ∷ (body ++ 0x1B ∷ [])) unit }
-    ensures title { (s : Sequence) (opener : ℕ) (body kept : List ℕ) → Inside name opener body → (is_title_name name ≡ true → kept ≡ text_of body) → Titles (state_of result.phase s) (item_of result.found unit s.csi) (0x1B ∷ opener ∷ (body ++ 0x1B ∷ [])) unit kept }
+    ensures gives { (s : Sequence) (opener : ℕ) (body : List ℕ) → Inside name opener body
+        → Gives (state_of result.phase s) (item_of result.found unit s.csi) (0x1B ∷ opener ∷ (body ++ 0x1B ∷ [])) unit }
+    ensures title { (s : Sequence) (opener : ℕ) (body kept : List ℕ) → Inside name opener body → (is_title_name name ≡ true → kept ≡ text_of body)
+        → Titles (state_of result.phase s) (item_of result.found unit s.csi) (0x1B ∷ opener ∷ (body ++ 0x1B ∷ [])) unit kept }
 {
     if unit == 0x5C {
         Next {
@@ -354,7 +362,8 @@ fn from_text_escape(name: Name, unit: u16) -> Next
 }
 
 fn from_nested(paren: bool, unit: u16) -> Next
-    ensures gives { (s : Sequence) (is : List ℕ) → list_all text.is_intermediate is ≡ true → is ≢ [] → paren ≡ is_paren is → Gives (state_of result.phase s) (item_of result.found unit s.csi) (0x1B ∷ is) unit }
+    ensures gives { (s : Sequence) (is : List ℕ) → list_all text.is_intermediate is ≡ true → is ≢ [] → paren ≡ is_paren is
+        → Gives (state_of result.phase s) (item_of result.found unit s.csi) (0x1B ∷ is) unit }
     ensures quiet { (s : Sequence) → IsQuiet (state_of result.phase s) (item_of result.found unit s.csi) }
 {
     if is_intermediate(unit) {
@@ -401,7 +410,8 @@ fn from_open(sequence: &mut Sequence, unit: u16) -> Next
 }
 
 fn from_first(sequence: &mut Sequence, unit: u16) -> Next
-    ensures gives { (first : List ℕ) → first ≢ [] → sequence.old.single ≡ true → sequence.old.csi.inter ≡ 0 → Reads (parameters_of sequence.old) first → Gives (state_of result.phase sequence.new) (item_of result.found unit sequence.new.csi) (0x1B ∷ 0x5B ∷ first) unit }
+    ensures gives { (first : List ℕ) → first ≢ [] → sequence.old.single ≡ true → sequence.old.csi.inter ≡ 0 → Reads (parameters_of sequence.old) first
+        → Gives (state_of result.phase sequence.new) (item_of result.found unit sequence.new.csi) (0x1B ∷ 0x5B ∷ first) unit }
     ensures quiet { IsQuiet (state_of result.phase sequence.new) (item_of result.found unit sequence.new.csi) }
 {
     if is_parameter_unit(unit) {
@@ -418,7 +428,8 @@ fn from_first(sequence: &mut Sequence, unit: u16) -> Next
 // A unit that is none of the first part.
 fn after_first(sequence: &mut Sequence, unit: u16) -> Next
     requires { text.is_parameter_unit unit ≡ false }
-    ensures gives { (first : List ℕ) → sequence.old.single ≡ true → sequence.old.csi.inter ≡ 0 → Reads (parameters_of sequence.old) first → Gives (state_of result.phase sequence.new) (item_of result.found unit sequence.new.csi) (0x1B ∷ 0x5B ∷ first) unit }
+    ensures gives { (first : List ℕ) → sequence.old.single ≡ true → sequence.old.csi.inter ≡ 0 → Reads (parameters_of sequence.old) first
+        → Gives (state_of result.phase sequence.new) (item_of result.found unit sequence.new.csi) (0x1B ∷ 0x5B ∷ first) unit }
     ensures quiet { IsQuiet (state_of result.phase sequence.new) (item_of result.found unit sequence.new.csi) }
 {
     if is_intermediate(unit) {
@@ -438,7 +449,8 @@ fn after_first(sequence: &mut Sequence, unit: u16) -> Next
 }
 
 fn from_second(sequence: &mut Sequence, unit: u16) -> Next
-    ensures gives { (first is : List ℕ) → Reads (parameters_of sequence.old) first → Follows sequence.old.single sequence.old.csi.inter is → Gives (state_of result.phase sequence.new) (item_of result.found unit sequence.new.csi) (0x1B ∷ 0x5B ∷ (first ++ is)) unit }
+    ensures gives { (first is : List ℕ) → Reads (parameters_of sequence.old) first → Follows sequence.old.single sequence.old.csi.inter is
+        → Gives (state_of result.phase sequence.new) (item_of result.found unit sequence.new.csi) (0x1B ∷ 0x5B ∷ (first ++ is)) unit }
     ensures quiet { IsQuiet (state_of result.phase sequence.new) (item_of result.found unit sequence.new.csi) }
 {
     if is_intermediate(unit) {
@@ -459,8 +471,10 @@ fn from_second(sequence: &mut Sequence, unit: u16) -> Next
 
 pub(crate) fn step(phase: Phase, unit: u16, sequence: &mut Sequence, title: &mut Vec<u16>) -> Next
     requires { 255 ≤ vec_capacity title.old }
-    ensures gives { (tail : List ℕ) → Holds (state_of phase sequence.old) tail → Gives (state_of result.phase sequence.new) (item_of result.found unit sequence.new.csi) tail unit }
-    ensures title { (tail : List ℕ) → Holds (state_of phase sequence.old) tail → KeepsTitle (state_of phase sequence.old) tail title.old.items → Titles (state_of result.phase sequence.new) (item_of result.found unit sequence.new.csi) tail unit title.new.items }
+    ensures gives { (tail : List ℕ) → Holds (state_of phase sequence.old) tail
+        → Gives (state_of result.phase sequence.new) (item_of result.found unit sequence.new.csi) tail unit }
+    ensures title { (tail : List ℕ) → Holds (state_of phase sequence.old) tail → KeepsTitle (state_of phase sequence.old) tail title.old.items
+        → Titles (state_of result.phase sequence.new) (item_of result.found unit sequence.new.csi) tail unit title.new.items }
     ensures capacity { vec_capacity title.new ≡ vec_capacity title.old }
     ensures short { length title.old.items ≤ 255 → length title.new.items ≤ 255 }
 {
