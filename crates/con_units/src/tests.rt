@@ -1,4 +1,5 @@
 use crate::*;
+use std::alloc::Global;
 use std::test::Fail;
 
 // The colours that stand for the indices 16 to 255: for each red of 0 to 5 and each green a line by blue, then the greys.
@@ -14,38 +15,58 @@ const NEAREST: [u8; 240] = [
     8, 8, 7, 7, 7, 7, 7, 7, 15, 15, 15, 15, 15, 15,
 ];
 
-#[test]
-fn units_of_one_column_are_stored_as_they_are(rt: HostRuntime) {
-    for (unit, shown) in [
-        (0x20, 0x20),
-        (0x7E, 0x7E),
-        (0x7F, 0xFFFD),
-        (0x1B, 0xFFFD),
-        (0x9F, 0xFFFD),
-        (0xE9, 0xE9),
-        (0x300, 0xFFFD),
-        (0x20AC, 0x20AC),
-        (0x4E00, 0xFFFD),
-        (0xD800, 0xFFFD),
-        (0xE000, 0xE000),
-        (0xFFFD, 0xFFFD),
-    ] {
-        assert_eq!(rt; stored(unit), shown, "of {unit}");
+// Units, and what a cell stores of each.
+const STORED: [(u16, u16); 12] = [
+    (0x20, 0x20),
+    (0x7E, 0x7E),
+    (0x7F, 0xFFFD),
+    (0x1B, 0xFFFD),
+    (0x9F, 0xFFFD),
+    (0xE9, 0xE9),
+    (0x300, 0xFFFD),
+    (0x20AC, 0x20AC),
+    (0x4E00, 0xFFFD),
+    (0xD800, 0xFFFD),
+    (0xE000, 0xE000),
+    (0xFFFD, 0xFFFD),
+];
+
+// The first unit of the table that is stored otherwise, or how many there are.
+fn first_wrong_unit() -> usize {
+    for at in 0..STORED.len() {
+        let (unit, shown) = STORED[at];
+        if stored(unit) != shown {
+            return at;
+        }
     }
+    STORED.len()
 }
 
-#[test]
-fn words_and_codes_have_their_numbers(rt: HostRuntime) {
-    assert_eq!(rt; Attr::of(0xFFFF).bits(), 0xC0FF);
+// The first index whose nearest colour is another one, or 256.
+fn first_wrong_index() -> usize {
+    is_near_by_parts();
+    for at in 0..NEAREST.len() {
+        if near(at as u8 + 16) != NEAREST[at] {
+            return at + 16;
+        }
+    }
+    NEAREST.len() + 16
+}
+
+// Words, a unit and codes.
+fn numbers() -> [u32; 5] {
     let cell = Cell::new(7, Attr::of(0x4031));
-    assert_eq!(rt; cell.unit(), 0xFFFD);
-    assert_eq!(rt; cell.attr().bits(), 0x4031);
-    assert_eq!(rt; Code::Limit.number(), 1816);
-    assert_eq!(rt; Code::Aborted.number(), 995);
+    [
+        Attr::of(0xFFFF).bits() as u32,
+        cell.unit() as u32,
+        cell.attr().bits() as u32,
+        Code::Limit.number(),
+        Code::Aborted.number(),
+    ]
 }
 
-#[test]
-fn rectangles_meet_in_their_common_cells(rt: HostRuntime) {
+// Whether rectangles meet in their common cells, and those that have none do not.
+fn rectangles_meet() -> bool {
     let screen = Rect {
         left: 0,
         top: 0,
@@ -64,103 +85,104 @@ fn rectangles_meet_in_their_common_cells(rt: HostRuntime) {
         right: 2,
         bottom: 4,
     };
-    assert_eq!(rt; clip(screen, over), Some(corner));
-    assert_eq!(rt;
-        clip(
-            corner,
-            Rect {
-                left: 3,
-                top: 0,
-                right: 9,
-                bottom: 9
-            }
-        ),
-        None
-    );
+    let beside = Rect {
+        left: 3,
+        top: 0,
+        right: 9,
+        bottom: 9,
+    };
+    clip(screen, over) == Some(corner) && clip(corner, beside) == None
 }
 
-#[test]
-fn ill_formed_bytes_give_one_replacement_for_each_part(rt: HostRuntime) {
-    let mut decoder = Utf8::new();
-    assert_eq!(rt;
-        decoder.feed(0xE2),
-        Decoded {
-            first: None,
-            second: None
-        }
-    );
-    assert_eq!(rt;
-        decoder.feed(0x82),
-        Decoded {
-            first: None,
-            second: None
-        }
-    );
-    assert_eq!(rt; decoder.held(), 2);
-    assert_eq!(rt;
-        decoder.feed(0xAC),
-        Decoded {
-            first: Some('\u{20AC}'),
-            second: None
-        }
-    );
-    decoder.feed(0xF0);
-    decoder.feed(0x90);
-    assert_eq!(rt;
-        decoder.feed(0x41),
-        Decoded {
-            first: Some('\u{FFFD}'),
-            second: Some('A')
-        }
-    );
-    decoder.feed(0xC3);
-    decoder.clear();
-    assert_eq!(rt; decoder.held(), 0);
+// What comes of bytes, and how many are held after the second and at the end.
+fn decoded() -> ([Decoded; 4], [u8; 2]) {
     is_read_by_cases();
     is_read_however_cut();
     is_inverse_of_encoding();
+    let mut decoder = Utf8::new();
+    let first = decoder.feed(0xE2);
+    let second = decoder.feed(0x82);
+    let held = decoder.held();
+    let euro = decoder.feed(0xAC);
+    decoder.feed(0xF0);
+    decoder.feed(0x90);
+    let broken = decoder.feed(0x41);
+    decoder.feed(0xC3);
+    decoder.clear();
+    ([first, second, euro, broken], [held, decoder.held()])
 }
 
-#[test]
-fn lists_show_what_they_hold(rt: HostRuntime) -> Result<(), Fail> {
-    let units = Units(Vec::from_array(rt.alloc(), [0x61, 0x62])?);
-    assert_eq!(rt; units.copied()?.as_slice(), [0x61, 0x62].as_slice());
-    assert_eq!(rt; units.len(), 2);
-    assert!(rt; Bytes(Vec::new(rt.alloc())).is_empty());
-    assert_eq!(rt; Marks(Vec::from_array(rt.alloc(), [true])?).len(), 1);
-    assert_eq!(rt;
-        Rows(Vec::from_array(rt.alloc(), [Cell::new(0x61, Attr::of(7))])?).len(),
-        1
-    );
-    Ok(())
+// Whether a character of three bytes comes whole, and ill-formed bytes give one replacement for each part.
+fn characters_are_decoded() -> bool {
+    let (found, held) = decoded();
+    let nothing = Decoded {
+        first: None,
+        second: None,
+    };
+    let euro = Decoded {
+        first: Some('\u{20AC}'),
+        second: None,
+    };
+    let broken = Decoded {
+        first: Some('\u{FFFD}'),
+        second: Some('A'),
+    };
+    found == [nothing, nothing, euro, broken] && held == [2, 0]
 }
 
-#[test]
-fn a_list_in_proofs_alone_has_no_bytes(rt: HostRuntime) {
+// Whether units are the same in memory of their own.
+fn units_are_copied(alloc: Global) -> Result<bool, Fail> {
+    let units = Units(Vec::from_array(alloc, [0x61, 0x62])?);
+    let copy = units.copied()?;
+    Ok(units.len() == 2 && copy.as_slice() == [0x61, 0x62].as_slice())
+}
+
+// How many bytes, marks and cells lists of none, one and one hold, and what a list in proofs alone takes.
+fn lengths(alloc: Global) -> Result<[usize; 5], Fail> {
     let mut past = Past::new();
     past.push(7u16);
-    assert_eq!(rt; size_of::<Past<u16>>(), 0);
-    assert_eq!(rt; index_of(3), 3);
+    let marks = Marks(Vec::from_array(alloc, [true])?);
+    let rows = Rows(Vec::from_array(alloc, [Cell::new(0x61, Attr::of(7))])?);
+    let empty = Bytes(Vec::new(alloc)).is_empty() as usize;
+    Ok([
+        empty,
+        marks.len(),
+        rows.len(),
+        size_of::<Past<u16>>(),
+        index_of(3),
+    ])
 }
 
-#[test]
-fn each_index_has_its_nearest_colour(rt: HostRuntime) -> Result<(), Fail> {
-    let mut found = Vec::new(rt.alloc());
-    for index in 16..=255 {
-        found.push(near(index))?;
-    }
-    assert_eq!(rt; found.as_slice(), NEAREST.as_slice());
-    is_near_by_parts();
-    Ok(())
-}
-
+// Whether a cell keeps its shades.
 #[tactic(auto, unfolding(crate::specs::Shade::near))]
+fn shades_are_kept() -> bool {
+    let cell = Cell::new(
+        0x41,
+        Attr::shaded(0xC09C, Shade::Index(196), Shade::Index(21)),
+    );
+    cell.attr().fore() == Shade::Index(196)
+        && cell.attr().back() == Shade::of(21)
+        && cell.plain() == Cell::new(0x41, Attr::of(0xC09C))
+}
+
 #[test]
-fn a_cell_keeps_its_shades_in_eight_bytes(rt: HostRuntime) {
-    let attr = Attr::shaded(0xC09C, Shade::Index(196), Shade::Index(21));
-    let cell = Cell::new(0x41, attr);
-    assert_eq!(rt; cell.attr().fore(), Shade::Index(196));
-    assert_eq!(rt; cell.attr().back(), Shade::of(21));
-    assert_eq!(rt; cell.plain(), Cell::new(0x41, Attr::of(0xC09C)));
-    assert_eq!(rt; size_of::<Cell>(), 8);
+fn values_are_those_of_the_tables(rt: HostRuntime) {
+    assert_eq!(rt; [first_wrong_unit(), first_wrong_index()], [12, 256]);
+    assert_eq!(rt; numbers(), [0xC0FF, 0xFFFD, 0x4031, 1816, 995]);
+    assert_eq!(rt;
+        [
+            rectangles_meet(),
+            characters_are_decoded(),
+            shades_are_kept()
+        ],
+        [true; 3]
+    );
+}
+
+#[test]
+fn lists_have_their_lengths(rt: HostRuntime) -> Result<(), Fail> {
+    let copied = units_are_copied(rt.alloc())?;
+    let lengths = lengths(rt.alloc())?;
+    assert!(rt; copied && lengths == [1, 1, 1, 0, 3] && size_of::<Cell>() == 8);
+    Ok(())
 }
