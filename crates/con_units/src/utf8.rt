@@ -215,5 +215,6 @@ pub fn is_inverse_of_encoding()
 
 /// However bytes are cut, their characters are those of the whole.
 pub fn is_read_however_cut()
-    ensures { (held front rest : List ℕ) → split_after utf8 held (front ++ rest) ≡ with_items (split_after utf8 held front).items (split_after utf8 (split_after utf8 held front).tail rest) }
+    ensures { (held front rest : List ℕ)
+        → split_after utf8 held (front ++ rest) ≡ with_items (split_after utf8 held front).items (split_after utf8 (split_after utf8 held front).tail rest) }
 {}
