@@ -1,8 +1,4 @@
-//! Tests of con_audit, and a caller that uses its promises.
+//! Callers of con_audit that use its promises. What audits find is in crate `cases`, `data/audit.cases`.
 #![tactic(auto)]
 
 pub mod callers;
-#[cfg(test)]
-mod frames;
-#[cfg(test)]
-mod verdicts;

@@ -1,8 +1,5 @@
-//! Tests of con_mirror, and of the frames of a link that may have a second terminal; `callers` use their promises.
+//! Callers of con_mirror that use its promises. What a second terminal shows, and its frames, are in crate `cases`,
+//! `data/mirror.cases`.
 #![tactic(auto)]
 
 pub mod callers;
-#[cfg(test)]
-mod links;
-#[cfg(test)]
-mod parts;
