@@ -68,7 +68,16 @@ pub fn is_run(
     replies: &[Reply],
     ends: &[u64],
 ) -> Result<Option<Verdict>, OutOfMemory>
-    ensures { IfOk result (λ found. found ≡ Some verdicts.Yes → IsRun (record { session = session.now; racks = []; link = link.now; stream = stream.now; entries = entries.now; replies = replies.now; ends = ends.now })) }
+    ensures { IfOk result (λ found. found ≡ Some verdicts.Yes
+        → IsRun (record {
+          session = session.now;
+          racks = [];
+          link = link.now;
+          stream = stream.now;
+          entries = entries.now;
+          replies = replies.now;
+          ends = ends.now;
+        })) }
 {
     if 16_777_216 < link.len() {
         return Ok(None);

@@ -12,7 +12,8 @@ pub fn twice(painter: &mut Painter, view: &View, marks: &Marks, out: &mut Vec<u8
     requires view { IsWhole view.now }
     requires size { (view.now.size.w ≡ painter.old.w) × (view.now.size.h ≡ painter.old.h) }
     requires marks { length marks.now ≡ painter.old.h }
-    requires marked { painter.old.known ≡ true → (y : ℕ) → y < painter.old.h → slice_index_or marks.now y false ≡ false → row_of painter.old.w view.now.rows y ≡ row_of painter.old.w painter.old.cells y }
+    requires marked { painter.old.known ≡ true → (y : ℕ) → y < painter.old.h → slice_index_or marks.now y false ≡ false
+        → row_of painter.old.w view.now.rows y ≡ row_of painter.old.w painter.old.cells y }
     requires room { vec_len out.old + frame_room painter.old.w painter.old.h + frame_room painter.old.w painter.old.h ≤ vec_capacity out.old }
     ensures appends { out.new.items ≡ out.old.items ++ drop (length out.old.items) out.new.items }
     ensures shown { IsShown painter.new view.now }
