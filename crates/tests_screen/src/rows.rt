@@ -28,14 +28,6 @@ pub(crate) fn place(x: u8, y: u8) -> Coord {
     }
 }
 
-// A number as a digit.
-fn digit(number: i16) -> char {
-    match u8::try_from(number) {
-        Ok(n) if n < 10 => (0x30 + n) as char,
-        _ => '?',
-    }
-}
-
 // The bytes as units.
 fn spread(text: &[u8], units: &mut [u16; LONGEST]) -> usize
     ensures { result ≤ 64 }
@@ -128,12 +120,12 @@ pub(crate) fn show(screen: &Screen, seen: &mut String) -> Result<(), Fail>
         seen.push(shown.unwrap_or('?'))?;
     }
     let info = screen.info();
-    seen.push(' ')?;
-    seen.push(digit(info.window.left))?;
-    seen.push(digit(info.window.top))?;
-    seen.push(digit(info.cursor.x))?;
-    seen.push(digit(info.cursor.y))?;
-    Ok(seen.push('\n')?)
+    writeln!(
+        seen,
+        " {}{}{}{}",
+        info.window.left, info.window.top, info.cursor.x, info.cursor.y
+    )?;
+    Ok(())
 }
 
 fn sign_of(word: u16) -> char {
@@ -178,20 +170,27 @@ fn put(units: &[u16], seen: &mut String) -> Result<(), Fail> {
     Ok(())
 }
 
+fn show_title(answers: &Answers, seen: &mut String) -> Result<(), Fail> {
+    if !answers.titled() {
+        return Ok(seen.push('|')?);
+    }
+    seen.push_str("|'")?;
+    put(answers.title(), seen)?;
+    Ok(seen.push('\'')?)
+}
+
 /// Puts the reports, the title, the cursor key mode, the alternate screen, and how many units were read.
 pub(crate) fn show_told(answers: &Answers, seen: &mut String) -> Result<(), Fail> {
     put(answers.reports(), seen)?;
-    seen.push('|')?;
-    if answers.titled() {
-        seen.push('\'')?;
-        put(answers.title(), seen)?;
-        seen.push('\'')?;
-    }
-    seen.push('|')?;
-    seen.push(sign(answers.cursor_keys()))?;
-    seen.push(sign(answers.alternate()))?;
-    let read = LONGEST.saturating_sub(answers.left()).min(99) as i16;
-    seen.push(digit(read / 10))?;
-    seen.push(digit(read % 10))?;
-    Ok(seen.push('\n')?)
+    show_title(answers, seen)?;
+    let read = LONGEST.saturating_sub(answers.left());
+    writeln!(
+        seen,
+        "|{}{}{}{}",
+        sign(answers.cursor_keys()),
+        sign(answers.alternate()),
+        read / 10,
+        read % 10
+    )?;
+    Ok(())
 }

@@ -301,11 +301,15 @@ ABCDx           0040\nABCDxy          0011
 77777777eeeeeeefghijklm\u{FFFD}a      0002
 \u{FFFD}\u{2500}\u{FFFD}Ω\u{FFFD}Ωghijklmn  0011\n";
 
-fn add_lines(alloc: Global, seen: &mut String, wanted: &mut String) -> Result<(), Fail> {
+fn add_changes(alloc: Global, seen: &mut String, wanted: &mut String) -> Result<(), Fail> {
     for (from, line, lines) in CHANGES.iter() {
         add(alloc, Row::Changed(*from, *line), seen)?;
         wanted.push_str(lines)?;
     }
+    Ok(())
+}
+
+fn add_ends(alloc: Global, seen: &mut String, wanted: &mut String) -> Result<(), Fail> {
     for (from, length, line) in ENDS.iter() {
         add(alloc, Row::Ended(*from, *length), seen)?;
         wanted.push_str(line)?;
@@ -318,6 +322,10 @@ fn add_told(alloc: Global, seen: &mut String, wanted: &mut String) -> Result<(),
         add(alloc, Row::Told(*mode, text), seen)?;
         wanted.push_str(line)?;
     }
+    Ok(())
+}
+
+fn add_told_behind(alloc: Global, seen: &mut String, wanted: &mut String) -> Result<(), Fail> {
     for (places, text, line) in TOLD_BEHIND.iter() {
         add(alloc, Row::ToldBehind(places, text), seen)?;
         wanted.push_str(line)?;
@@ -335,8 +343,10 @@ fn add_others(alloc: Global, seen: &mut String, wanted: &mut String) -> Result<(
 }
 
 fn add_all(alloc: Global, seen: &mut String, wanted: &mut String) -> Result<(), Fail> {
-    add_lines(alloc, seen, wanted)?;
+    add_changes(alloc, seen, wanted)?;
+    add_ends(alloc, seen, wanted)?;
     add_told(alloc, seen, wanted)?;
+    add_told_behind(alloc, seen, wanted)?;
     add_others(alloc, seen, wanted)
 }
 
