@@ -152,6 +152,7 @@ impl Handles {
         ensures table { IsTable self.new.open_ones }
         ensures counted { (t : Object → Bool) → (if t one.object then 1 else 0) + tally (on t) self.new.open_ones ≡ tally (on t) self.old.open_ones }
     {
+        // It stands in the clauses alone: `found`, and what is counted.
         let _ = one;
         self.empty(process, number);
     }
@@ -164,7 +165,8 @@ impl Handles {
         ensures limit { (result ≡ Err Code.Limit) ↔ (count_of self.old.open_ones process ≡ 64) }
         ensures free { IfOk result (λ n. is_used self.old.open_ones process n ≡ false) }
         ensures table { IsTable self.new.open_ones }
-        ensures counted { IfOk result (λ _. (t : Object → Bool) → tally (on t) self.new.open_ones ≡ (if t object then 1 else 0) + tally (on t) self.old.open_ones) }
+        ensures counted { IfOk result (λ _. (t : Object → Bool)
+            → tally (on t) self.new.open_ones ≡ (if t object then 1 else 0) + tally (on t) self.old.open_ones) }
     {
         let number = self.next(process)?;
         let held = Held { object, rights };
@@ -206,7 +208,8 @@ impl Handles {
         ensures object { result ≡ option_map (λ h. h.object) (least_of self.old.open_ones process) }
         ensures state { self.new ≡ taken self.old process }
         ensures table { IsTable self.new.open_ones }
-        ensures counted { IfSome result (λ o. (t : Object → Bool) → (if t o then 1 else 0) + tally (on t) self.new.open_ones ≡ tally (on t) self.old.open_ones) }
+        ensures counted { IfSome result (λ o. (t : Object → Bool)
+            → (if t o then 1 else 0) + tally (on t) self.new.open_ones ≡ tally (on t) self.old.open_ones) }
         ensures least { IfSome (least_of self.old.open_ones process) (λ h. (m : ℕ) → is_used self.old.open_ones process m ≡ true → h.number ≤ m) }
     {
         let one = self.least(process)?;

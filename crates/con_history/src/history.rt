@@ -41,6 +41,7 @@ fn turn_once(lines: &mut HeapCircularBuffer<Kept>, line: &Units)
     ensures lines { lines.new.items ≡ drop 1 lines.old.items ++ without line.now (take 1 lines.old.items) }
     ensures capacity { lines.new.capacity ≡ lines.old.capacity }
 {
+    // Its contract says that the lines are within the capacity, so that the oldest has room again: for the clause `lines`.
     let _len = lines.len();
     if let Some(oldest) = lines.pop_front() {
         if same(oldest.units(), line) {

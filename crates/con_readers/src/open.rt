@@ -59,6 +59,7 @@ fn take_units(
     ensures records { records.new
         ≡ record records.old { items = (took_units process wants records.old.items histories.now (units_of wants records.old.items)).records } }
 {
+    // They stand in the clauses alone.
     let _ = histories;
     match wants.take(records) {
         Ok(units) => Taking {
