@@ -48,15 +48,18 @@ Tells status last before now failed =
     ⊎ ((status ≡ 9) × WrotePart (ended (ending_text last)) before now)
 
 -- Nothing was taken or written; the last line alone, unless the report failed; or there was no memory, for the session or for that line.
-pub record NotRun (status : ℕ) (files : Option (List ℕ → Option (List ℕ))) (name : List ℕ) (files_failed : Type 0) (before left old now before_report report' : Option (List ℕ)) (failed : Type 0) : Type 0 where
+pub record NotRun (status : ℕ) (files : Option (List ℕ → Option (List ℕ))) (name : List ℕ) (files_failed : Type 0)
+    (before left old now before_report report' : Option (List ℕ)) (failed : Type 0) : Type 0 where
   pub nothing_taken : left ≡ before
   pub nothing_written : now ≡ old
-  pub told : ((status ≡ 9) × (report' ≡ before_report)) ⊎ ((why : Reason) × Holds files name files_failed why × Tells status (ending_for why) before_report report' failed)
+  pub told : ((status ≡ 9) × (report' ≡ before_report))
+      ⊎ ((why : Reason) × Holds files name files_failed why × Tells status (ending_for why) before_report report' failed)
 
 -- ---- a session or none
 
 -- there is no session; or the file is one, of which this came
-abbrev pub OfFile : (Clients → Type 0) → ℕ → Option (List ℕ → Option (List ℕ)) → List ℕ → Type 0 → Option (List ℕ) → Option (List ℕ) → Option (List ℕ) → Option (List ℕ) → Option (List ℕ) → Option (List ℕ) → Type 0 → Type 0
+abbrev pub OfFile : (Clients → Type 0) → ℕ → Option (List ℕ → Option (List ℕ)) → List ℕ → Type 0 → Option (List ℕ)
+    → Option (List ℕ) → Option (List ℕ) → Option (List ℕ) → Option (List ℕ) → Option (List ℕ) → Type 0 → Type 0
 OfFile Came status files name files_failed before left old now before_report report' failed =
     NotRun status files name files_failed before left old now before_report report' failed
     ⊎ ((bytes : List ℕ) × (session : Clients) × IsFile files name bytes × (document bytes ≡ Some (Ok session)) × Came session)
@@ -70,5 +73,6 @@ Explains files name failed unrun.OutOfMemory = Unit {0}
 
 -- why bytes are no session, where there was memory to tell
 abbrev pub Misread : List ℕ → Unrun → Type 0
-Misread bytes (unrun.Told line) = ((json_of bytes ≡ None) × (ending_of line ≡ ending_for (no_json bytes))) ⊎ ((w : Where) × (document bytes ≡ Some (Err w)) × (ending_of line ≡ ending_for (no_session bytes w)))
+Misread bytes (unrun.Told line) = ((json_of bytes ≡ None) × (ending_of line ≡ ending_for (no_json bytes)))
+    ⊎ ((w : Where) × (document bytes ≡ Some (Err w)) × (ending_of line ≡ ending_for (no_session bytes w)))
 Misread bytes unrun.OutOfMemory = Unit {0}

@@ -6,7 +6,8 @@ use Rattle.con_trace.specs.Line.{ended}
 use Rattle.con_ending.specs.Ending.{end_line}
 
 -- the status is that of want of memory, so the line of another status is not whole
-pub part_of : (before now : Option (List ℕ)) (s told : ℕ) → s ≡ 9 → 9 ≢ told → (¬ (s ≡ told) → WrotePart (end_line told) before now) → WrotePart (end_line told) before now
+pub part_of : (before now : Option (List ℕ)) (s told : ℕ) → s ≡ 9 → 9 ≢ told → (¬ (s ≡ told) → WrotePart (end_line told) before now)
+    → WrotePart (end_line told) before now
 part_of before now s told e other part = part (λ f. other (sym e ∙ f))
 
 ends_later : (text : List ℕ) → 0 < length (ended text)

@@ -44,7 +44,8 @@ fn line_of(status: u8) -> Option<EndLine>
 pub fn finish<R: Sink>(alloc: Global, report: &mut R, status: u8) -> u8
     ensures status { (result ≡ status) ⊎ (result ≡ MEMORY) }
     ensures front { WroteFront (end_line status) (R.written report.old) (R.written report.new) }
-    ensures whole { result ≡ status → ¬ (Rose (R.faults report.old) (R.faults report.new)) → R.written report.new ≡ then_written (R.written report.old) (end_line status) }
+    ensures whole { result ≡ status → ¬ (Rose (R.faults report.old) (R.faults report.new))
+        → R.written report.new ≡ then_written (R.written report.old) (end_line status) }
     ensures part { result ≢ status → WrotePart (end_line status) (R.written report.old) (R.written report.new) }
     ensures never_falls { R.faults report.old ≤ R.faults report.new }
 {

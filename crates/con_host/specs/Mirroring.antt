@@ -33,8 +33,8 @@ mirror_report h rs es end lost = told_report h rs es (mirror_ending end lost)
 abbrev pub IsMirrorStatus : ℕ → End → Bool → Type 0
 IsMirrorStatus status end lost = (status ≡ status_of (mirror_ending end lost)) ⊎ ((status ≡ 9) ⊎ ((status ≡ 6) × (end ≡ ends.Done) × (lost ≡ false)))
 
--- The session ran by turns, with a second terminal: one history, with all that such a session leaves, A and D being frames that count as Ask; the second terminal's
--- stream with its ends, and whether it was lost; and the report, which is whole unless the report failed or there was no memory for it.
+-- The session ran by turns, with a second terminal: one history, with all that such a session leaves, A and D being frames that count as Ask; the second
+-- terminal's stream with its ends, and whether it was lost; and the report, which is whole unless the report failed or there was no memory for it.
 pub record RanMirrored (status : ℕ) (session : Clients) (racks : List (List ℕ))
     (before left old now was written before_report report' : Option (List ℕ)) (failed second_failed : Type 0) : Type 0 where
   pub entries : List Entry

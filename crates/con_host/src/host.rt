@@ -30,10 +30,10 @@ use std::sync::Wait;
 use std::thread::Threads;
 
 /// Does what the words say, and answers the status: 0 done, 2 the words are no form, 3 the file is no session, 4 the link failed, 5 the
-/// terminal failed, 6 the report failed, 7 the file could not be read, 8 the link has no frame at a place, 9 there was no memory, 10 the
-/// link has more than 16,777,216 bytes, 12 the second terminal of `mirror` failed, 13 the files of `audit` are no run. `racks` are the handlers that a session's clients
-/// may add, by place; `second` is the second terminal of `mirror`, and by other words nothing is written to it; `rt` makes the threads
-/// of `run`, and `gate` is called round each step of its scripts.
+/// terminal failed, 6 the report failed, 7 the file could not be read, 8 the link has no frame at a place, 9 there was no memory, 10 the link
+/// has more than 16,777,216 bytes, 12 the second terminal of `mirror` failed, 13 the files of `audit` are no run. `racks` are the handlers
+/// that a session's clients may add, by place; `second` is the second terminal of `mirror`, and by other words nothing is written to it; `rt`
+/// makes the threads of `run`, and `gate` is called round each step of its scripts.
 pub fn console_host<
     T: Threads + Wait + Sync,
     F: Files,

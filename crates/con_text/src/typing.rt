@@ -1,6 +1,7 @@
 //! `type`: the link's bytes as a text on one screen, and one frame that shows it.
 
-ghost use Rattle.std.specs.Prelude.{◌≡◌, ◌≢◌, ℕ, ◌+◌, ◌*◌, ◌<◌, ◌≤◌, ◌⊎◌, List, [], ◌∷◌, ◌++◌, length, take, Option, Some, None, IfSome, IfOk, OnOk, IsTrue, flat_map, vec_len, vec_capacity};
+ghost use Rattle.std.specs.Prelude.{◌≡◌, ◌≢◌, ℕ, ◌+◌, ◌*◌, ◌<◌, ◌≤◌, ◌⊎◌, List, [], ◌∷◌, ◌++◌, length, take};
+ghost use Rattle.std.specs.Prelude.{Option, Some, None, IfSome, IfOk, OnOk, IsTrue, flat_map, vec_len, vec_capacity};
 ghost use Rattle.con_outside.specs.Outside.{Rose, then_left, then_written};
 ghost use Rattle.con_screens.specs.Buffers.{Buffers, AreBuffers, with_buffer};
 ghost use Rattle.con_screens.specs.Buffer.{buffer_written};

@@ -32,7 +32,8 @@ pub fn status<T: Threads + Wait + Sync>(
     ensures second_untouched { (name : List ℕ) → form_of (map string_bytes words.now) ≡ Some (solo name) → second.new.written ≡ second.old.written }
     ensures sound { (names link_name stream trace : List ℕ) → form_of (map string_bytes words.now) ≡ Some (auditing names link_name stream trace) → result ≡ 0
         → AreARun (Some (file_in (map string_bytes files.old.names.items) (map (λ t. t.items) files.old.texts.items))) (four_of names link_name stream trace) }
-    ensures unshown { (names link_name stream trace : List ℕ) → form_of (map string_bytes words.now) ≡ Some (auditing names link_name stream trace) → term.new.written ≡ term.old.written }
+    ensures unshown { (names link_name stream trace : List ℕ) → form_of (map string_bytes words.now) ≡ Some (auditing names link_name stream trace)
+        → term.new.written ≡ term.old.written }
     ensures no_form { form_of (map string_bytes words.now) ≡ None → term.new.written ≡ term.old.written }
 {
     console_host(
