@@ -4,7 +4,7 @@ use std::alloc::{AllocError, AllocFailed};
 use std::fmt;
 
 /// What is wrong with a line.
-#[derive(Clone, Copy, Debug, PartialEq, Eq, Drop)]
+#[derive(Clone, Copy, PartialEq, Eq, Drop)]
 pub enum Fault {
     /// There was no memory for what it stands for.
     Memory,
@@ -41,7 +41,7 @@ impl fmt::Display for Fault {
 }
 
 /// A line, counted from 1, and what is wrong with it. Want of memory is nobody's line, 0.
-#[derive(Clone, Copy, Debug, PartialEq, Eq, Drop)]
+#[derive(Clone, Copy, PartialEq, Eq, Drop)]
 pub struct Wrong {
     pub line: usize,
     pub fault: Fault,

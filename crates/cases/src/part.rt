@@ -3,7 +3,7 @@ use crate::fault::{Fault, Wrong};
 use std::alloc::{AllocError, Global};
 
 /// A line of a file, with its number, counted from 1.
-#[derive(Clone, Copy, Debug)]
+#[derive(Clone, Copy)]
 pub struct Line<'a> {
     pub number: usize,
     pub text: &'a str,
@@ -47,7 +47,7 @@ pub fn case_name<'a>(text: &'a str) -> Option<&'a str> {
 }
 
 /// What a part of a case says.
-#[derive(Clone, Copy, Debug, PartialEq, Eq)]
+#[derive(Clone, Copy, PartialEq, Eq)]
 pub enum Head {
     Words,
     Events,
@@ -110,7 +110,7 @@ impl Head {
 }
 
 /// A part of a case: the line that heads it, without its first word, and its lines.
-#[derive(Clone, Copy, Debug)]
+#[derive(Clone, Copy)]
 pub struct Part<'a> {
     pub head: Head,
     pub rest: Line<'a>,

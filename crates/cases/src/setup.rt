@@ -18,7 +18,7 @@ pub struct Setup {
 }
 
 /// An end of the outside.
-#[derive(Clone, Copy, Debug, PartialEq, Eq)]
+#[derive(Clone, Copy, PartialEq, Eq)]
 pub enum End {
     Files,
     Link,
@@ -42,7 +42,7 @@ impl End {
 }
 
 /// The calls that fail.
-#[derive(Clone, Copy, Debug, PartialEq, Eq)]
+#[derive(Clone, Copy, PartialEq, Eq)]
 pub struct Failing {
     pub files: u64,
     pub link: u64,

@@ -4,7 +4,7 @@ use crate::part::Line;
 use std::alloc::{AllocError, Global};
 
 /// What a string stands for.
-#[derive(Clone, Copy, Debug, PartialEq, Eq)]
+#[derive(Clone, Copy, PartialEq, Eq)]
 pub enum Kind {
     /// Itself.
     Plain,
@@ -19,7 +19,7 @@ pub enum Kind {
 }
 
 /// A string: what stands before it, what it stands for, its text as it is written, and how often it comes.
-#[derive(Clone, Copy, Debug)]
+#[derive(Clone, Copy)]
 pub struct Quoted<'a> {
     pub before: &'a str,
     pub kind: Kind,
@@ -119,14 +119,14 @@ pub fn strings_in<'a>(alloc: Global, line: Line<'a>) -> Result<Strings<'a>, Wron
 }
 
 // A character of a string, or the number of a unit or a byte.
-#[derive(Clone, Copy, Debug)]
+#[derive(Clone, Copy)]
 enum Item {
     Char(char),
     Code(u16),
 }
 
 // Where the next character of a string stands: behind a backslash, or with so many digits still to come.
-#[derive(Clone, Copy, Debug)]
+#[derive(Clone, Copy)]
 enum At {
     Text,
     Escape,

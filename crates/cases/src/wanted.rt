@@ -8,7 +8,7 @@ use std::alloc::{AllocError, Global};
 const NUMBER: char = '\0';
 
 /// How a line is compared with a wanted one.
-#[derive(Clone, Copy, Debug, PartialEq, Eq)]
+#[derive(Clone, Copy, PartialEq, Eq)]
 pub enum Way {
     Report,
     Dump,
@@ -30,7 +30,7 @@ impl Wanted<'_> {
 }
 
 /// A line that came, counted from 0, and the one that was wanted; `None` is none.
-#[derive(Clone, Copy, Debug)]
+#[derive(Clone, Copy)]
 pub struct Difference<'a> {
     pub at: usize,
     pub wanted: Option<Line<'a>>,
