@@ -1,5 +1,5 @@
 -- What a unit, a character and a byte make of a terminal.
-use Rattle.std.proofs.Common.{◌≡◌, ℕ, List, [], ◌∷◌, ◌++◌, ◌+◌, ◌-◌, ◌/◌, ◌%◌, ◌<◌, ◌≤◌, false, nat_lt, take, drop, length, length-drop, get_or, arith, refl, sym, ap, ◌∙◌}
+use Rattle.std.proofs.Common.{◌≡◌, ℕ, List, [], ◌∷◌, ◌++◌, ◌+◌, ◌-◌, ◌<◌, ◌≤◌, take, drop, length, length-drop, get_or, arith, refl, sym, ap, ◌∙◌}
 use Rattle.std.specs.Prelude.{flat_map, fold}
 use Rattle.std.proofs.lemmas.Grind.{flat_map-append}
 use Rattle.std.proofs.lemmas.List.{take_more, take_all, length-take}
@@ -8,7 +8,6 @@ use Rattle.con_units.specs.Split.{next}
 use Rattle.con_units.specs.Utf8.{utf8}
 use Rattle.con_units.specs.SplitLaws.{split_after-one}
 use Rattle.con_vtgram.specs.Text.{grammar}
-use Rattle.std.proofs.lemmas.Bool.Decides.{nat_tests}
 use Rattle.con_vtgram.specs.declared.item.Item.{Item}
 use Rattle.con_term.specs.Page.{Page}
 use Rattle.con_term.specs.Effect.{effect}
@@ -21,10 +20,9 @@ pub unit_any : (t : Terminal) (u : ℕ) (items : List Item) (page : Page) (tail 
 unfolding typed
 unit_any t u items page tail is rest e = rw (split_after-one grammar t.units u, ← is, e, rest) refl
 
-pub pair : (t mid after : Terminal) (c : ℕ) → 0x10000 ≤ c → mid ≡ typed t ((0xD800 + (c - 0x10000) / 1024) ∷ []) → after ≡ typed mid ((0xDC00 + (c - 0x10000) % 1024) ∷ []) → after ≡ typed t (units_of c)
-unfolding units_of
-pair t mid after c large first second = let b : nat_lt c 0x10000 ≡ false = grind (arith, nat_tests) in
-    second ∙ ap (λ s. typed s ((0xDC00 + (c - 0x10000) % 1024) ∷ [])) first ∙ typed-append t _ _ ∙ rw b refl
+pub pair : (t mid after : Terminal) (c high low : ℕ) → high ∷ low ∷ [] ≡ units_of c → mid ≡ typed t (high ∷ []) → after ≡ typed mid (low ∷ []) → after ≡ typed t (units_of c)
+pair t mid after c high low is first second =
+    second ∙ ap (λ s. typed s (low ∷ [])) first ∙ typed-append t (high ∷ []) (low ∷ []) ∙ ap (typed t) is
 
 pub byte : (t mid after : Terminal) (b : ℕ) (held first second : List ℕ) → first ++ second ≡ (next utf8 t.bytes b).items → held ≡ (next utf8 t.bytes b).tail
     → mid ≡ typed (record t { bytes = held }) (flat_map units_of first) → after ≡ typed mid (flat_map units_of second) → after ≡ play t (b ∷ [])

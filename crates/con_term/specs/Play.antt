@@ -1,5 +1,6 @@
 -- What bytes make of a terminal.
-use Rattle.std.specs.Prelude.{ℕ, ◌+◌, ◌-◌, ◌/◌, ◌%◌, nat_lt, List, [], ◌∷◌, fold, flat_map, if◌then◌else◌}
+use Rattle.std.specs.Prelude.{ℕ, List, fold, flat_map}
+use Rattle.std.specs.Char.Escape.{encode_utf16}
 use Rattle.con_units.specs.Split.{split_after}
 use Rattle.con_units.specs.Utf8.{utf8}
 use Rattle.con_vtgram.specs.Text.{grammar}
@@ -7,9 +8,9 @@ use Rattle.con_term.specs.Effect.{effect}
 use Rattle.con_term.specs.Cost.{costs}
 use Rattle.con_term.specs.Terminal.{Terminal}
 
--- the units of a character
+-- the one or two units of a character in UTF-16; closed, so that a goal about many of them stays short
 unfoldable pub units_of : ℕ → List ℕ
-units_of c = if nat_lt c 0x10000 then c ∷ [] else (0xD800 + (c - 0x10000) / 1024) ∷ (0xDC00 + (c - 0x10000) % 1024) ∷ []
+units_of c = encode_utf16 c
 
 -- the terminal after units
 unfoldable pub typed : Terminal → List ℕ → Terminal

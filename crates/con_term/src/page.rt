@@ -16,6 +16,7 @@ use crate::block::Block;
 use crate::cells::copy_into;
 use crate::ends::ends_at_front;
 use crate::pen::{Pen, after_all};
+use crate::units::surrogates;
 use con_units::{Cell, Coord, OutOfMemory, Rows, Size, View};
 use con_vtgram::{Csi, Found};
 use std::alloc::Global;
@@ -222,9 +223,9 @@ impl Page {
         if code < 0x10000 {
             self.print(code as u16);
         } else {
-            let above = code - 0x10000;
-            self.print((0xD800 + above / 1024) as u16);
-            self.print((0xDC00 + above % 1024) as u16);
+            let (high, low) = surrogates(code);
+            self.print(high);
+            self.print(low);
         }
     }
 

@@ -12,6 +12,7 @@ use crate::dump::dump;
 use crate::ends::is_end;
 use crate::front::front_character;
 use crate::page::Page;
+use crate::units::surrogates;
 use con_units::{Cell, OutOfMemory, Size, Units, Utf8, View};
 use con_vtgram::{Found, Splitter, is_plain, plain_is_printed};
 use std::alloc::Global;
@@ -154,9 +155,9 @@ fn character_typed(page: &mut Page, units: &mut Splitter, character: char)
     if code < 0x10000 {
         unit_typed(page, units, code as u16);
     } else {
-        let above = code - 0x10000;
-        unit_typed(page, units, (0xD800 + above / 1024) as u16);
-        unit_typed(page, units, (0xDC00 + above % 1024) as u16);
+        let (high, low) = surrogates(code);
+        unit_typed(page, units, high);
+        unit_typed(page, units, low);
     }
 }
 

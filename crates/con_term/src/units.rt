@@ -1,6 +1,6 @@
 //! Bytes of UTF-8 as UTF-16 code units.
 
-ghost use Rattle.std.specs.Prelude.{◌≡◌, ℕ, ◌+◌, ◌-◌, ◌*◌, ◌≤◌, ◌<◌, max, true, List, [], ◌∷◌, ◌++◌};
+ghost use Rattle.std.specs.Prelude.{◌≡◌, ℕ, ◌+◌, ◌-◌, ◌*◌, ◌/◌, ◌%◌, ◌≤◌, ◌<◌, max, true, List, [], ◌∷◌, ◌++◌};
 ghost use Rattle.std.specs.Prelude.{length, get_or, take, flat_map, option_to_list, vec_len, vec_capacity};
 ghost use Rattle.std.specs.List.{list_all};
 ghost use Rattle.con_units.specs.Split.{split_after, next};
@@ -15,6 +15,21 @@ use std::mem;
 // How many bytes are looked at together.
 const CHUNK: usize = 64;
 
+/// The high and the low unit of a character above U+FFFF.
+#[tactic(auto, unfolding(crate::specs::Play::units_of))]
+pub fn surrogates(code: u32) -> (u16, u16)
+    requires { (0x10000 ≤ code) × (code < 0x140000) }
+    ensures high { result.0 ≡ 0xD800 + (code - 0x10000) / 0x400 }
+    ensures low { result.1 ≡ 0xDC00 + (code - 0x10000) % 0x400 }
+    ensures units { result.0 ∷ result.1 ∷ [] ≡ units_of code }
+{
+    let above = code - 0x10000;
+    (
+        (0xD800 + above / 0x400) as u16,
+        (0xDC00 + above % 0x400) as u16,
+    )
+}
+
 // Puts the one or two units of a character last.
 #[tactic(auto, unfolding(crate::specs::Play::units_of))]
 fn push_character(units: &mut Vec<u16>, code: u32)
@@ -27,9 +42,9 @@ fn push_character(units: &mut Vec<u16>, code: u32)
     if code < 0x10000 {
         units.push_reserved(code as u16);
     } else {
-        let above = code - 0x10000;
-        units.push_reserved((0xD800 + above / 1024) as u16);
-        units.push_reserved((0xDC00 + above % 1024) as u16);
+        let (high, low) = surrogates(code);
+        units.push_reserved(high);
+        units.push_reserved(low);
     }
 }
 
