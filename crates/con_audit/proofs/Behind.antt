@@ -16,7 +16,7 @@ use Rattle.con_events.specs.declared.reply.Reply.{Reply}
 use Rattle.con_events.specs.declared.reply.Reply.TheVariants as replies
 use Rattle.con_machine.specs.Along.{Along, after}
 use Rattle.con_machine.specs.Client.{Client, MayBy, starting, moved_on, client_after}
-use Rattle.con_machine.specs.Follows.{begun, is_one_of, steps_of, kinds_of, MaySend, Sender, sent_one, asks, asks_by}
+use Rattle.con_machine.specs.Follows.{session_start, is_one_of, steps_of, kinds_of, MaySend, Sender, sent_one, asks, asks_by}
 use Rattle.con_machine.specs.History.{run}
 use Rattle.con_machine.specs.HistoryLaws.{after-append, run-append, turns-own, turns-other, sent-own, sent-other, sights-one}
 use Rattle.con_machine.specs.Marks.{told}
@@ -40,11 +40,11 @@ use Rattle.con_audit.proofs.Tracks.{tracks_set, tracks_same, read_at}
 
 own_turn : (g : Given) (h : List Entry) (x : Entry) (q : ℕ) → is_client q x.actor ≡ true → client_now g (h ++ x ∷ []) q ≡ moved_on (client_now g h q) (turn_of (state_after g h) q x)
 own_turn g h x q o =
-    ap (client_after (steps_of g.session q) (kinds_of g.racks q)) (turns-own (begun g.session g.racks) q h x o)
-    ∙ after-append moved_on (starting (steps_of g.session q) (kinds_of g.racks q)) (turns (begun g.session g.racks) q h) (turn_of (state_after g h) q x ∷ [])
+    ap (client_after (steps_of g.session q) (kinds_of g.racks q)) (turns-own (session_start g.session g.racks) q h x o)
+    ∙ after-append moved_on (starting (steps_of g.session q) (kinds_of g.racks q)) (turns (session_start g.session g.racks) q h) (turn_of (state_after g h) q x ∷ [])
 
 others_turn : (g : Given) (h : List Entry) (x : Entry) (p : ℕ) → is_client p x.actor ≡ false → client_now g (h ++ x ∷ []) p ≡ client_now g h p
-others_turn g h x p o = ap (client_after (steps_of g.session p) (kinds_of g.racks p)) (turns-other (begun g.session g.racks) p h x o)
+others_turn g h x p o = ap (client_after (steps_of g.session p) (kinds_of g.racks p)) (turns-other (session_start g.session g.racks) p h x o)
 
 -- the same client is answered the same
 moves_alike : (c d : Client) (e : Event) (r q : Reply) (b f : Bool) → c ≡ d → r ≡ q → b ≡ f → moved_on c (turn e r b) ≡ moved_on d (turn e q f)
@@ -97,7 +97,7 @@ side_one frames h actors.Terminal e = let x : Entry = record { actor = actors.Te
 side_one frames h actors.Painter e = let x : Entry = record { actor = actors.Painter; event = e } in side_from _ _ _ _ (sender_same frames h x refl) (asked_one h x)
 
 watch_one : (g : Given) (h : List Entry) (x : Entry) → watch_after g (h ++ x ∷ []) ≡ after (watched g.stream) (watch_after g h) (sights_at (state_after g h) x.event)
-watch_one g h x = ap (after (watched g.stream) (watching g.session.size g.ends)) (sights-one (begun g.session g.racks) h x) ∙ after-append (watched g.stream) (watching g.session.size g.ends) (sights_of (begun g.session g.racks) h) (sights_at (state_after g h) x.event)
+watch_one g h x = ap (after (watched g.stream) (watching g.session.size g.ends)) (sights-one (session_start g.session g.racks) h x) ∙ after-append (watched g.stream) (watching g.session.size g.ends) (sights_of (session_start g.session g.racks) h) (sights_at (state_after g h) x.event)
 
 -- nothing is entered yet
 pub stands_still : (s t : State) (tracks : List Client) (side : Side) (watch : Watch) (g : Given) (frames : List Frame) (h : List Entry) → t ≡ s
@@ -110,7 +110,7 @@ pub stands_one : (s t : State) (tracks tracks' : List Client) (side side' : Side
     → tracks' ≡ entered_by tracks x.actor x.event answer (is_pending t) → side' ≡ side_by side x.actor x.event → watch' ≡ after (watched stream) watch (sights_at s x.event)
     → Stands t tracks' side' watch' g frames (h ++ x ∷ [])
 stands_one s t tracks tracks' side side' watch watch' g frames h x answer stream b f m next reply one two three = record {
-  console = next ∙ ap (λ (r : State). (step r x.actor x.event).after) b.console ∙ sym (run-append (begun g.session g.racks) h (x ∷ []));
+  console = next ∙ ap (λ (r : State). (step r x.actor x.event).after) b.console ∙ sym (run-append (session_start g.session g.racks) h (x ∷ []));
   clients = subst (AreTracks (length g.session.scripts) (client_now g (h ++ x ∷ []))) (sym one)
       (clients_one s tracks g h x.actor x.event answer t side b.console b.clients m next reply);
   side' = two ∙ ap (λ (r : Side). side_by r x.actor x.event) b.side' ∙ sym (side_one frames h x.actor x.event);
@@ -367,7 +367,7 @@ ended_is s (e ∷ es) = ended_is (sent_one s e) es
 
 -- ---- before the first entry
 
-begun_alike : (c d : Clients) (r q : List (List ℕ)) → c ≡ d → r ≡ q → begun c r ≡ begun d q
+begun_alike : (c d : Clients) (r q : List (List ℕ)) → c ≡ d → r ≡ q → session_start c r ≡ session_start d q
 begun_alike c d r q e f = rw (e, f) refl
 
 watching_alike : (c d : Clients) (es fs : List ℕ) → c ≡ d → es ≡ fs → watching c.size es ≡ watching d.size fs

@@ -9,7 +9,7 @@ use Rattle.con_events.specs.declared.event.Event.{Event}
 use Rattle.con_events.specs.declared.event.Event.TheVariants as events
 use Rattle.con_machine.specs.Along.{Along, after}
 use Rattle.con_machine.specs.DueLaws.{ask_is_terminals, asked_after, nothing_due}
-use Rattle.con_machine.specs.Follows.{MayAct, asks, asks_by, begun}
+use Rattle.con_machine.specs.Follows.{MayAct, asks, asks_by, session_start}
 use Rattle.con_machine.specs.History.{is_legal}
 use Rattle.con_machine.specs.ShowingLaws.{painted_shows}
 use Rattle.con_machine.specs.State.{State}
@@ -77,13 +77,13 @@ none_asked s (x ∷ xs) out ended l a o h =
 
 -- behind entries that pass
 nothing_asked : (g : Given) (frames : List Frame) → Passes g frames g.entries → has_ended false (sent g.entries) ≡ true → asks_after g.entries ≡ false
-nothing_asked g frames (legal, (replies, (follows, rest))) h = none_asked (begun g.session g.racks) g.entries false false legal follows.answered (λ e. refl) h
+nothing_asked g frames (legal, (replies, (follows, rest))) h = none_asked (session_start g.session g.racks) g.entries false false legal follows.answered (λ e. refl) h
 
 -- ---- what is tried at the end
 
 pub record IsDone (g : Given) : Type 0 where
   pub ends : last_end 0 g.ends ≡ length g.stream
-  pub left : HaveAllLeft (begun g.session g.racks) g.entries g.session g.racks
+  pub left : HaveAllLeft (session_start g.session g.racks) g.entries g.session g.racks
   pub ended : has_ended false (sent g.entries) ≡ true
   pub quiet : is_ready (state_after g g.entries) actors.Painter events.Paint ≡ false
 
@@ -95,5 +95,5 @@ whole_is_done g frames p (ends, w) = record {
   ends = ends;
   left = w.clients;
   ended = w.ended;
-  quiet = nothing_due (begun g.session g.racks) g.entries w.shown (asked_after (begun g.session g.racks) g.entries ∙ nothing_asked g frames p w.ended);
+  quiet = nothing_due (session_start g.session g.racks) g.entries w.shown (asked_after (session_start g.session g.racks) g.entries ∙ nothing_asked g frames p w.ended);
 }

@@ -14,7 +14,7 @@ use Rattle.con_machine.specs.Along.{Along}
 use Rattle.con_machine.specs.History.{is_legal}
 use Rattle.con_machine.specs.Turns.{moved, is_paint}
 use Rattle.con_machine.specs.Sights.{sights_of}
-use Rattle.con_machine.specs.Follows.{Follows, begun}
+use Rattle.con_machine.specs.Follows.{Follows, session_start}
 use Rattle.con_machine.specs.Whole.{IsWhole}
 use Rattle.con_audit.specs.Watching.{watching, watched, HasEnd, IsSeen}
 use Rattle.con_audit.specs.declared.verdict.What.{What}
@@ -59,12 +59,12 @@ last_end n [] = n
 last_end n (e ∷ es) = last_end e es
 
 abbrev pub Holds : What → Given → List Frame → List Entry → Type 0
-Holds what.Ready g frames h = is_legal (begun g.session g.racks) h ≡ true
-Holds what.Reply g frames h = AreReplied (begun g.session g.racks) h g.replies
-Holds what.Follows g frames h = Follows (begun g.session g.racks) h g.session g.racks frames ends.Done
-Holds what.End g frames h = Along (HasEnd g.stream) (watched g.stream) (watching g.session.size g.ends) (sights_of (begun g.session g.racks) h)
-Holds what.Shows g frames h = Along (IsSeen g.stream) (watched g.stream) (watching g.session.size g.ends) (sights_of (begun g.session g.racks) h)
-Holds what.Whole g frames h = (last_end 0 g.ends ≡ length g.stream) × IsWhole (begun g.session g.racks) h g.session g.racks
+Holds what.Ready g frames h = is_legal (session_start g.session g.racks) h ≡ true
+Holds what.Reply g frames h = AreReplied (session_start g.session g.racks) h g.replies
+Holds what.Follows g frames h = Follows (session_start g.session g.racks) h g.session g.racks frames ends.Done
+Holds what.End g frames h = Along (HasEnd g.stream) (watched g.stream) (watching g.session.size g.ends) (sights_of (session_start g.session g.racks) h)
+Holds what.Shows g frames h = Along (IsSeen g.stream) (watched g.stream) (watching g.session.size g.ends) (sights_of (session_start g.session g.racks) h)
+Holds what.Whole g frames h = (last_end 0 g.ends ≡ length g.stream) × IsWhole (session_start g.session g.racks) h g.session g.racks
 
 -- the parts, in the order in which they are tried at each entry
 abbrev pub parts : List What

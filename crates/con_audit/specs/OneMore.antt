@@ -11,7 +11,7 @@ use Rattle.con_machine.specs.Along.{Along, after}
 use Rattle.con_machine.specs.History.{run}
 use Rattle.con_machine.specs.Turns.{turns, turn_of, sent}
 use Rattle.con_machine.specs.Client.{Client, May, client_after}
-use Rattle.con_machine.specs.Follows.{begun, is_one_of, steps_of, kinds_of, Sender, MaySend, sent_one, asks}
+use Rattle.con_machine.specs.Follows.{session_start, is_one_of, steps_of, kinds_of, Sender, MaySend, sent_one, asks}
 use Rattle.con_machine.specs.Sights.{sights_of, sights_at}
 use Rattle.con_audit.specs.Watching.{Watch, watching, watched, HasEnd, IsSeen}
 use Rattle.con_audit.specs.Audit.{Given, IsReplied, Holds}
@@ -21,10 +21,10 @@ use Rattle.con_audit.specs.declared.verdict.What.TheVariants as what
 -- ---- behind a history
 
 abbrev pub state_after : Given → List Entry → State
-state_after g h = run (begun g.session g.racks) h
+state_after g h = run (session_start g.session g.racks) h
 
 abbrev pub client_now : Given → List Entry → ℕ → Client
-client_now g h p = client_after (steps_of g.session p) (kinds_of g.racks p) (turns (begun g.session g.racks) p h)
+client_now g h p = client_after (steps_of g.session p) (kinds_of g.racks p) (turns (session_start g.session g.racks) p h)
 
 abbrev pub sender_after : List Frame → List Entry → Sender
 sender_after frames h = after sent_one (record { coming = frames; ended = false }) (sent h)
@@ -33,7 +33,7 @@ abbrev pub asks_after : List Entry → Bool
 asks_after h = after asks false h
 
 abbrev pub watch_after : Given → List Entry → Watch
-watch_after g h = after (watched g.stream) (watching g.session.size g.ends) (sights_of (begun g.session g.racks) h)
+watch_after g h = after (watched g.stream) (watching g.session.size g.ends) (sights_of (session_start g.session g.racks) h)
 
 -- ---- an entry
 

@@ -11,29 +11,29 @@ use Rattle.con_book.specs.Lock.{tickets, Moves, Follows}
 use Rattle.con_book.specs.Turn.{Ends}
 use Rattle.con_book.specs.declared.kept.Kept.{Kept}
 use Rattle.con_book.specs.declared.history.Logged.{Logged}
-use Rattle.con_book.specs.declared.view.View.{View}
+use Rattle.con_book.specs.declared.view.PassView.{PassView}
 use Rattle.con_book.proofs.Views.{total_two}
 use Rattle.con_book.proofs.Steps.{alive, Rule, not_due}
 use Rattle.con_book.proofs.Passes.{match_true}
 use Rattle.con_book.proofs.Among.{not_among}
 
 module _ {M S E : Type 0} (state : M → S) (moves : Moves S E) (start : S) where
-  all_home : (s : State (Option (Kept M E)) (View S E)) (r : Rule state moves start s) (id : ℕ) (v : View S E) → get_elem? s.views id ≡ some v → v.parts ≡ 4294967296 → tickets v.stage ≡ 0 → (b : Bool) → r.busy ≡ b
+  all_home : (s : State (Option (Kept M E)) (PassView S E)) (r : Rule state moves start s) (id : ℕ) (v : PassView S E) → get_elem? s.views id ≡ some v → v.parts ≡ 4294967296 → tickets v.stage ≡ 0 → (b : Bool) → r.busy ≡ b
       → (x : Kept M E) × (get_elem? s.homes 0 ≡ some (some (Some x))) × Follows state moves start r.log x
   all_home s r id v at whole idle false is = r.home is
   all_home s r id v at whole idle true is =
       let d = r.out is in
       let p = r.parts in
       absurd (dite (ℕ_discrete d.0 id)
-      (λ e. let one : d.1 ≡ v = some-injective d.1 v (sym d.3 ∙ subst (λ (n : ℕ). get_elem? s.views n ≡ some v) (sym e) at) in not_due v.stage d.2 idle (ap (λ (z : View S E). z.stage) (sym one) ∙ d.4))
+      (λ e. let one : d.1 ≡ v = some-injective d.1 v (sym d.3 ∙ subst (λ (n : ℕ). get_elem? s.views n ≡ some v) (sym e) at) in not_due v.stage d.2 idle (ap (λ (z : PassView S E). z.stage) (sym one) ∙ d.4))
       (λ ne.
-      let two = total_two (λ (z : View S E). z.parts) s.views d.0 id d.1 v ne d.3 at in
+      let two = total_two (λ (z : PassView S E). z.parts) s.views d.0 id d.1 v ne d.3 at in
       ⊎_elim
-      (λ e. not_due d.1.stage d.2 (ap (λ (z : View S E). tickets z.stage) e) d.4)
+      (λ e. not_due d.1.stage d.2 (ap (λ (z : PassView S E). tickets z.stage) e) d.4)
       (λ f. let k = f.some_part in omega arith)
       (r.each d.0 d.1 d.3)))
 
-  pub ends : (id : ℕ) (v : View S E) (ws : List ℕ) (xs : List (Option (Kept M E))) → v.live ≡ true → v.opens ≡ true → length v.kept ≡ length v.made → tickets v.stage ≡ 0
+  pub ends : (id : ℕ) (v : PassView S E) (ws : List ℕ) (xs : List (Option (Kept M E))) → v.live ≡ true → v.opens ≡ true → length v.kept ≡ length v.made → tickets v.stage ≡ 0
       → Final (Seen (Rule state moves start) id v) ws xs → (x : Kept M E) × (get_elem? xs 0 ≡ some (Some x)) × Ends state moves.next moves.is_ready v x.log.items x.machine
   ends id v ws xs is_live opens joined idle last =
       let s = last.0 in
@@ -64,5 +64,5 @@ module _ {M S E : Type 0} (state : M → S) (moves : Moves S E) (start : S) wher
   pub some_is : (got : Option (Kept M E)) (x : Kept M E) → got ≡ Some x → IsSome got
   some_is got x e = subst IsSome (sym e) refl
 
-  pub ends_at : (v : View S E) (x y : Kept M E) → Some x ≡ Some y → Ends state moves.next moves.is_ready v x.log.items x.machine → Ends state moves.next moves.is_ready v y.log.items y.machine
+  pub ends_at : (v : PassView S E) (x y : Kept M E) → Some x ≡ Some y → Ends state moves.next moves.is_ready v x.log.items x.machine → Ends state moves.next moves.is_ready v y.log.items y.machine
   ends_at v x y e k = let q : x ≡ y = ap (λ (o : Option (Kept M E)). unwrap_or o x) e in subst (λ (z : Kept M E). Ends state moves.next moves.is_ready v z.log.items z.machine) q k

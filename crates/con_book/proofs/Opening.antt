@@ -6,7 +6,7 @@ use Rattle.atomic_table.specs.Table.{opening}
 use Rattle.con_book.specs.History.{In}
 use Rattle.con_book.specs.Lock.{Status, fresh, live, Moves, opener, spent, Fits, Orderly}
 use Rattle.con_book.specs.declared.kept.Kept.{Kept}
-use Rattle.con_book.specs.declared.view.View.{View}
+use Rattle.con_book.specs.declared.view.PassView.{PassView}
 
 only : {A : Type 0} (a : A) (j : ℕ) (b : A) → get_elem? (a ∷ []) j ≡ some b → (j ≡ 0) × (a ≡ b)
 only a zero b e = (refl, some-injective a b e)
@@ -23,7 +23,7 @@ module _ {M S E : Type 0} (state : M → S) (moves : Moves S E) where
 
   pub opens : (start : S) (x : Kept M E) → x.log.items ≡ [] → state x.machine ≡ start → Orderly state moves start (opening (1 ∷ 0 ∷ 0 ∷ []) (Some x ∷ []) (opener start))
   opens start x no_log is =
-      let v : View S E = opener start in
+      let v : PassView S E = opener start in
       record {
         served = 0;
         drawn = 0;
@@ -36,7 +36,7 @@ module _ {M S E : Type 0} (state : M → S) (moves : Moves S E) where
         counted = refl;
         parts = refl;
         each = λ j w e. let q = only v j w e in
-            subst (λ (z : ℕ × View S E). (z.1 ≡ spent moves.blank) ⊎ Fits start 0 0 [] at_first z.0 z.1) (λ i. (sym q.0 i, q.1 i))
+            subst (λ (z : ℕ × PassView S E). (z.1 ≡ spent moves.blank) ⊎ Fits start 0 0 [] at_first z.0 z.1) (λ i. (sym q.0 i, q.1 i))
             (inr (record {
               starts = refl;
               seen = ([], refl);

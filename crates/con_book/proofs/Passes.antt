@@ -16,7 +16,7 @@ use Rattle.con_book.specs.Turn.{IsLonger}
 use Rattle.con_book.specs.declared.kept.Kept.{Kept}
 use Rattle.con_book.specs.declared.history.Logged.{Logged}
 use Rattle.con_book.specs.declared.view.Joined.{Joined}
-use Rattle.con_book.specs.declared.view.View.{View}
+use Rattle.con_book.specs.declared.view.PassView.{PassView}
 use Rattle.con_book.specs.declared.view.Stage.{Stage}
 use Rattle.con_book.specs.declared.view.Stage.TheVariants.{Idle, Waiting, Due}
 use Rattle.con_book.proofs.Views.{total_set, total_append, at_end, stays, apart_set, apart_end, due_set, due_stays}
@@ -90,12 +90,12 @@ changed_else : (status : ℕ → Status) (a : ℕ) (new : Status) (b : ℕ) → 
 changed_else status a new b ne = ap (λ c. cond c new (status b)) (ne_eqb b a ne)
 
 module _ {M S E : Type 0} (state : M → S) (moves : Moves S E) (start : S) where
-  pub splits : (id : ℕ) (v : View S E) (a : ℕ) → v.opens ≡ true → v.live ≡ true → a < 4294967296 → ¬ In a (0 ∷ v.made) → Splits (Rule {M = M} state moves start) id v (gave a v) (newcomer a v)
+  pub splits : (id : ℕ) (v : PassView S E) (a : ℕ) → v.opens ≡ true → v.live ≡ true → a < 4294967296 → ¬ In a (0 ∷ v.made) → Splits (Rule {M = M} state moves start) id v (gave a v) (newcomer a v)
   splits id v a opens is_live small new s r at =
       let n : ℕ = length s.views in
-      let left : View S E = gave a v in
-      let right : View S E = newcomer a v in
-      let views : List (View S E) = set s.views id left in
+      let left : PassView S E = gave a v in
+      let right : PassView S E = newcomer a v in
+      let views : List (PassView S E) = set s.views id left in
       let status : ℕ → Status = changed r.status a (live n) in
       let fit = alive state moves start r.served r.drawn r.log r.status id v is_live (r.each id v at) in
       let first = fit.opens_first opens in
@@ -109,7 +109,7 @@ module _ {M S E : Type 0} (state : M → S) (moves : Moves S E) (start : S) wher
       let long : length views ≡ n = length-set s.views id left in
       let old_live : (b j : ℕ) → r.status b ≡ live j → status b ≡ live j = λ b j e. else b (λ q. let p : fresh ≡ live j = sym was ∙ (ap r.status (sym q) ∙ e) in cc) ∙ e in
       let old_closed : (b : ℕ) → r.status b ≡ closed → status b ≡ closed = λ b e. else b (λ q. let p : fresh ≡ closed = sym was ∙ (ap r.status (sym q) ∙ e) in cc) ∙ e in
-      let K : ℕ → View S E → Type 0 = Known state moves start r.served r.drawn r.log status in
+      let K : ℕ → PassView S E → Type 0 = Known state moves start r.served r.drawn r.log status in
       let olds = stays K s.views id left
       (inr (record {
         starts = fit.starts;
@@ -166,21 +166,21 @@ module _ {M S E : Type 0} (state : M → S) (moves : Moves S E) (start : S) wher
         wide = r.wide;
         drawn_word = r.drawn_word;
         served_word = r.served_word;
-        counted = let c : r.served + total (λ (z : View S E). tickets z.stage) s.views ≡ r.drawn = r.counted in
-            let k = total_set (λ (z : View S E). tickets z.stage) s.views id v left at in let t = total_append (λ (z : View S E). tickets z.stage) views (right ∷ []) in omega arith;
-        parts = let c = r.parts in let k = total_set (λ (z : View S E). z.parts) s.views id v left at in let t = total_append (λ (z : View S E). z.parts) views (right ∷ []) in omega arith;
-        each = λ j w e. ⊎_elim (λ p. olds j w p) (λ p. subst (λ (z : ℕ × View S E). K z.0 z.1) (λ i. (sym (p.0 ∙ long) i, p.1 i)) here) (at_end views right j w e);
+        counted = let c : r.served + total (λ (z : PassView S E). tickets z.stage) s.views ≡ r.drawn = r.counted in
+            let k = total_set (λ (z : PassView S E). tickets z.stage) s.views id v left at in let t = total_append (λ (z : PassView S E). tickets z.stage) views (right ∷ []) in omega arith;
+        parts = let c = r.parts in let k = total_set (λ (z : PassView S E). z.parts) s.views id v left at in let t = total_append (λ (z : PassView S E). z.parts) views (right ∷ []) in omega arith;
+        each = λ j w e. ⊎_elim (λ p. olds j w p) (λ p. subst (λ (z : ℕ × PassView S E). K z.0 z.1) (λ i. (sym (p.0 ∙ long) i, p.1 i)) here) (at_end views right j w e);
         apart = apart_end views right (apart_set s.views id left r.apart (λ j z t other e h h'. other (r.apart j id z v t e at h h'))) (λ t h. h);
         strangers = λ b e. dite (ℕ_discrete b a) (λ q. let p : live n ≡ fresh = sym (changed_here r.status a (live n)) ∙ (ap status (sym q) ∙ e) in cc) (λ ne. r.strangers b (sym (else b ne) ∙ e));
         out = λ b. let d = due_stays s.views id v left at refl (r.out b) in (d.0, d.1, d.2, at_longer views (right ∷ []) d.0 d.1 d.3, d.4);
         home = r.home;
       }
 
-  pub splits_at : (id : ℕ) (v : View S E) (a b : ℕ) → a ≡ b → v.opens ≡ true → v.live ≡ true → a < 4294967296 → ¬ In a (0 ∷ v.made) → Splits (Rule {M = M} state moves start) id v (gave b v) (newcomer b v)
+  pub splits_at : (id : ℕ) (v : PassView S E) (a b : ℕ) → a ≡ b → v.opens ≡ true → v.live ≡ true → a < 4294967296 → ¬ In a (0 ∷ v.made) → Splits (Rule {M = M} state moves start) id v (gave b v) (newcomer b v)
   splits_at id v a b same opens is_live small new = subst (λ (c : ℕ). Splits (Rule {M = M} state moves start) id v (gave c v) (newcomer c v)) same (splits id v a opens is_live small new)
 
   -- a step that leaves its word and its view as they were leaves the table as it was
-  unmoved : (s : State (Option (Kept M E)) (View S E)) (i id : ℕ) (c : List (ℕ × Option (Kept M E))) (v : View S E) → get_elem? s.views id ≡ some v → stepped s i (get_or s.words i 0) id c v keeps ≡ s
+  unmoved : (s : State (Option (Kept M E)) (PassView S E)) (i id : ℕ) (c : List (ℕ × Option (Kept M E))) (v : PassView S E) → get_elem? s.views id ≡ some v → stepped s i (get_or s.words i 0) id c v keeps ≡ s
   unmoved s i id c v at = λ j. record { words = set-get_or s.words i 0 j; homes = s.homes; views = set_again s.views id v at j }
 
   pub minds : (slots id : ℕ) (m : Sat M S E) → m.0.live ≡ true → Allows (Rule {M = M} state moves start) slots id m 0 (λ n. n) (Minds (step slots 0 0 0 none) m)
@@ -197,12 +197,12 @@ module _ {M S E : Type 0} (state : M → S) (moves : Moves S E) (start : S) wher
       sym (append_assoc mine (own a more.0) (own a q.0)) ∙ (ap (λ l. l ++ own a q.0) (sym split) ∙ (sym (own-append a ys q.0) ∙ (ap (own a) (sym q.1) ∙ (whole ∙ sym (append-nil mine))))) in
       split ∙ (ap (λ l. mine ++ l) (nil_left (own a more.0) (own a q.0) (append_cancel_left mine (own a more.0 ++ own a q.0) [] all)) ∙ append-nil mine)
 
-  pub joins : (id : ℕ) (v : View S E) (other : ℕ) (w : View S E) → v.live ≡ true → w.live ≡ true → tickets v.stage ≡ 0 → tickets w.stage ≡ 0 → w.opens ≡ false
+  pub joins : (id : ℕ) (v : PassView S E) (other : ℕ) (w : PassView S E) → v.live ≡ true → w.live ≡ true → tickets v.stage ≡ 0 → tickets w.stage ≡ 0 → w.opens ≡ false
       → Joins (Rule {M = M} state moves start) id v other w (both v w) (spent moves.blank)
   joins id v other w is_live is_live' idle idle' plain s r at apart there' =
-      let gone : View S E = spent moves.blank in
-      let left : View S E = both v w in
-      let views : List (View S E) = set s.views id left in
+      let gone : PassView S E = spent moves.blank in
+      let left : PassView S E = both v w in
+      let views : List (PassView S E) = set s.views id left in
       let there : get_elem? s.views other ≡ some w = sym (set_else s.views id other left apart) ∙ there' in
       let status : ℕ → Status = changed r.status w.actor closed in
       let fit = alive state moves start r.served r.drawn r.log r.status id v is_live (r.each id v at) in
@@ -212,7 +212,7 @@ module _ {M S E : Type 0} (state : M → S) (moves : Moves S E) (start : S) wher
       λ b j ne e. else b (λ q. let p : live j ≡ live other = sym e ∙ (ap r.status q ∙ fit'.is_live) in ne cc) ∙ e in
       let old_closed : (b : ℕ) → r.status b ≡ closed → status b ≡ closed = λ b e. else b (λ q. let p : closed ≡ live other = sym e ∙ (ap r.status q ∙ fit'.is_live) in cc) ∙ e in
       let old_fresh : (b : ℕ) → r.status b ≡ fresh → status b ≡ fresh = λ b e. else b (λ q. let p : fresh ≡ live other = sym e ∙ (ap r.status q ∙ fit'.is_live) in cc) ∙ e in
-      let K : ℕ → View S E → Type 0 = Known state moves start r.served r.drawn r.log status in
+      let K : ℕ → PassView S E → Type 0 = Known state moves start r.served r.drawn r.log status in
       let keeps : (l : List (Joined E)) → ((k : Joined E) → In k l → (r.status k.actor ≡ closed) × (own k.actor r.log ≡ k.mine) × StartsWith r.log k.seen)
       → (k : Joined E) → In k l → (status k.actor ≡ closed) × (own k.actor r.log ≡ k.mine) × StartsWith r.log k.seen = λ l f k h. let q = f k h in (old_closed k.actor q.0, q.1, q.2) in
       let more : w.parts ≡ 1 + length w.kept = match_false w.opens (w.parts + length w.made ≡ 4294967296 + length w.kept) (w.parts ≡ 1 + length w.kept) plain fit'.counts in
@@ -232,7 +232,7 @@ module _ {M S E : Type 0} (state : M → S) (moves : Moves S E) (start : S) wher
             h;
         stands = idle_stands r.served r.drawn (longer v.seen w.seen ≡ r.log) v.stage idle;
       }) in
-      let total_of : (f : View S E → ℕ) → (total f (set views other gone) + f w) + f v ≡ (total f s.views + f left) + f gone =
+      let total_of : (f : PassView S E → ℕ) → (total f (set views other gone) + f w) + f v ≡ (total f s.views + f left) + f gone =
       λ f. let a = total_set f s.views id v left at in let b = total_set f views other w gone there' in omega arith in
       record {
         served = r.served;
@@ -243,8 +243,8 @@ module _ {M S E : Type 0} (state : M → S) (moves : Moves S E) (start : S) wher
         wide = r.wide;
         drawn_word = r.drawn_word;
         served_word = r.served_word;
-        counted = let c : r.served + total (λ (z : View S E). tickets z.stage) s.views ≡ r.drawn = r.counted in let k = total_of (λ (z : View S E). tickets z.stage) in omega arith;
-        parts = let c = r.parts in let k = total_of (λ (z : View S E). z.parts) in omega arith;
+        counted = let c : r.served + total (λ (z : PassView S E). tickets z.stage) s.views ≡ r.drawn = r.counted in let k = total_of (λ (z : PassView S E). tickets z.stage) in omega arith;
+        parts = let c = r.parts in let k = total_of (λ (z : PassView S E). z.parts) in omega arith;
         each = stays K views other gone (inl refl)
             (λ j z ne e. stays (λ j z. j ≢ other → K j z) s.views id left (λ _. here)
             (λ j z ne' e ne. ⊎_elim inl
@@ -269,12 +269,12 @@ module _ {M S E : Type 0} (state : M → S) (moves : Moves S E) (start : S) wher
         home = r.home;
       }
 
-  pub longer_of : (v w : View S E) (log : List (Logged E)) → StartsWith log (longer v.seen w.seen) → StartsWith log v.seen → StartsWith log w.seen → IsLonger v w (both v w)
+  pub longer_of : (v w : PassView S E) (log : List (Logged E)) → StartsWith log (longer v.seen w.seen) → StartsWith log v.seen → StartsWith log w.seen → IsLonger v w (both v w)
   longer_of v w log l p q = longer_elim (λ z. ((z ≡ v.seen) ⊎ (z ≡ w.seen)) × StartsWith z v.seen × StartsWith z w.seen) v.seen w.seen
       (λ le. (inl refl, ([], sym (append-nil v.seen)), begins w.seen v.seen q.0 p.0 (sym q.1 ∙ p.1) le))
       (λ le. (inr refl, begins v.seen w.seen p.0 q.0 (sym p.1 ∙ q.1) le, ([], sym (append-nil w.seen))))
 
-  pub learned : (m n : Sat M S E) (v w : View S E) (c : List (ℕ × Option (Kept M E))) → m ≡ (both v w, c)
+  pub learned : (m n : Sat M S E) (v w : PassView S E) (c : List (ℕ × Option (Kept M E))) → m ≡ (both v w, c)
       → (n ≡ m) × ((log : List (Logged E)) × StartsWith log m.0.seen × StartsWith log m.0.had × ((k : Joined E) → In k m.0.kept → StartsWith log k.seen)) × (own m.0.actor m.0.seen ≡ m.0.mine) → IsLonger v w n.0
   learned m n v w c is tells =
       let k = subst (λ (z : Sat M S E). (n ≡ z) × ((log : List (Logged E)) × StartsWith log z.0.seen × StartsWith log z.0.had × ((k : Joined E) → In k z.0.kept → StartsWith log k.seen)) × (own z.0.actor z.0.seen ≡ z.0.mine)) is tells in

@@ -15,7 +15,7 @@ use Rattle.con_book.specs.Held.{MayPut}
 use Rattle.con_book.specs.declared.view.Joined.{Joined}
 use Rattle.con_book.specs.declared.kept.Kept.{Kept}
 use Rattle.con_book.specs.declared.history.Logged.{Logged}
-use Rattle.con_book.specs.declared.view.View.{View}
+use Rattle.con_book.specs.declared.view.PassView.{PassView}
 use Rattle.con_book.specs.declared.view.Stage.{Stage}
 use Rattle.con_book.specs.declared.view.Stage.TheVariants.{Idle, Waiting, Due}
 use Rattle.con_book.proofs.Views.{at_below, total_set, total_le, stays, apart_set, due_set}
@@ -51,7 +51,7 @@ not_due st t idle e = let p : tickets st ≡ 1 = ap tickets e in omega arith
 
 module _ {M S E : Type 0} (state : M → S) (moves : Moves S E) (start : S) where
   abbrev pub V : Type 0
-  V = View S E
+  V = PassView S E
 
   abbrev pub Rule : State (Option (Kept M E)) V → Type 0
   Rule = Orderly state moves start

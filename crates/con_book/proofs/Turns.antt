@@ -9,7 +9,7 @@ use Rattle.con_book.specs.Held.{Entered, MayPut}
 use Rattle.con_book.specs.Turn.{SeesOthers, IsSame, Enters}
 use Rattle.con_book.specs.declared.kept.Kept.{Kept}
 use Rattle.con_book.specs.declared.history.Logged.{Logged}
-use Rattle.con_book.specs.declared.view.View.{View}
+use Rattle.con_book.specs.declared.view.PassView.{PassView}
 use Rattle.con_book.specs.declared.view.Stage.TheVariants.{Idle, Due}
 
 left_true : (a b : Bool) → (a && b) ≡ true → a ≡ true
@@ -43,7 +43,7 @@ module _ {S E : Type 0} (next : S → ℕ → E → S) (is_ready : S → ℕ →
   legal-push s (x ∷ xs) b e all one = both_true (is_ready s x.actor x.event) (is_legal next is_ready (next s x.actor x.event) (xs ++ entry b e ∷ [])) (left_true (is_ready s x.actor x.event) (is_legal next is_ready (next s x.actor x.event) xs) all)
       (legal-push (next s x.actor x.event) xs b e (right_true (is_ready s x.actor x.event) (is_legal next is_ready (next s x.actor x.event) xs) all) one)
 
-module _ {M S E : Type 0} (state : M → S) (moves : Moves S E) (v : View S E) (x : Kept M E) (m : Sat M S E) (entered : Entered state moves v x m) where
+module _ {M S E : Type 0} (state : M → S) (moves : Moves S E) (v : PassView S E) (x : Kept M E) (m : Sat M S E) (entered : Entered state moves v x m) where
   abbrev log : List (Logged E)
   log = x.log.items
 
@@ -54,13 +54,13 @@ module _ {M S E : Type 0} (state : M → S) (moves : Moves S E) (v : View S E) (
   at = ap (λ (z : Sat M S E). z.0) entered.0.1
 
   pub start_is : m.0.start ≡ v.start
-  start_is = ap (λ (z : View S E). z.start) at
+  start_is = ap (λ (z : PassView S E). z.start) at
 
   pub actor_is : m.0.actor ≡ v.actor
-  actor_is = ap (λ (z : View S E). z.actor) at
+  actor_is = ap (λ (z : PassView S E). z.actor) at
 
   seen_is : m.0.seen ≡ log
-  seen_is = ap (λ (z : View S E). z.seen) at
+  seen_is = ap (λ (z : PassView S E). z.seen) at
 
   -- the machine may be put back as it was, as far as contracts see
   pub puts_same : (y : Kept M E) → y.log.items ≡ log → state y.machine ≡ state x.machine → MayPut state moves m.0 y
@@ -82,56 +82,56 @@ module _ {M S E : Type 0} (state : M → S) (moves : Moves S E) (v : View S E) (
     ),
   )
 
-  abbrev pub Left : View S E → List (Logged E) → Type 0
+  abbrev pub Left : PassView S E → List (Logged E) → Type 0
   Left w ks = w ≡ knowing m.0 ks (own m.0.actor ks) Idle
 
-  pub same : (w : View S E) (ks : List (Logged E)) → Left w ks → IsSame v w
+  pub same : (w : PassView S E) (ks : List (Logged E)) → Left w ks → IsSame v w
   same w ks left = (
-    ap (λ (z : View S E). z.start) left ∙ start_is,
-    ap (λ (z : View S E). z.actor) left ∙ actor_is,
-    ap (λ (z : View S E). z.opens) left ∙ ap (λ (z : View S E). z.opens) at,
-    ap (λ (z : View S E). z.made) left ∙ ap (λ (z : View S E). z.made) at,
-    ap (λ (z : View S E). z.kept) left ∙ ap (λ (z : View S E). z.kept) at,
-    ap (λ (z : View S E). z.live) left ∙ ap (λ (z : View S E). z.live) at,
+    ap (λ (z : PassView S E). z.start) left ∙ start_is,
+    ap (λ (z : PassView S E). z.actor) left ∙ actor_is,
+    ap (λ (z : PassView S E). z.opens) left ∙ ap (λ (z : PassView S E). z.opens) at,
+    ap (λ (z : PassView S E). z.made) left ∙ ap (λ (z : PassView S E). z.made) at,
+    ap (λ (z : PassView S E). z.kept) left ∙ ap (λ (z : PassView S E). z.kept) at,
+    ap (λ (z : PassView S E). z.live) left ∙ ap (λ (z : PassView S E). z.live) at,
   )
 
   -- nothing was entered
-  pub looks : (w : View S E) (ks : List (Logged E)) → ks ≡ log → Left w ks → SeesOthers v w
+  pub looks : (w : PassView S E) (ks : List (Logged E)) → ks ≡ log → Left w ks → SeesOthers v w
   looks w ks is left =
       let rest : List (Logged E) = entered.1.1.0 in (
         rest,
         no_more v.actor v.mine log v.seen rest entered.1.1.1 entered.1.2 entered.1.3,
-        ap (λ (z : View S E). z.seen) left ∙ (is ∙ entered.1.1.1),
-        ap (λ (z : View S E). z.mine) left ∙ ((λ i. own (actor_is i) (is i)) ∙ entered.1.2),
+        ap (λ (z : PassView S E). z.seen) left ∙ (is ∙ entered.1.1.1),
+        ap (λ (z : PassView S E). z.mine) left ∙ ((λ i. own (actor_is i) (is i)) ∙ entered.1.2),
       )
 
-  pub blocked : (w : View S E) (e : E) (b : ℕ) (r : Bool) → b ≡ v.actor → r ≡ moves.is_ready (state x.machine) b e → r ≡ false → Left w log → moves.is_ready (after next w.start w.seen) w.actor e ≡ false
+  pub blocked : (w : PassView S E) (e : E) (b : ℕ) (r : Bool) → b ≡ v.actor → r ≡ moves.is_ready (state x.machine) b e → r ≡ false → Left w log → moves.is_ready (after next w.start w.seen) w.actor e ≡ false
   blocked w e b r same tells refused left =
-      let s : w.start ≡ v.start = ap (λ (z : View S E). z.start) left ∙ start_is in
-      let l : w.seen ≡ log = ap (λ (z : View S E). z.seen) left in
-      let a : w.actor ≡ b = ap (λ (z : View S E). z.actor) left ∙ (actor_is ∙ sym same) in
+      let s : w.start ≡ v.start = ap (λ (z : PassView S E). z.start) left ∙ start_is in
+      let l : w.seen ≡ log = ap (λ (z : PassView S E). z.seen) left in
+      let a : w.actor ≡ b = ap (λ (z : PassView S E). z.actor) left ∙ (actor_is ∙ sym same) in
       (λ i. moves.is_ready (after next (s i) (l i)) (a i) e) ∙ (ap (λ (z : S). moves.is_ready z b e) (sym entered.1.0.1) ∙ (sym tells ∙ refused))
 
-  pub answers : (w : View S E) (e : E) (b : ℕ) (r : Bool) → b ≡ v.actor → r ≡ moves.is_ready (state x.machine) b e → Left w log → r ≡ moves.is_ready (after next w.start w.seen) w.actor e
+  pub answers : (w : PassView S E) (e : E) (b : ℕ) (r : Bool) → b ≡ v.actor → r ≡ moves.is_ready (state x.machine) b e → Left w log → r ≡ moves.is_ready (after next w.start w.seen) w.actor e
   answers w e b r same tells left =
-      let s : w.start ≡ v.start = ap (λ (z : View S E). z.start) left ∙ start_is in
-      let l : w.seen ≡ log = ap (λ (z : View S E). z.seen) left in
-      let a : w.actor ≡ b = ap (λ (z : View S E). z.actor) left ∙ (actor_is ∙ sym same) in
+      let s : w.start ≡ v.start = ap (λ (z : PassView S E). z.start) left ∙ start_is in
+      let l : w.seen ≡ log = ap (λ (z : PassView S E). z.seen) left in
+      let a : w.actor ≡ b = ap (λ (z : PassView S E). z.actor) left ∙ (actor_is ∙ sym same) in
       tells ∙ (ap (λ (z : S). moves.is_ready z b e) entered.1.0.1 ∙ (λ i. moves.is_ready (after next (sym s i) (sym l i)) (sym a i) e))
 
-  pub enters : {R A : Type 0} (answer : R → A) (answer_to : S → ℕ → E → A) (tells : R → S → ℕ → E → Type 0) (w : View S E) (ks : List (Logged E)) (b : ℕ) (e : E) (p : S) (reply : R) → b ≡ v.actor
+  pub enters : {R A : Type 0} (answer : R → A) (answer_to : S → ℕ → E → A) (tells : R → S → ℕ → E → Type 0) (w : PassView S E) (ks : List (Logged E)) (b : ℕ) (e : E) (p : S) (reply : R) → b ≡ v.actor
       → ks ≡ log ++ entry b e ∷ [] → p ≡ state x.machine → moves.is_ready p b e ≡ true → answer reply ≡ answer_to p b e → tells reply p b e → Left w ks → Enters next moves.is_ready answer answer_to tells v e reply w
   enters answer answer_to tells w ks b e p reply same is before ready answered told left =
       let rest : List (Logged E) = entered.1.1.0 in
       let whole : ks ≡ (v.seen ++ rest) ++ entry v.actor e ∷ [] = is ∙ (λ i. entered.1.1.1 i ++ entry (same i) e ∷ []) in
-      let mine : w.mine ≡ own v.actor ks = ap (λ (z : View S E). z.mine) left ∙ ap (λ a. own a ks) actor_is in
+      let mine : w.mine ≡ own v.actor ks = ap (λ (z : PassView S E). z.mine) left ∙ ap (λ a. own a ks) actor_is in
       let here : p ≡ after next v.start (v.seen ++ rest) = before ∙ (entered.1.0.1 ∙ ap (after next v.start) entered.1.1.1) in
       record {
         between = rest;
         others = no_more v.actor v.mine log v.seen rest entered.1.1.1 entered.1.2 entered.1.3;
-        seen = ap (λ (z : View S E). z.seen) left ∙ whole;
+        seen = ap (λ (z : PassView S E). z.seen) left ∙ whole;
         mine = mine ∙ (ap (own v.actor) is ∙ (own-append v.actor log (entry b e ∷ []) ∙ (λ i. entered.1.2 i ++ own v.actor (entry (same i) e ∷ [])) ∙ ap (λ l. v.mine ++ l) (own_here v.actor e)));
-        all_mine = ap (λ (z : View S E). own v.actor z.seen) left ∙ sym mine;
+        all_mine = ap (λ (z : PassView S E). own v.actor z.seen) left ∙ sym mine;
         was_ready = (λ i. moves.is_ready (sym here i) (sym same i) e) ∙ ready;
         reply_is = answered ∙ (λ i. answer_to (here i) (same i) e);
         told = subst (λ (z : S × ℕ). tells reply z.0 z.1 e) (λ i. (here i, same i)) told;

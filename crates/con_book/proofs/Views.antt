@@ -6,7 +6,7 @@ use native.Mathlib.Decide.{ℕ_discrete}
 use lib.ListN.{get_elem?}
 use Rattle.atomic_table.proofs.Lists.{at_set, set_else, set_here}
 use Rattle.con_book.specs.Lock.{HasTicket, Apart, SomeDue, total}
-use Rattle.con_book.specs.declared.view.View.{View}
+use Rattle.con_book.specs.declared.view.PassView.{PassView}
 use Rattle.con_book.specs.declared.view.Stage.TheVariants.{Due}
 
 module _ {A : Type 0} where
@@ -28,26 +28,26 @@ module _ {A : Type 0} where
   stays K l id w here there j v e = ⊎_elim (λ t. subst (λ (x : ℕ × A). K x.0 x.1) (λ i. (sym t.0 i, t.1 i)) here) (λ t. there j v t.0 t.1) (at_set l id j w v e)
 
 module _ {S E : Type 0} where
-  pub apart_set : (l : List (View S E)) (id : ℕ) (w : View S E) → Apart l
-      → ((j : ℕ) (v : View S E) (t : ℕ) → j ≢ id → get_elem? l j ≡ some v → HasTicket t v.stage → HasTicket t w.stage → ⊥) → Apart (set l id w)
+  pub apart_set : (l : List (PassView S E)) (id : ℕ) (w : PassView S E) → Apart l
+      → ((j : ℕ) (v : PassView S E) (t : ℕ) → j ≢ id → get_elem? l j ≡ some v → HasTicket t v.stage → HasTicket t w.stage → ⊥) → Apart (set l id w)
   apart_set l id w a clash i j v u t p q hv hu =
       ⊎_elim
       (λ x. ⊎_elim
       (λ y. x.0 ∙ sym y.0)
-      (λ y. absurd (clash j u t y.0 y.1 hu (subst (λ (z : View S E). HasTicket t z.stage) (sym x.1) hv)))
+      (λ y. absurd (clash j u t y.0 y.1 hu (subst (λ (z : PassView S E). HasTicket t z.stage) (sym x.1) hv)))
       (at_set l id j w u q))
       (λ x. ⊎_elim
-      (λ y. absurd (clash i v t x.0 x.1 hv (subst (λ (z : View S E). HasTicket t z.stage) (sym y.1) hu)))
+      (λ y. absurd (clash i v t x.0 x.1 hv (subst (λ (z : PassView S E). HasTicket t z.stage) (sym y.1) hu)))
       (λ y. a i j v u t x.1 y.1 hv hu)
       (at_set l id j w u q))
       (at_set l id i w v p)
 
-  pub due_set : (l : List (View S E)) (id : ℕ) (v w : View S E) → get_elem? l id ≡ some v → ((t : ℕ) → v.stage ≡ Due t → ⊥) → SomeDue l → SomeDue (set l id w)
+  pub due_set : (l : List (PassView S E)) (id : ℕ) (v w : PassView S E) → get_elem? l id ≡ some v → ((t : ℕ) → v.stage ≡ Due t → ⊥) → SomeDue l → SomeDue (set l id w)
   due_set l id v w at idle d = (
     d.0,
     d.1,
     d.2,
-    set_else l id d.0 w (λ e. idle d.2 (ap (λ (z : View S E). z.stage) (some-injective v d.1 (sym at ∙ subst (λ (n : ℕ). get_elem? l n ≡ some d.1) e d.3)) ∙ d.4)) ∙ d.3,
+    set_else l id d.0 w (λ e. idle d.2 (ap (λ (z : PassView S E). z.stage) (some-injective v d.1 (sym at ∙ subst (λ (n : ℕ). get_elem? l n ≡ some d.1) e d.3)) ∙ d.4)) ∙ d.3,
     d.4,
   )
 
@@ -75,17 +75,17 @@ module _ {A : Type 0} where
   at_end (x ∷ xs) a (suc j) b e = ⊎_elim inl (λ t. inr (ap suc t.0, t.1)) (at_end xs a j b e)
 
 module _ {S E : Type 0} where
-  pub apart_end : (l : List (View S E)) (w : View S E) → Apart l → ((t : ℕ) → HasTicket t w.stage → ⊥) → Apart (l ++ w ∷ [])
+  pub apart_end : (l : List (PassView S E)) (w : PassView S E) → Apart l → ((t : ℕ) → HasTicket t w.stage → ⊥) → Apart (l ++ w ∷ [])
   apart_end l w a free i j u v t p q hu hv =
       ⊎_elim
-      (λ x. ⊎_elim (λ y. a i j u v t x y hu hv) (λ y. absurd (free t (subst (λ (z : View S E). HasTicket t z.stage) (sym y.1) hv))) (at_end l w j v q))
-      (λ x. absurd (free t (subst (λ (z : View S E). HasTicket t z.stage) (sym x.1) hu)))
+      (λ x. ⊎_elim (λ y. a i j u v t x y hu hv) (λ y. absurd (free t (subst (λ (z : PassView S E). HasTicket t z.stage) (sym y.1) hv))) (at_end l w j v q))
+      (λ x. absurd (free t (subst (λ (z : PassView S E). HasTicket t z.stage) (sym x.1) hu)))
       (at_end l w i u p)
 
   -- a view that keeps its stage leaves some view due
-  pub due_stays : (l : List (View S E)) (id : ℕ) (v w : View S E) → get_elem? l id ≡ some v → w.stage ≡ v.stage → SomeDue l → SomeDue (set l id w)
+  pub due_stays : (l : List (PassView S E)) (id : ℕ) (v w : PassView S E) → get_elem? l id ≡ some v → w.stage ≡ v.stage → SomeDue l → SomeDue (set l id w)
   due_stays l id v w at same d = dite (ℕ_discrete d.0 id)
       (λ e.
       let one : d.1 ≡ v = some-injective d.1 v (sym d.3 ∙ subst (λ (n : ℕ). get_elem? l n ≡ some v) (sym e) at) in
-      (id, w, d.2, set_here l id w (at_below l id v at), same ∙ (ap (λ (z : View S E). z.stage) (sym one) ∙ d.4)))
+      (id, w, d.2, set_here l id w (at_below l id v at), same ∙ (ap (λ (z : PassView S E). z.stage) (sym one) ∙ d.4)))
       (λ ne. (d.0, d.1, d.2, set_else l id d.0 w ne ∙ d.3, d.4))

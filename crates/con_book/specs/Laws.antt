@@ -6,7 +6,7 @@ use Rattle.con_book.specs.Counted.{counting}
 use Rattle.con_book.specs.Turn.{has_pass}
 use Rattle.con_book.specs.declared.history.Logged.{Logged}
 use Rattle.con_book.specs.declared.room.Counted.{Counted}
-use Rattle.con_book.specs.declared.view.View.{View}
+use Rattle.con_book.specs.declared.view.PassView.{PassView}
 
 -- an actor above all that were given a pass has none
 
@@ -20,7 +20,7 @@ is_among-above actor (x ∷ xs) below =
     let first : x < actor = All-head (λ a. a < actor) x xs below in
     both_false (eqb actor x) (is_among actor xs) (ne_eqb actor x (λ same. let e : actor ≡ x = same in absurd (omega arith))) (is_among-above actor xs (All-tail (λ a. a < actor) x xs below))
 
-pub has_pass-above : {S E : Type 0} (actor : ℕ) (v : View S E) → 0 < actor → All (λ a. a < actor) v.made → has_pass actor v ≡ false
+pub has_pass-above : {S E : Type 0} (actor : ℕ) (v : PassView S E) → 0 < actor → All (λ a. a < actor) v.made → has_pass actor v ≡ false
 has_pass-above actor v some below =
     both_false (eqb actor 0) (is_among actor v.made) (ne_eqb actor 0 (λ same. let e : actor ≡ 0 = same in absurd (omega arith))) (is_among-above actor v.made below)
 

@@ -7,7 +7,7 @@ use Rattle.con_book.specs.History.{StartsWith, after, own, is_legal, In}
 use Rattle.con_book.specs.declared.kept.Kept.{Kept}
 use Rattle.con_book.specs.declared.history.Logged.{Logged}
 use Rattle.con_book.specs.declared.view.Joined.{Joined}
-use Rattle.con_book.specs.declared.view.View.{View}
+use Rattle.con_book.specs.declared.view.PassView.{PassView}
 use Rattle.con_book.specs.declared.view.Stage.{Stage}
 use Rattle.con_book.specs.declared.view.Stage.TheVariants.{Idle, Waiting, Due}
 
@@ -51,39 +51,39 @@ abbrev pub longer : {A : Type 0} → List A → List A → List A
 longer xs ys = if nat_lt (length xs) (length ys) then ys else xs
 
 module _ {S E : Type 0} where
-  abbrev pub staged : View S E → Stage → View S E
+  abbrev pub staged : PassView S E → Stage → PassView S E
   staged v stage = record v { stage = stage }
 
   -- it has seen this log, in which the events of its actor are these
-  abbrev pub knowing : View S E → List (Logged E) → List E → Stage → View S E
+  abbrev pub knowing : PassView S E → List (Logged E) → List E → Stage → PassView S E
   knowing v seen mine stage = record v { seen = seen; mine = mine; stage = stage }
 
-  abbrev pub opener : S → View S E
+  abbrev pub opener : S → PassView S E
   opener start = record { start = start; actor = 0; seen = []; had = []; mine = []; live = true; opens = true; made = []; kept = []; parts = 4294967296; stage = Idle }
 
-  abbrev pub spent : S → View S E
+  abbrev pub spent : S → PassView S E
   spent start = record { start = start; actor = 0; seen = []; had = []; mine = []; live = false; opens = false; made = []; kept = []; parts = 0; stage = Idle }
 
   -- a view after it gave an actor a pass, and the new pass's view
-  abbrev pub gave : ℕ → View S E → View S E
+  abbrev pub gave : ℕ → PassView S E → PassView S E
   gave actor v = record v { made = actor ∷ v.made; parts = v.parts - 1 }
 
-  abbrev pub newcomer : ℕ → View S E → View S E
+  abbrev pub newcomer : ℕ → PassView S E → PassView S E
   newcomer actor v = record { start = v.start; actor = actor; seen = v.seen; had = []; mine = []; live = true; opens = false; made = []; kept = []; parts = 1; stage = Idle }
 
-  abbrev pub joined : View S E → Joined E
+  abbrev pub joined : PassView S E → Joined E
   joined w = record { actor = w.actor; seen = w.seen; mine = w.mine }
 
   -- a view that has taken in another one
-  abbrev pub both : View S E → View S E → View S E
+  abbrev pub both : PassView S E → PassView S E → PassView S E
   both v w = record v { seen = longer v.seen w.seen; had = v.seen; kept = joined w ∷ w.kept ++ v.kept; parts = v.parts + w.parts }
 
   -- the parts are as many as the passes that it stands for
-  abbrev pub Counts : View S E → Type 0
+  abbrev pub Counts : PassView S E → Type 0
   Counts v = MatchBool v.opens (v.parts + length v.made ≡ 4294967296 + length v.kept) (v.parts ≡ 1 + length v.kept)
 
   -- a view knows a beginning of the log, and its own events are all that the log has of its actor. The same holds of those that it keeps
-  pub record Fits (start : S) (served drawn : ℕ) (log : List (Logged E)) (status : ℕ → Status) (j : ℕ) (v : View S E) : Type 0 where
+  pub record Fits (start : S) (served drawn : ℕ) (log : List (Logged E)) (status : ℕ → Status) (j : ℕ) (v : PassView S E) : Type 0 where
     pub starts : v.start ≡ start
     pub seen : StartsWith log v.seen
     pub had : StartsWith log v.had
@@ -96,11 +96,11 @@ module _ {S E : Type 0} where
     pub keeps : (k : Joined E) → In k v.kept → (status k.actor ≡ closed) × (own k.actor log ≡ k.mine) × StartsWith log k.seen
     pub stands : Stands served drawn (v.seen ≡ log) v.stage
 
-  abbrev pub Apart : List (View S E) → Type 0
-  Apart views = (i j : ℕ) (v w : View S E) (t : ℕ) → get_elem? views i ≡ some v → get_elem? views j ≡ some w → HasTicket t v.stage → HasTicket t w.stage → i ≡ j
+  abbrev pub Apart : List (PassView S E) → Type 0
+  Apart views = (i j : ℕ) (v w : PassView S E) (t : ℕ) → get_elem? views i ≡ some v → get_elem? views j ≡ some w → HasTicket t v.stage → HasTicket t w.stage → i ≡ j
 
-  abbrev pub SomeDue : List (View S E) → Type 0
-  SomeDue views = (j : ℕ) × (v : View S E) × (t : ℕ) × (get_elem? views j ≡ some v) × (v.stage ≡ Due t)
+  abbrev pub SomeDue : List (PassView S E) → Type 0
+  SomeDue views = (j : ℕ) × (v : PassView S E) × (t : ℕ) × (get_elem? views j ≡ some v) × (v.stage ≡ Due t)
 
 -- how a machine moves
 pub record Moves (S E : Type 0) : Type 0 where
@@ -116,7 +116,7 @@ module _ {M S E : Type 0} (state : M → S) (moves : Moves S E) (start : S) wher
   abbrev pub Follows : List (Logged E) → Kept M E → Type 0
   Follows log x = (x.log.items ≡ log) × (state x.machine ≡ after moves.next start log) × (is_legal moves.next moves.is_ready start log ≡ true)
 
-  pub record Orderly (s : State (Option (Kept M E)) (View S E)) : Type 0 where
+  pub record Orderly (s : State (Option (Kept M E)) (PassView S E)) : Type 0 where
     pub served : ℕ
     pub drawn : ℕ
     pub log : List (Logged E)
@@ -125,9 +125,9 @@ module _ {M S E : Type 0} (state : M → S) (moves : Moves S E) (start : S) wher
     pub wide : length s.words ≡ 3
     pub drawn_word : slice_index s.words 1 ≡ drawn % 2 ^ 64
     pub served_word : slice_index s.words 2 ≡ served % 2 ^ 64
-    pub counted : served + total (λ (v : View S E). tickets v.stage) s.views ≡ drawn
-    pub parts : total (λ (v : View S E). v.parts) s.views ≡ 4294967296
-    pub each : (j : ℕ) (v : View S E) → get_elem? s.views j ≡ some v → (v ≡ spent moves.blank) ⊎ Fits start served drawn log status j v
+    pub counted : served + total (λ (v : PassView S E). tickets v.stage) s.views ≡ drawn
+    pub parts : total (λ (v : PassView S E). v.parts) s.views ≡ 4294967296
+    pub each : (j : ℕ) (v : PassView S E) → get_elem? s.views j ≡ some v → (v ≡ spent moves.blank) ⊎ Fits start served drawn log status j v
     pub apart : Apart s.views
     pub strangers : (a : ℕ) → status a ≡ fresh → own a log ≡ []
     pub out : busy ≡ true → SomeDue s.views

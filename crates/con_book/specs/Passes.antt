@@ -6,7 +6,7 @@ use Rattle.con_book.specs.declared.machine.Machine.{Ghosts}
 use Rattle.con_book.specs.declared.book.Book.{Book}
 use Rattle.con_book.specs.declared.pass.Pass.{Pass}
 use Rattle.con_book.specs.declared.history.Logged.{Logged}
-use Rattle.con_book.specs.declared.view.View.{View}
+use Rattle.con_book.specs.declared.view.PassView.{PassView}
 
 -- what tells books apart
 abbrev pub BookId : Type 0
@@ -23,7 +23,7 @@ module _ {M S E R A Room : Type 0} {g : Ghosts M S E R A Room} where
   pass_id pass = pass.seat.table_id
 
   -- what it knows
-  abbrev pub view_of : Pass M S E R A Room g → View S E
+  abbrev pub view_of : Pass M S E R A Room g → PassView S E
   view_of pass = pass.seat.me.0
 
   -- whose pass it is

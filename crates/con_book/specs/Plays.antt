@@ -6,11 +6,11 @@ use Rattle.con_book.specs.Lock.{Moves, staged, knowing, number, Follows}
 use Rattle.con_book.specs.declared.kept.Kept.{Kept}
 use Rattle.con_book.specs.declared.history.Logged.{Logged}
 use Rattle.con_book.specs.declared.view.Joined.{Joined}
-use Rattle.con_book.specs.declared.view.View.{View}
+use Rattle.con_book.specs.declared.view.PassView.{PassView}
 use Rattle.con_book.specs.declared.view.Stage.TheVariants.{Idle, Waiting, Due}
 
 abbrev pub Sat : Type 0 → Type 0 → Type 0 → Type 0
-Sat M S E = Me (Option (Kept M E)) (View S E)
+Sat M S E = Me (Option (Kept M E)) (PassView S E)
 
 module _ {M S E : Type 0} where
   -- the seat has a ticket, whose number was found
@@ -18,7 +18,7 @@ module _ {M S E : Type 0} where
   Draws st m r n = (t : ℕ) × (n ≡ (staged m.0 (Waiting t), m.1)) × (t % 2 ^ 64 ≡ r)
 
   -- a view that has found this machine at home: it begins the log, and the events of its actor are its own, in what it has seen and in the log
-  abbrev pub Finds : (M → S) → Moves S E → View S E → Kept M E → Type 0
+  abbrev pub Finds : (M → S) → Moves S E → PassView S E → Kept M E → Type 0
   Finds state moves v x = Follows state moves v.start x.log.items x × StartsWith x.log.items v.seen × (own v.actor x.log.items ≡ v.mine) × (own v.actor v.seen ≡ v.mine)
 
   -- the seat has the slot and is due

@@ -8,7 +8,7 @@ use crate::kept::Kept;
 use crate::machine::Machine;
 use crate::pass::{Keeper, Pass, Place};
 use crate::plays::{Cut, Draw, Glue, Look, Mind, Named, Serve, Turns};
-use crate::view::View;
+use crate::view::PassView;
 use atomic_table::{Refused, Table};
 use con_units::OutOfMemory;
 use std::alloc::Global;
@@ -38,7 +38,7 @@ const YIELDS: u32 = 128;
 pub struct Book<M: Machine> {
     table: Table<
         Keeper<M>,
-        View<<M as Machine>::State, <M as Machine>::Event>,
+        PassView<<M as Machine>::State, <M as Machine>::Event>,
         Snapshot<M>,
         Turns<M>,
         Global,

@@ -5,7 +5,7 @@ ghost use Rattle.con_book.specs.Counted.{counting};
 ghost use Rattle.con_book.specs.Turn.{has_pass};
 ghost use Rattle.con_book.specs.declared.history.Logged.{Logged};
 ghost use Rattle.con_book.specs.declared.room.Counted.{Counted};
-ghost use Rattle.con_book.specs.declared.view.View.{View};
+ghost use Rattle.con_book.specs.declared.view.PassView.{PassView};
 
 use crate::machine::Machine;
 
@@ -29,5 +29,5 @@ pub fn a_count_changes_nothing<M: Machine>()
 
 /// An actor with a number above all that were given a pass has none.
 pub fn a_greater_actor_has_no_pass<M: Machine>()
-    ensures { (actor : ℕ) (v : View M.State M.Event) → 0 < actor → All (λ a. a < actor) v.made → has_pass actor v ≡ false }
+    ensures { (actor : ℕ) (v : PassView M.State M.Event) → 0 < actor → All (λ a. a < actor) v.made → has_pass actor v ≡ false }
 {}

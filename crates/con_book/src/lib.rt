@@ -8,7 +8,7 @@
 //! - [`Bell`]: lets threads sleep until there may be something to do.
 //! - [`counter`]: a small machine. [`laws`]: what follows from the definitions.
 //!
-//! Contracts see a pass as what it knows, [`View`](view::View): the entries that it has seen, which begin the history, and its
+//! Contracts see a pass as what it knows, [`PassView`](view::PassView): the entries that it has seen, which begin the history, and its
 //! own events. `specs/Passes` reads a pass, `specs/Turn` says what a turn does to one, and `specs/History` what a list of
 //! entries means. A turn adds entries of other actors, and then the caller's; its reply is the machine's at that
 //! place. At [`Book::close`] the log is one legal history, in which each actor's entries are its pass's own.

@@ -5,12 +5,12 @@ ghost use Rattle.con_book.specs.Turn.{OwnIsMine};
 
 use crate::kept::Kept;
 use crate::machine::Machine;
-use crate::view::View;
+use crate::view::PassView;
 use atomic_table::Seat;
 
 pub(crate) type Keeper<M> = Option<Kept<M, <M as Machine>::Event>>;
 
-pub(crate) type Place<M> = Seat<Keeper<M>, View<<M as Machine>::State, <M as Machine>::Event>>;
+pub(crate) type Place<M> = Seat<Keeper<M>, PassView<<M as Machine>::State, <M as Machine>::Event>>;
 
 /// The right of one actor to take turns at one book. It takes no bytes beside the actor's number.
 ///

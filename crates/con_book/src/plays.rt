@@ -3,7 +3,7 @@ ghost use Rattle.std.specs.Prelude.{ℕ};
 
 use crate::kept::Kept;
 use crate::machine::Machine;
-use crate::view::View;
+use crate::view::PassView;
 use atomic_table::{Join, Play, Split, TableRule};
 use std::marker::{Brand, PhantomData};
 use std::snapshot::Snapshot;
@@ -13,7 +13,7 @@ pub struct Turns<M> {
     marker: PhantomData<M>,
 }
 
-impl<M: Machine> TableRule<Option<Kept<M, M::Event>>, View<M::State, M::Event>, Snapshot<M>>
+impl<M: Machine> TableRule<Option<Kept<M, M::Event>>, PassView<M::State, M::Event>, Snapshot<M>>
     for Turns<M> {
     ghost use Rattle.con_book.specs.Lock.{Orderly, opener, moving};
 
@@ -25,7 +25,7 @@ impl<M: Machine> TableRule<Option<Kept<M, M::Event>>, View<M::State, M::Event>, 
 /// Draws the next ticket.
 pub struct Draw;
 
-impl<M, S, E> Play<Option<Kept<M, E>>, View<S, E>> for Draw {
+impl<M, S, E> Play<Option<Kept<M, E>>, PassView<S, E>> for Draw {
     ghost use Rattle.con_book.specs.Plays.{Draws};
 
     ghost then = { Draws };
@@ -36,7 +36,7 @@ pub struct Look<M> {
     marker: PhantomData<M>,
 }
 
-impl<M: Machine> Play<Option<Kept<M, M::Event>>, View<M::State, M::Event>> for Look<M> {
+impl<M: Machine> Play<Option<Kept<M, M::Event>>, PassView<M::State, M::Event>> for Look<M> {
     ghost use Rattle.con_book.specs.Plays.{Looks};
     ghost use Rattle.con_book.specs.Lock.{moving};
 
@@ -46,7 +46,7 @@ impl<M: Machine> Play<Option<Kept<M, M::Event>>, View<M::State, M::Event>> for L
 /// Gives the slot back, and lets the next ticket be served.
 pub struct Serve;
 
-impl<M, S, E> Play<Option<Kept<M, E>>, View<S, E>> for Serve {
+impl<M, S, E> Play<Option<Kept<M, E>>, PassView<S, E>> for Serve {
     ghost use Rattle.con_book.specs.Plays.{Serves};
 
     ghost then = { Serves };
@@ -55,7 +55,7 @@ impl<M, S, E> Play<Option<Kept<M, E>>, View<S, E>> for Serve {
 /// Changes nothing, and tells what the rule says of the pass.
 pub struct Mind;
 
-impl<M, S, E> Play<Option<Kept<M, E>>, View<S, E>> for Mind {
+impl<M, S, E> Play<Option<Kept<M, E>>, PassView<S, E>> for Mind {
     ghost use Rattle.con_book.specs.Plays.{Minds};
 
     ghost then = { Minds };
@@ -75,7 +75,7 @@ pub struct Cut<N> {
     marker: PhantomData<N>,
 }
 
-impl<N: Named, S, E> Split<View<S, E>> for Cut<N> {
+impl<N: Named, S, E> Split<PassView<S, E>> for Cut<N> {
     ghost use Rattle.con_book.specs.Lock.{gave, newcomer};
 
     ghost left = { gave N.actor };
@@ -88,7 +88,7 @@ pub struct Glue<M> {
     marker: PhantomData<M>,
 }
 
-impl<M: Machine> Join<View<M::State, M::Event>> for Glue<M> {
+impl<M: Machine> Join<PassView<M::State, M::Event>> for Glue<M> {
     ghost use Rattle.con_book.specs.Lock.{both, spent};
 
     ghost both = { both };

@@ -20,7 +20,7 @@ pub struct Joined<E> {
 }
 
 /// What a pass knows. No value of it is made: it stands in proofs alone.
-pub struct View<S, E> {
+pub struct PassView<S, E> {
     /// The state of the machine that the book was made of.
     pub start: S,
     /// Whose pass it is.

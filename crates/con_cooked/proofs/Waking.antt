@@ -10,7 +10,7 @@ use Rattle.con_line.specs.Line.{LineText}
 use Rattle.con_history.specs.Histories.{LineHistories, added_to}
 use Rattle.con_cooked.specs.Keys.{key_of}
 use Rattle.con_cooked.specs.Mask.{has_bit, is_masked, is_down, unit_of, waking_unit}
-use Rattle.con_cooked.specs.Cooked.{Edited, Moment, Reading, key_pressed, pressed_at, opened, woken_after, woken_by, line_of, line_after, after_press, is_return, echo_between, progress_of, lines_for, split_by}
+use Rattle.con_cooked.specs.Cooked.{Edited, Moment, CookedRead, key_pressed, pressed_at, opened, woken_after, woken_by, line_of, line_after, after_press, is_return, echo_between, progress_of, lines_for, split_by}
 use Rattle.con_cooked.specs.Laws.{IsPlain, DrawsBehind, BeginsWith}
 use Rattle.con_line.specs.declared.edit.Edit.{Edit}
 use Rattle.con_cooked.specs.declared.keys.LineKey.{LineKey}
@@ -53,7 +53,7 @@ unwoken : (mask : ℕ) → ((one : Record) → is_masked mask one ≡ false) →
 unwoken mask none [] = refl
 unwoken mask none (m ∷ ms) = ap (λ b. fold (λ (before : ℕ) (n : Moment). waking_unit mask n.pressed) (cond b (unit_of m.pressed) 0) ms) (none m.pressed) ∙ unwoken mask none ms
 
-pub plain-reading : (r : Reading) → r.mask ≡ 0 → IsPlain r
+pub plain-reading : (r : CookedRead) → r.mask ≡ 0 → IsPlain r
 plain-reading r zero_mask =
     let none = not_masked r.mask zero_mask in
     let quiet : woken_by r ≡ 0 = unwoken r.mask none r.presses in
@@ -112,7 +112,7 @@ woken-last mask ms ns m w last is = ap (woken_after mask) last ∙ fold-append (
 abbrev pub echo_of : Edit → LineText → Echo
 echo_of edit l = record { offset = edit.first; end = length l.units; blanks = edit.before - length l.units; caret = l.caret }
 
-pub progress-unmasked : (r : Reading) (one : Record) (hs : LineHistories) (old new : Edited) (echo : Echo) (k : LineKey) (g : Progress) → is_masked r.mask one ≡ false → line_of r ≡ old
+pub progress-unmasked : (r : CookedRead) (one : Record) (hs : LineHistories) (old new : Edited) (echo : Echo) (k : LineKey) (g : Progress) → is_masked r.mask one ≡ false → line_of r ≡ old
     → line_of (after_press r one hs) ≡ new → echo ≡ echo_between old.line new.line → k ≡ key_of one → g ≡ cond (is_return k) (progress.Done echo) (progress.Going echo) → g ≡ progress_of r one hs
 progress-unmasked r one hs old new echo k g none was is drawn key said =
     let told : echo ≡ echo_between (line_of r).line (line_of (after_press r one hs)).line =

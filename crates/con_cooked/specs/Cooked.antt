@@ -27,7 +27,7 @@ pub record Moment : Type 0 where
   pub lines : List (List ℕ)
 
 -- a read: its program, its insert flag and its text at the beginning, the controls that wake it, and its presses
-pub record Reading : Type 0 where
+pub record CookedRead : Type 0 where
   pub program : List ℕ
   pub insert : Bool
   pub initial : List ℕ
@@ -90,18 +90,18 @@ opened insert initial = record { line = record { units = initial; caret = length
 abbrev pub line_after : ℕ → Edited → List Moment → Edited
 line_after mask e presses = fold (pressed_at mask) e presses
 
-abbrev pub line_of : Reading → Edited
+abbrev pub line_of : CookedRead → Edited
 line_of r = line_after r.mask (opened r.insert r.initial) r.presses
 
 -- the control by which the last press woke the read, or 0 where it did not
 abbrev pub woken_after : ℕ → List Moment → ℕ
 woken_after mask presses = fold (λ before m. waking_unit mask m.pressed) 0 presses
 
-abbrev pub woken_by : Reading → ℕ
+abbrev pub woken_by : CookedRead → ℕ
 woken_by r = woken_after r.mask r.presses
 
 -- a read after one more record
-abbrev pub after_press : Reading → Record → LineHistories → Reading
+abbrev pub after_press : CookedRead → Record → LineHistories → CookedRead
 after_press r one histories = record r { presses = r.presses ++ (let m : Moment = record { pressed = one; lines = lines_of histories r.program } in m) ∷ [] }
 
 -- what is drawn again between two lines
@@ -135,7 +135,7 @@ is_return key.Search = false
 is_return key.Nothing = false
 
 -- what a press answers: a masked key ends the read and shows nothing, and return ends it with its line
-abbrev pub progress_of : Reading → Record → LineHistories → Progress
+abbrev pub progress_of : CookedRead → Record → LineHistories → Progress
 progress_of r one histories =
     let echo : Echo = echo_between (line_of r).line (line_of (after_press r one histories)).line in
     if is_masked r.mask one then progress.Woken
@@ -152,9 +152,9 @@ split_by control l = take l.caret l.units ++ control ∷ drop l.caret l.units
 
 -- what a read gives: where a control woke it, the units before the caret, the control, and the units from the caret on;
 -- else the lines that its text stands for
-abbrev pub answer_of : Reading → List AliasList → List ℕ
+abbrev pub answer_of : CookedRead → List AliasList → List ℕ
 answer_of r ls = if woken_by r == 0 then lines_for ls r.program (line_of r).line.units else split_by (woken_by r) (line_of r).line
 
 -- the histories after it: a line that a control woke is not added
-abbrev pub histories_after : Reading → LineHistories → LineHistories
+abbrev pub histories_after : CookedRead → LineHistories → LineHistories
 histories_after r histories = if woken_by r == 0 then added_to histories r.program (line_of r).line.units else histories

@@ -5,12 +5,12 @@ use Rattle.con_line.specs.Line.{LineText}
 use Rattle.con_history.specs.Histories.{LineHistories, added_to}
 use Rattle.con_alias.specs.Aliases.{AliasList}
 use Rattle.con_cooked.specs.Keys.{key_of}
-use Rattle.con_cooked.specs.Cooked.{Edited, Moment, Reading, key_pressed, opened, line_of, after_press, is_return, echo_between, progress_of, lines_for, answer_of, histories_after}
+use Rattle.con_cooked.specs.Cooked.{Edited, Moment, CookedRead, key_pressed, opened, line_of, after_press, is_return, echo_between, progress_of, lines_for, answer_of, histories_after}
 use Rattle.con_cooked.specs.declared.progress.Echo.{Echo}
 use Rattle.con_cooked.specs.declared.progress.Progress.TheVariants as progress
 
 -- a read with no mask is its line by the table of keys alone, ends at return, and gives the lines that the text stands for
-pub record IsPlain (r : Reading) : Type 0 where
+pub record IsPlain (r : CookedRead) : Type 0 where
   pub line : line_of r ≡ fold (λ (e : Edited) (m : Moment). key_pressed e (key_of m.pressed) m.lines) (opened r.insert r.initial) r.presses
   pub progress : (one : Record) (hs : LineHistories) → progress_of r one hs
       ≡ (let echo : Echo = echo_between (line_of r).line (line_of (after_press r one hs)).line in if is_return (key_of one) then progress.Done echo

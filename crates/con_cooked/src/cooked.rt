@@ -3,7 +3,7 @@ ghost use Rattle.std.specs.Prelude.{◌≡◌, ℕ, ◌+◌, ◌-◌, ◌≤◌,
 ghost use Rattle.con_line.specs.Line.{LineText};
 ghost use Rattle.con_history.specs.Histories.{lines_of};
 ghost use Rattle.con_alias.specs.Aliases.{has_control};
-ghost use Rattle.con_cooked.specs.Cooked.{Reading, Moment, line_of, is_return, after_press, progress_of, answer_of, histories_after, split_by, lines_for};
+ghost use Rattle.con_cooked.specs.Cooked.{CookedRead, Moment, line_of, is_return, after_press, progress_of, answer_of, histories_after, split_by, lines_for};
 
 use crate::keys::{LineKey, is_return, read_key};
 use crate::mask::waking_unit;
@@ -38,9 +38,9 @@ pub struct Cooked {
 
 impl Model for Cooked {
     ghost use Rattle.std.specs.Prelude.{◌≡◌, ◌≤◌, [], vec_capacity};
-    ghost use Rattle.con_cooked.specs.Cooked.{Reading, opened, line_after, woken_after};
+    ghost use Rattle.con_cooked.specs.Cooked.{CookedRead, opened, line_after, woken_after};
 
-    ghost Value = { Reading };
+    ghost Value = { CookedRead };
 
     ghost view = { λ r. record {
       program = r.program;

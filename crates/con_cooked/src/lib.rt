@@ -1,7 +1,7 @@
 //! A line read with editing.
 //!
 //! [`Cooked`] takes the records that a line read takes, one by one, and keeps the line that they edit. Contracts see a
-//! `Reading`: the read's program, its insert flag and its text at the beginning, its mask, and the list of all presses, each with
+//! `CookedRead`: the read's program, its insert flag and its text at the beginning, its mask, and the list of all presses, each with
 //! the lines of the program's history at that moment; `line_of` folds the table of keys over that list. The code keeps a buffer with
 //! a caret and the recalled place.
 //!

@@ -24,13 +24,13 @@ all_scripts [] = true
 all_scripts (s ∷ ss) = is_script s && all_scripts ss
 
 -- the steps of all of them
-abbrev pub steps_of : List Script → ℕ
-steps_of [] = 0
-steps_of (s ∷ ss) = length s.steps + steps_of ss
+abbrev pub step_count : List Script → ℕ
+step_count [] = 0
+step_count (s ∷ ss) = length s.steps + step_count ss
 
 -- 1 to 64 scripts, each within its limits, with at most 16,384 steps together
 abbrev pub are_scripts : List Script → Bool
-are_scripts ss = is_within 1 64 (length ss) && all_scripts ss && nat_le (steps_of ss) 16384
+are_scripts ss = is_within 1 64 (length ss) && all_scripts ss && nat_le (step_count ss) 16384
 
 abbrev pub is_session : Clients → Bool
 is_session c = is_size c.size && are_scripts c.scripts

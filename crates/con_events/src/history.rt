@@ -32,9 +32,9 @@ impl Model for Replies {
 
 /// How many bytes of the terminal's stream there were after each picture, in order. Contracts see the list.
 #[derive(Drop)]
-pub struct Ends(pub Vec<u64>);
+pub struct PieceEnds(pub Vec<u64>);
 
-impl Model for Ends {
+impl Model for PieceEnds {
     ghost use Rattle.std.specs.Prelude.{List, ℕ};
 
     ghost Value = { List ℕ };

@@ -7,7 +7,7 @@
 //! A [`Session`] is what clients will do: a window's size and a [`Script`] for each client, within stated limits.
 //! [`End`] says why a session ended.
 //!
-//! [`Numbers`], [`Lines`], [`Steps`], [`Scripts`], [`Entries`], [`Replies`] and [`Ends`] are vectors that contracts see as
+//! [`Numbers`], [`Lines`], [`Steps`], [`Scripts`], [`Entries`], [`Replies`] and [`PieceEnds`] are vectors that contracts see as
 //! lists.
 //!
 //! Calls have a table (`specs/Table`): each call's name, and the kinds of its arguments in order. [`read_call`] reads a call from
@@ -53,7 +53,7 @@ pub use call::{Call, Words};
 pub use end::End;
 pub use entry::Entry;
 pub use event::{Event, Wanted};
-pub use history::{Ends, Entries, Replies};
+pub use history::{Entries, PieceEnds, Replies};
 pub use reading::{read_call, whole_call};
 pub use recording::{read_record, record_name, tell_record, whole_record};
 pub use reply::{Lines, Numbers, Reply};

@@ -1,6 +1,6 @@
 //! What all clients will do.
 ghost use Rattle.std.specs.Prelude.{◌≡◌, true, nat_le};
-ghost use Rattle.con_events.specs.Session.{is_script, all_scripts, are_scripts, is_size, steps_of, session_of};
+ghost use Rattle.con_events.specs.Session.{is_script, all_scripts, are_scripts, is_size, step_count, session_of};
 
 use crate::script::{Script, Scripts};
 use con_units::Size;
@@ -85,7 +85,7 @@ fn are_all_within(scripts: &[Script]) -> bool
 
 /// Whether scripts that are each within their limits have at most so many steps together.
 fn has_few_steps(scripts: &[Script], most: usize) -> bool
-    ensures { result ≡ nat_le (steps_of scripts.now) most }
+    ensures { result ≡ nat_le (step_count scripts.now) most }
 {
     let mut left = most;
     for script in scripts {

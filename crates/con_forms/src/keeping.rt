@@ -10,7 +10,9 @@ ghost use Rattle.con_trace.specs.Fits.{AreBytes, AreTexts, AreWhole, EventFits, 
 ghost use Rattle.con_trace.specs.Shown.{cell_words};
 ghost use Rattle.con_forms.specs.Kept.{ActorKeeps, AreCells, EndKeeps, EndsKeep, EntriesKeep, EntryKeeps, Kept, RepliesKeep, ReplyKeeps};
 
-use con_events::{Actor, Call, End, Ends, Entries, Entry, Event, Replies, Reply, Wanted, Words};
+use con_events::{
+    Actor, Call, End, Entries, Entry, Event, PieceEnds, Replies, Reply, Wanted, Words,
+};
 use con_records::{Key, Mouse, Record};
 use con_units::{Cell, Rect, Units};
 
@@ -410,7 +412,7 @@ fn replies(coming: &[Reply])
 }
 
 /// Reads a history, its answers, its lengths and its end, and tells what their types keep of them.
-pub fn types_are_kept(history: &Entries, answers: &Replies, ends: &Ends, end: End)
+pub fn types_are_kept(history: &Entries, answers: &Replies, ends: &PieceEnds, end: End)
     ensures { Kept history.now answers.now ends.now end }
 {
     entries(history.0.as_slice());

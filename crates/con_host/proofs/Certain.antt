@@ -7,7 +7,7 @@ use Rattle.con_link.specs.Frames.{Answers, IsEnd, goes_on}
 use Rattle.con_link.specs.Mirrored.{MirrorAnswers, as_plain}
 use Rattle.con_link.specs.MirrorOnly.{OneMirrorAnswer, OneMirrorFrame, is_mirror_told}
 use Rattle.con_link.specs.Only.{OneAnswer, OneFrame, is_told}
-use Rattle.con_link.specs.Reading.{Reading, plainly, mirrored}
+use Rattle.con_link.specs.LinkReading.{LinkReading, plainly, mirrored}
 use Rattle.con_link.specs.declared.fault.LinkFault.{LinkFault}
 use Rattle.con_link.specs.declared.fault.LinkFault.TheVariants as faults
 use Rattle.con_link.specs.declared.mirror.MirrorFrame.{MirrorFrame}
@@ -23,7 +23,7 @@ IsTold (Err faults.OutOfMemory) = ⊥
 
 -- but for a failed source and want of memory the bytes and the place determine the answer; they begin with one frame at most; a frame is answered where its bytes
 -- stand; an answer stands within the limit, or one byte past it
-pub record Certain (R : Reading) : Type 0 where
+pub record Certain (R : LinkReading) : Type 0 where
   pub answer : (a b : Result R.One LinkFault) (place : ℕ) (x y l m : List ℕ) → IsTold a → IsTold b → R.answers a place x (Some l) → R.answers b place y (Some m) → x ++ l ≡ y ++ m → a ≡ b
   pub frame : (f g : R.One) (r s : List ℕ) → R.is_one f ≡ true → R.is_one g ≡ true → goes_on (R.plain f) ≡ true → goes_on (R.plain g) ≡ true → R.spelling f ++ r ≡ R.spelling g ++ s → (f ≡ g) × (r ≡ s)
   pub made : (f : R.One) (place : ℕ) (left : Option (List ℕ)) → R.is_one f ≡ true → IsEnd (R.plain f) left → place + length (R.spelling f) ≤ 16777216 → R.answers (Ok f) place (R.spelling f) left

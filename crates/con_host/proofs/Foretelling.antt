@@ -10,7 +10,7 @@ use Rattle.con_units.specs.declared.view.Frame.TheVariants as frame
 use Rattle.con_units.specs.declared.view.FrameFault.{FrameFault}
 use Rattle.con_outside.specs.Outside.{then_left}
 use Rattle.con_link.specs.Frames.{goes_on, ends_link, IsEnd}
-use Rattle.con_link.specs.Reading.{Reading}
+use Rattle.con_link.specs.LinkReading.{LinkReading}
 use Rattle.con_link.specs.declared.fault.LinkFault.{LinkFault}
 use Rattle.con_link.specs.declared.fault.LinkFault.TheVariants as faults
 use Rattle.con_events.specs.declared.end.End.{End}
@@ -26,18 +26,18 @@ use Rattle.con_host.specs.Foretold.{ForetellsBy, HasNoFrameBy, StandsBy}
 use Rattle.con_host.specs.Sessions.{IsStatus, ending_after}
 use Rattle.con_host.proofs.Certain.{Certain, IsTold}
 
-abbrev spelled : (R : Reading) → List R.One → List ℕ
+abbrev spelled : (R : LinkReading) → List R.One → List ℕ
 spelled R fs = flat_map R.spelling fs
 
 -- the answers that say an end
-abbrev Says : (R : Reading) → Result R.One LinkFault → Type 0
+abbrev Says : (R : LinkReading) → Result R.One LinkFault → Type 0
 Says R (Ok f) = ends_link (R.plain f) ≡ true
 Says R (Err (faults.Bad place kind)) = Unit {0}
 Says R (Err faults.TooLong) = Unit {0}
 Says R (Err faults.Failed) = ⊥
 Says R (Err faults.OutOfMemory) = ⊥
 
-told : (R : Reading) (a : Result R.One LinkFault) → Says R a → IsTold a
+told : (R : LinkReading) (a : Result R.One LinkFault) → Says R a → IsTold a
 told R (Ok f) s = tt
 told R (Err (faults.Bad place kind)) s = tt
 told R (Err faults.TooLong) s = tt
@@ -60,14 +60,14 @@ no_last frame.Ask more g = tt
 no_last frame.Hangup more g = tt
 no_last frame.End more g = absurd (no g)
 
-frame_answers : (R : Reading) → Certain R → (f : R.One) (place : ℕ) (more : List ℕ) → R.is_one f ≡ true → goes_on (R.plain f) ≡ true → place + length (R.spelling f) ≤ 16777216 → R.answers (Ok f) place (R.spelling f) (Some more)
+frame_answers : (R : LinkReading) → Certain R → (f : R.One) (place : ℕ) (more : List ℕ) → R.is_one f ≡ true → goes_on (R.plain f) ≡ true → place + length (R.spelling f) ≤ 16777216 → R.answers (Ok f) place (R.spelling f) (Some more)
 frame_answers R laws f place more fine g few = laws.made f place (Some more) fine (no_last (R.plain f) more g) few
 
-longer : (R : Reading) (f : R.One) (fs : List R.One) → length (spelled R (f ∷ fs)) ≡ length (R.spelling f) + length (spelled R fs)
+longer : (R : LinkReading) (f : R.One) (fs : List R.One) → length (spelled R (f ∷ fs)) ≡ length (R.spelling f) + length (spelled R fs)
 longer R f fs = length-append (R.spelling f) (spelled R fs)
 
 -- a frame that goes on stands where an end is said
-none_there : (R : Reading) → Certain R → (g : R.One) (gs : List R.One) (a b : Result R.One LinkFault) (place : ℕ) (x l y m : List ℕ) → R.is_one g ≡ true → goes_on (R.plain g) ≡ true → Says R a → Says R b
+none_there : (R : LinkReading) → Certain R → (g : R.One) (gs : List R.One) (a b : Result R.One LinkFault) (place : ℕ) (x l y m : List ℕ) → R.is_one g ≡ true → goes_on (R.plain g) ≡ true → Says R a → Says R b
     → R.answers a (place + 0) x (Some l) → R.answers b (place + length (spelled R (g ∷ gs))) y (Some m) → x ++ l ≡ spelled R (g ∷ gs) ++ (y ++ m) → ⊥
 none_there R laws g gs a b place x l y m fine goes s t p q e =
     let most : place + length (spelled R (g ∷ gs)) ≤ 16777216 = laws.within b (place + length (spelled R (g ∷ gs))) y (Some m) (told R b t) q in
@@ -76,7 +76,7 @@ none_there R laws g gs a b place x l y m fine goes s t p q e =
     let is : a ≡ Ok g = laws.answer a (Ok g) (place + 0) x (R.spelling g) l (spelled R gs ++ (y ++ m)) (told R a s) tt p (frame_answers R laws g (place + 0) (spelled R gs ++ (y ++ m)) fine goes few) at in
     apart (R.plain g) (subst (Says R) is s) goes
 
-one_end : (R : Reading) → Certain R → (fs gs : List R.One) (a b : Result R.One LinkFault) (place : ℕ) (x l y m : List ℕ) → list_all R.is_one fs ≡ true → all_go_on R fs ≡ true → list_all R.is_one gs ≡ true → all_go_on R gs ≡ true
+one_end : (R : LinkReading) → Certain R → (fs gs : List R.One) (a b : Result R.One LinkFault) (place : ℕ) (x l y m : List ℕ) → list_all R.is_one fs ≡ true → all_go_on R fs ≡ true → list_all R.is_one gs ≡ true → all_go_on R gs ≡ true
     → Says R a → Says R b → R.answers a (place + length (spelled R fs)) x (Some l) → R.answers b (place + length (spelled R gs)) y (Some m) → spelled R fs ++ (x ++ l) ≡ spelled R gs ++ (y ++ m) → a ≡ b
 one_end R laws [] [] a b place x l y m ff fg gf gg s t p q e = laws.answer a b (place + 0) x y l m (told R a s) (told R b t) p q e
 one_end R laws [] (g ∷ gs) a b place x l y m ff fg gf gg s t p q e =
@@ -105,13 +105,13 @@ end_said (Err faults.TooLong) = ends.TooLong
 end_said (Err faults.Failed) = ends.Link
 end_said (Err faults.OutOfMemory) = ends.Memory
 
-record Said (R : Reading) (link : List ℕ) (end : End) : Type 0 where
+record Said (R : LinkReading) (link : List ℕ) (end : End) : Type 0 where
   answer : Result R.One LinkFault
   says : Says R answer
   stands : StandsBy R link answer
   is : end_said answer ≡ end
 
-said : (R : Reading) (link : List ℕ) (end : End) → ForetellsBy R link end → Said R link end
+said : (R : LinkReading) (link : List ℕ) (end : End) → ForetellsBy R link end → Said R link end
 said R link ends.Done f = record { answer = Ok f.0; says = f.1; stands = f.2; is = refl }
 said R link (ends.Bad place kind) f = record { answer = Err (faults.Bad place kind); says = tt; stands = f; is = refl }
 said R link ends.TooLong f = record { answer = Err faults.TooLong; says = tt; stands = f; is = refl }
@@ -122,14 +122,14 @@ said R link ends.Memory f = absurd f
 zero_more : (n : ℕ) → n ≡ 0 + n
 zero_more n = omega arith
 
-same_end : (R : Reading) → Certain R → (link : List ℕ) (c d : End) → Said R link c → Said R link d → c ≡ d
+same_end : (R : LinkReading) → Certain R → (link : List ℕ) (c d : End) → Said R link c → Said R link d → c ≡ d
 same_end R laws link c d p q =
     let s = p.stands in
     let t = q.stands in
     let answers : p.answer ≡ q.answer = one_end R laws s.frames t.frames p.answer q.answer 0 s.text s.rest t.text t.rest s.are_frames s.going t.are_frames t.going p.says q.says (subst (λ n. R.answers p.answer n s.text (Some s.rest)) (zero_more _) s.answers) (subst (λ n. R.answers q.answer n t.text (Some t.rest)) (zero_more _) t.answers) (sym s.spelled ∙ t.spelled) in
     sym p.is ∙ (ap end_said answers ∙ q.is)
 
-one_foretold : (R : Reading) → Certain R → (link : List ℕ) (c d : End) → ForetellsBy R link c → ForetellsBy R link d → c ≡ d
+one_foretold : (R : LinkReading) → Certain R → (link : List ℕ) (c d : End) → ForetellsBy R link c → ForetellsBy R link d → c ≡ d
 one_foretold R laws link c d f g = same_end R laws link c d (said R link c f) (said R link d g)
 
 -- ---- the end of a session that ran
@@ -138,10 +138,10 @@ append_none : (xs : List ℕ) → xs ++ [] ≡ xs
 append_none [] = refl
 append_none (x ∷ xs) = ap (λ ys. x ∷ ys) (append_none xs)
 
-ended_spelled : (R : Reading) (front : List R.One) (last : R.One) → spelled R (front ++ last ∷ []) ≡ spelled R front ++ R.spelling last
+ended_spelled : (R : LinkReading) (front : List R.One) (last : R.One) → spelled R (front ++ last ∷ []) ≡ spelled R front ++ R.spelling last
 ended_spelled R front last = flat_map-append R.spelling front (last ∷ []) ∙ ap (λ t. spelled R front ++ t) (append_none (R.spelling last))
 
-done_foretold : (R : Reading) → Certain R → (link : List ℕ) (frames : List R.One) (text rest : List ℕ) → list_all R.is_one frames ≡ true → link ≡ (spelled R frames ++ text) ++ rest → IsLinkBy R frames (Some rest) → text ≡ [] → length (spelled R frames) ≤ 16777216 → ForetellsBy R link ends.Done
+done_foretold : (R : LinkReading) → Certain R → (link : List ℕ) (frames : List R.One) (text rest : List ℕ) → list_all R.is_one frames ≡ true → link ≡ (spelled R frames ++ text) ++ rest → IsLinkBy R frames (Some rest) → text ≡ [] → length (spelled R frames) ≤ 16777216 → ForetellsBy R link ends.Done
 done_foretold R laws link frames text rest fine is l none few =
     let front = l.0 in
     let last = l.1 in
@@ -161,7 +161,7 @@ done_foretold R laws link frames text rest fine is l none few =
       },
     )
 
-stopped : (R : Reading) (link : List ℕ) (fault : LinkFault) (frames : List R.One) (text rest : List ℕ) → list_all R.is_one frames ≡ true → all_go_on R frames ≡ true → link ≡ (spelled R frames ++ text) ++ rest
+stopped : (R : LinkReading) (link : List ℕ) (fault : LinkFault) (frames : List R.One) (text rest : List ℕ) → list_all R.is_one frames ≡ true → all_go_on R frames ≡ true → link ≡ (spelled R frames ++ text) ++ rest
     → R.answers (Err fault) (length (spelled R frames)) text (Some rest) → StandsBy R link (Err fault)
 stopped R link fault frames text rest fine going is a = record {
   frames = frames;
@@ -182,7 +182,7 @@ IsSaid ends.Term = ⊥
 IsSaid ends.Link = ⊥
 IsSaid ends.Memory = ⊥
 
-ran_foretold : (R : Reading) → Certain R → (link : List ℕ) (end : End) (frames : List R.One) (text rest : List ℕ) (sent : List Event) → list_all R.is_one frames ≡ true → link ≡ (spelled R frames ++ text) ++ rest → HasSentBy R end frames text (Some rest) sent → IsSaid end → ForetellsBy R link end
+ran_foretold : (R : LinkReading) → Certain R → (link : List ℕ) (end : End) (frames : List R.One) (text rest : List ℕ) (sent : List Event) → list_all R.is_one frames ≡ true → link ≡ (spelled R frames ++ text) ++ rest → HasSentBy R end frames text (Some rest) sent → IsSaid end → ForetellsBy R link end
 ran_foretold R laws link ends.Done frames text rest sent fine is h s = done_foretold R laws link frames text rest fine is h.0 h.1 h.2
 ran_foretold R laws link (ends.Bad place kind) frames text rest sent fine is h s = stopped R link (faults.Bad place kind) frames text rest fine h.0.0 is h.1
 ran_foretold R laws link ends.TooLong frames text rest sent fine is h s = stopped R link faults.TooLong frames text rest fine h.0.0 is h.1
@@ -217,7 +217,7 @@ bytes_are : (link taken rest : List ℕ) (before : Option (List ℕ)) → before
 bytes_are link taken rest before e f = some_is _ _ (sym f ∙ e)
 
 -- a session that ran has the end that the bytes say, or there was no memory
-status_foretold : (R : Reading) → Certain R → (s : ℕ) (end e : End) (frames : List R.One) (text link : List ℕ) (before left : Option (List ℕ)) (sent : List Event) → IsStatus s end → list_all R.is_one frames ≡ true → before ≡ then_left (spelled R frames ++ text) left
+status_foretold : (R : LinkReading) → Certain R → (s : ℕ) (end e : End) (frames : List R.One) (text link : List ℕ) (before left : Option (List ℕ)) (sent : List Event) → IsStatus s end → list_all R.is_one frames ≡ true → before ≡ then_left (spelled R frames ++ text) left
     → HasSentBy R end frames text left sent → before ≡ Some link → ForetellsBy R link e → (s ≡ 4 → ⊥) → (s ≡ 5 → ⊥) → (s ≡ 6 → ⊥) → (s ≡ status_of (ending_after e)) ⊎ (s ≡ 9)
 status_foretold R laws s end e frames text link before None sent is fine taken h f foretells l t r = let bad : None ≡ Some link = sym taken ∙ f in absurd (cc)
 status_foretold R laws s end e frames text link before (Some rest) sent is fine taken h f foretells l t r = elim (settles s end is l t r) [
@@ -260,7 +260,7 @@ ended_long s end is e = elim is [
 ]
 
 -- the status of a link without a frame at a place
-no_frame_there : (R : Reading) (s : ℕ) (end : End) (frames : List R.One) (text : List ℕ) (before left : Option (List ℕ)) (sent : List Event) → IsStatus s end → list_all R.is_one frames ≡ true → before ≡ then_left (spelled R frames ++ text) left
+no_frame_there : (R : LinkReading) (s : ℕ) (end : End) (frames : List R.One) (text : List ℕ) (before left : Option (List ℕ)) (sent : List Event) → IsStatus s end → list_all R.is_one frames ≡ true → before ≡ then_left (spelled R frames ++ text) left
     → HasSentBy R end frames text left sent → s ≡ 8 → IfSome before (HasNoFrameBy R)
 no_frame_there R s end frames text before None sent is fine taken h e = subst (λ b. IfSome b (HasNoFrameBy R)) (sym taken) tt
 no_frame_there R s end frames text before (Some rest) sent is fine taken h e =
@@ -269,7 +269,7 @@ no_frame_there R s end frames text before (Some rest) sent is fine taken h e =
     subst (λ b. IfSome b (HasNoFrameBy R)) (sym taken) (bad.0, bad.1, stopped R ((spelled R frames ++ text) ++ rest) (faults.Bad bad.0 bad.1) frames text rest fine sent'.0.0 refl sent'.1)
 
 -- the status of a link with too many bytes
-much_taken : (R : Reading) → Certain R → (s : ℕ) (end : End) (frames : List R.One) (text : List ℕ) (before left : Option (List ℕ)) (sent : List Event) → IsStatus s end → before ≡ then_left (spelled R frames ++ text) left → HasSentBy R end frames text left sent → s ≡ 10
+much_taken : (R : LinkReading) → Certain R → (s : ℕ) (end : End) (frames : List R.One) (text : List ℕ) (before left : Option (List ℕ)) (sent : List Event) → IsStatus s end → before ≡ then_left (spelled R frames ++ text) left → HasSentBy R end frames text left sent → s ≡ 10
     → (taken : List ℕ) × (before ≡ then_left taken left) × (16777216 < length taken)
 much_taken R laws s end frames text before left sent is taken h e =
     let sent' : HasSentBy R ends.TooLong frames text left sent = subst (λ d. HasSentBy R d frames text left sent) (ended_long s end is e) h in
@@ -278,14 +278,14 @@ much_taken R laws s end frames text before left sent is taken h e =
 
 -- ---- of what a session left
 
-pub left_foretold : (R : Reading) (More : List R.One → List Entry → Type 0) → Certain R → (s : ℕ) (session : Clients) (racks : List (List ℕ)) (h : List Entry) (rs : List Reply) (es : List ℕ) (end e : End) (link : List ℕ) (before left old now : Option (List ℕ))
+pub left_foretold : (R : LinkReading) (More : List R.One → List Entry → Type 0) → Certain R → (s : ℕ) (session : Clients) (racks : List (List ℕ)) (h : List Entry) (rs : List Reply) (es : List ℕ) (end e : End) (link : List ℕ) (before left old now : Option (List ℕ))
     → LeavesBy R More session racks h rs es end before left old now → IsStatus s end → before ≡ Some link → ForetellsBy R link e → (s ≡ 4 → ⊥) → (s ≡ 5 → ⊥) → (s ≡ 6 → ⊥) → (s ≡ status_of (ending_after e)) ⊎ (s ≡ 9)
 left_foretold R More laws s session racks h rs es end e link before left old now o is known says l t r = status_foretold R laws s end e o.frames o.text link before left _ is o.frames' o.taken o.side known says l t r
 
-pub left_no_frame : (R : Reading) (More : List R.One → List Entry → Type 0) (s : ℕ) (session : Clients) (racks : List (List ℕ)) (h : List Entry) (rs : List Reply) (es : List ℕ) (end : End) (before left old now : Option (List ℕ)) → LeavesBy R More session racks h rs es end before left old now
+pub left_no_frame : (R : LinkReading) (More : List R.One → List Entry → Type 0) (s : ℕ) (session : Clients) (racks : List (List ℕ)) (h : List Entry) (rs : List Reply) (es : List ℕ) (end : End) (before left old now : Option (List ℕ)) → LeavesBy R More session racks h rs es end before left old now
     → IsStatus s end → s ≡ 8 → IfSome before (HasNoFrameBy R)
 left_no_frame R More s session racks h rs es end before left old now o is e = no_frame_there R s end o.frames o.text before left _ is o.frames' o.taken o.side e
 
-pub left_too_much : (R : Reading) (More : List R.One → List Entry → Type 0) → Certain R → (s : ℕ) (session : Clients) (racks : List (List ℕ)) (h : List Entry) (rs : List Reply) (es : List ℕ) (end : End) (before left old now : Option (List ℕ)) → LeavesBy R More session racks h rs es end before left old now
+pub left_too_much : (R : LinkReading) (More : List R.One → List Entry → Type 0) → Certain R → (s : ℕ) (session : Clients) (racks : List (List ℕ)) (h : List Entry) (rs : List Reply) (es : List ℕ) (end : End) (before left old now : Option (List ℕ)) → LeavesBy R More session racks h rs es end before left old now
     → IsStatus s end → s ≡ 10 → (taken : List ℕ) × (before ≡ then_left taken left) × (16777216 < length taken)
 left_too_much R More laws s session racks h rs es end before left old now o is e = much_taken R laws s end o.frames o.text before left _ is o.taken o.side e

@@ -5,13 +5,13 @@ use Rattle.con_events.specs.declared.end.End.{End}
 use Rattle.con_events.specs.declared.end.End.TheVariants as ends
 use Rattle.con_events.specs.declared.entry.Entry.{Entry}
 use Rattle.con_events.specs.declared.reply.Reply.{Reply}
-use Rattle.con_machine.specs.Follows.{begun}
+use Rattle.con_machine.specs.Follows.{session_start}
 use Rattle.con_machine.specs.History.{is_legal}
 use Rattle.con_machine.specs.Once.{TakenOnce}
 use Rattle.con_machine.specs.Rounds.{is_memory}
 use Rattle.con_machine.specs.Turns.{paints}
 use Rattle.con_script.specs.Generated.{session_drawn}
-use Rattle.con_session.specs.Outcome.{IsOutcome}
+use Rattle.con_session.specs.Outcome.{IsSoloOutcome}
 use Rattle.con_outside.specs.Outside.{then_written, WroteFront, WrotePart}
 use Rattle.con_ending.specs.Ending.{end_line, Told}
 use Rattle.con_host.specs.Generating.{Generated, GeneratedPart, GeneratedRun, summary_of}
@@ -58,26 +58,26 @@ ended_report seed old now before report failed run wrote front =
 
 -- ---- the session itself
 
-pub it_is_legal : (session : Clients) (racks : List (List ℕ)) (h : List Entry) → racks ≡ [] → is_legal (begun session racks) h ≡ true → is_legal (begun session []) h ≡ true
-it_is_legal session racks h none legal = subst (λ rs. is_legal (begun session rs) h ≡ true) none legal
+pub it_is_legal : (session : Clients) (racks : List (List ℕ)) (h : List Entry) → racks ≡ [] → is_legal (session_start session racks) h ≡ true → is_legal (session_start session []) h ≡ true
+it_is_legal session racks h none legal = subst (λ rs. is_legal (session_start session rs) h ≡ true) none legal
 
 pub all_painted : (end : End) (es : List ℕ) (h : List Entry) → end ≡ ends.Done → (is_memory end ≡ false → length es ≡ paints h) → length es ≡ paints h
 all_painted end es h done painted = painted (ap is_memory done)
 
 abbrev pub generated_run : (seed : ℕ) (session : Clients) (racks : List (List ℕ)) (h : List Entry) (rs : List Reply) (es : List ℕ) (end : End) (before left old : Option (List ℕ)) (stream : List ℕ) → session ≡ session_drawn seed → racks ≡ [] → end ≡ ends.Done
-    → before ≡ Some [] → old ≡ Some [] → IsOutcome session racks h rs es end before left old (Some stream)
-    → ((s : Clients) (ks : List (List ℕ)) (g : List Entry) → TakenOnce (begun s ks) g) → GeneratedRun seed
+    → before ≡ Some [] → old ≡ Some [] → IsSoloOutcome session racks h rs es end before left old (Some stream)
+    → ((s : Clients) (ks : List (List ℕ)) (g : List Entry) → TakenOnce (session_start s ks) g) → GeneratedRun seed
 generated_run seed session racks h rs es end before left old stream drawn none done link term outcome once = record {
   entries = h;
   replies = rs;
   ends' = es;
   stream = stream;
   left = left;
-  outcome = subst (λ o. IsOutcome (session_drawn seed) [] h rs es ends.Done (Some []) left o (Some stream)) term
-      (subst (λ b. IsOutcome (session_drawn seed) [] h rs es ends.Done b left old (Some stream)) link
-      (subst (λ e. IsOutcome (session_drawn seed) [] h rs es e before left old (Some stream)) done
-      (subst (λ ks. IsOutcome (session_drawn seed) ks h rs es end before left old (Some stream)) none
-      (subst (λ s. IsOutcome s racks h rs es end before left old (Some stream)) drawn outcome))));
+  outcome = subst (λ o. IsSoloOutcome (session_drawn seed) [] h rs es ends.Done (Some []) left o (Some stream)) term
+      (subst (λ b. IsSoloOutcome (session_drawn seed) [] h rs es ends.Done b left old (Some stream)) link
+      (subst (λ e. IsSoloOutcome (session_drawn seed) [] h rs es e before left old (Some stream)) done
+      (subst (λ ks. IsSoloOutcome (session_drawn seed) ks h rs es end before left old (Some stream)) none
+      (subst (λ s. IsSoloOutcome s racks h rs es end before left old (Some stream)) drawn outcome))));
   once = once (session_drawn seed) [] h;
 }
 
@@ -114,8 +114,8 @@ summary_by seed old now before report failed stream summary xs ys m e f wrote to
     cut_summary seed old now before report failed m.0 (whole_is xs m.0.stream old now (e ∙ m.1) wrote) (part_is ys (summary_of seed m.0) before report (f ∙ m.2) told)
 
 pub made_by : (seed : ℕ) (session : Clients) (racks : List (List ℕ)) (h : List Entry) (rs : List Reply) (es : List ℕ) (end : End) (before left old : Option (List ℕ)) (stream xs a b : List ℕ) → session ≡ session_drawn seed → racks ≡ [] → end ≡ ends.Done
-    → before ≡ Some [] → old ≡ Some [] → IsOutcome session racks h rs es end before left old (Some stream) → xs ≡ stream → (a ≡ xs) × (b ≡ summary_text session h rs xs)
-    → ((s : Clients) (ks : List (List ℕ)) (g : List Entry) → TakenOnce (begun s ks) g) → Made seed a b
+    → before ≡ Some [] → old ≡ Some [] → IsSoloOutcome session racks h rs es end before left old (Some stream) → xs ≡ stream → (a ≡ xs) × (b ≡ summary_text session h rs xs)
+    → ((s : Clients) (ks : List (List ℕ)) (g : List Entry) → TakenOnce (session_start s ks) g) → Made seed a b
 made_by seed session racks h rs es end before left old stream xs a b drawn none done link term outcome same made once = (
   generated_run seed session racks h rs es end before left old stream drawn none done link term outcome once,
   made.0 ∙ same,

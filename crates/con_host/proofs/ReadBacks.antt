@@ -1,7 +1,7 @@
 -- A session's report as its reader has it.
 use Rattle.std.proofs.Common.{◌≡◌, ◌⊎◌, inl, inr, refl, sym, subst, ap, ap₂, ◌∙◌, arith, ℕ, suc, ◌+◌, ◌≤◌, Bool, true, false, List, [], ◌∷◌, length, map, Option}
 use Rattle.std.specs.Prelude.{if◌then◌else◌}
-use Rattle.con_link.specs.Reading.{Reading}
+use Rattle.con_link.specs.LinkReading.{LinkReading}
 use Rattle.con_outside.specs.Outside.{then_written, WroteFront, WrotePart}
 use Rattle.con_events.specs.Session.{Clients}
 use Rattle.con_events.specs.declared.end.End.{End}
@@ -11,7 +11,7 @@ use Rattle.con_events.specs.declared.event.Event.{Event}
 use Rattle.con_events.specs.declared.event.Event.TheVariants as events
 use Rattle.con_events.specs.declared.reply.Reply.{Reply}
 use Rattle.con_events.specs.declared.reply.Reply.TheVariants as replies
-use Rattle.con_machine.specs.Follows.{begun}
+use Rattle.con_machine.specs.Follows.{session_start}
 use Rattle.con_machine.specs.History.{replies_of}
 use Rattle.con_machine.specs.Rounds.{is_memory}
 use Rattle.con_machine.specs.State.{State}
@@ -120,12 +120,12 @@ front_by are false h rs es last before now is whole some ends wrote =
       subst (λ ss. WroteFront (report ss (alone 9)) before now) (sym (are h rs es)) (report_cut (told h rs es) (alone 9) before now lines),
     )
 
-pub read_back : (R : Reading) (More : List R.One → List Entry → Type 0) (session : Clients) (racks : List (List ℕ)) (h : List Entry) (rs : List Reply) (es : List ℕ) (end : End)
+pub read_back : (R : LinkReading) (More : List R.One → List Entry → Type 0) (session : Clients) (racks : List (List ℕ)) (h : List Entry) (rs : List Reply) (es : List ℕ) (end : End)
     (before left old now : Option (List ℕ)) (last : Ending) (was is : Option (List ℕ)) → HistoriesFit → AreSaid → AllAreTold → EachIsTold → ReportTells
     → LeavesBy R More session racks h rs es end before left old now → Kept h rs es end → IsEnding last → WroteFront (told_report h rs es last) was is
     → ReadBack h rs es end last was is
 read_back R More session racks h rs es end before left old now last was is fit are all each tells l kept ends wrote =
-    let s = begun session racks in
+    let s = session_start session racks in
     let same : rs ≡ answers s h = l.replies ∙ all_replies (replies_of s h) in
     let many : length rs ≡ length h = ap length same ∙ as_many s h in
     let few : length es ≤ pictures h = elim l.but_last [

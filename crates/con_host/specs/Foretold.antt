@@ -3,7 +3,7 @@ use Rattle.std.specs.Prelude.{◌≡◌, ℕ, ◌≤◌, true, List, ◌++◌, f
 use Rattle.std.specs.List.{list_all}
 use Rattle.con_units.specs.declared.view.FrameFault.{FrameFault}
 use Rattle.con_link.specs.Frames.{ends_link}
-use Rattle.con_link.specs.Reading.{Reading, plainly, mirrored}
+use Rattle.con_link.specs.LinkReading.{LinkReading, plainly, mirrored}
 use Rattle.con_link.specs.declared.fault.LinkFault.{LinkFault}
 use Rattle.con_link.specs.declared.fault.LinkFault.TheVariants as faults
 use Rattle.con_events.specs.Session.{Clients}
@@ -13,7 +13,7 @@ use Rattle.con_script.specs.Document.{document}
 use Rattle.con_session.specs.Sender.{all_go_on}
 
 -- The link's bytes, read in this way, are frames, one after another from its first byte and none of them an X, and behind them stands what is answered so.
-pub record StandsBy (R : Reading) (link : List ℕ) (answer : Result R.One LinkFault) : Type 0 where
+pub record StandsBy (R : LinkReading) (link : List ℕ) (answer : Result R.One LinkFault) : Type 0 where
   pub frames : List R.One
   pub text : List ℕ
   pub rest : List ℕ
@@ -24,7 +24,7 @@ pub record StandsBy (R : Reading) (link : List ℕ) (answer : Result R.One LinkF
 
 -- Done: whole frames through the first X, or to the link's end, of at most 16,777,216 bytes. Bad: no frame at that place, which is the first such one. Too
 -- long: more bytes than that without an end or a fault.
-abbrev pub ForetellsBy : (R : Reading) → List ℕ → End → Type 0
+abbrev pub ForetellsBy : (R : LinkReading) → List ℕ → End → Type 0
 ForetellsBy R link ends.Done = (last : R.One) × (ends_link (R.plain last) ≡ true) × StandsBy R link (Ok last)
 ForetellsBy R link (ends.Bad place kind) = StandsBy R link (Err (faults.Bad place kind))
 ForetellsBy R link ends.TooLong = StandsBy R link (Err faults.TooLong)
@@ -33,7 +33,7 @@ ForetellsBy R link ends.Link = ⊥
 ForetellsBy R link ends.Memory = ⊥
 
 -- some frame is missing at some place
-abbrev pub HasNoFrameBy : (R : Reading) → List ℕ → Type 0
+abbrev pub HasNoFrameBy : (R : LinkReading) → List ℕ → Type 0
 HasNoFrameBy R link = (place : ℕ) × (kind : FrameFault) × ForetellsBy R link (ends.Bad place kind)
 
 -- of a link with no second terminal

@@ -4,10 +4,10 @@ use Rattle.con_outside.specs.Outside.{then_written, WroteFront, WrotePart}
 use Rattle.con_events.specs.declared.end.End.TheVariants as ends
 use Rattle.con_events.specs.declared.entry.Entry.{Entry}
 use Rattle.con_events.specs.declared.reply.Reply.{Reply}
-use Rattle.con_machine.specs.Follows.{begun}
+use Rattle.con_machine.specs.Follows.{session_start}
 use Rattle.con_machine.specs.Once.{TakenOnce}
 use Rattle.con_script.specs.Generated.{session_drawn}
-use Rattle.con_session.specs.Outcome.{IsOutcome}
+use Rattle.con_session.specs.Outcome.{IsSoloOutcome}
 use Rattle.con_ending.specs.Ending.{end_line, Told}
 use Rattle.con_host.specs.Summary.{summary_text}
 
@@ -19,8 +19,8 @@ pub record GeneratedRun (seed : ℕ) : Type 0 where
   pub ends' : List ℕ
   pub stream : List ℕ
   pub left : Option (List ℕ)
-  pub outcome : IsOutcome (session_drawn seed) [] entries replies ends' ends.Done (Some []) left (Some []) (Some stream)
-  pub once : TakenOnce (begun (session_drawn seed) []) entries
+  pub outcome : IsSoloOutcome (session_drawn seed) [] entries replies ends' ends.Done (Some []) left (Some []) (Some stream)
+  pub once : TakenOnce (session_start (session_drawn seed) []) entries
 
 -- its summary
 abbrev pub summary_of : (seed : ℕ) → GeneratedRun seed → List ℕ

@@ -7,7 +7,7 @@ use Rattle.con_events.specs.declared.entry.Entry.{Entry}
 use Rattle.con_events.specs.declared.reply.Reply.{Reply}
 use Rattle.con_outside.specs.Outside.{then_written, WroteFront}
 use Rattle.con_script.specs.Document.{document}
-use Rattle.con_machine.specs.Follows.{begun}
+use Rattle.con_machine.specs.Follows.{session_start}
 use Rattle.con_machine.specs.Once.{TakenOnce}
 use Rattle.con_session.specs.Second.{IsMirrorOutcome}
 use Rattle.con_trace.specs.Ending.{Ending, worded, status_of}
@@ -44,7 +44,7 @@ pub record RanMirrored (status : ℕ) (session : Clients) (racks : List (List �
   pub seconds : List ℕ
   pub lost : Bool
   pub outcome : IsMirrorOutcome session racks entries replies ends' end seconds lost before left old now was written
-  pub once : TakenOnce (begun session racks) entries
+  pub once : TakenOnce (session_start session racks) entries
   pub status_is : IsMirrorStatus status end lost
   pub front : WroteFront (mirror_report entries replies ends' end lost) before_report report'
   pub whole : ¬ (status ≡ 9) → ¬ failed → report' ≡ then_written before_report (mirror_report entries replies ends' end lost)

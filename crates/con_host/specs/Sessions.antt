@@ -6,7 +6,7 @@ use Rattle.con_events.specs.declared.end.End.TheVariants as ends
 use Rattle.con_events.specs.declared.entry.Entry.{Entry}
 use Rattle.con_events.specs.declared.reply.Reply.{Reply}
 use Rattle.con_outside.specs.Outside.{then_written, WroteFront, WrotePart}
-use Rattle.con_machine.specs.Follows.{begun}
+use Rattle.con_machine.specs.Follows.{session_start}
 use Rattle.con_machine.specs.Once.{TakenOnce}
 use Rattle.con_machine.specs.Rounds.{Rounds, is_memory}
 use Rattle.con_session.specs.Outcome.{Leaves}
@@ -84,7 +84,7 @@ pub record Ran (status : ℕ) (session : Clients) (racks : List (List ℕ)) (bef
   pub ends' : List ℕ
   pub end : End
   pub leaves : Leaves session racks entries replies ends' end before left old now
-  pub once : TakenOnce (begun session racks) entries
+  pub once : TakenOnce (session_start session racks) entries
   pub status_is : IsStatus status end
   pub front : WroteFront (report_text entries replies ends' end) before_report report'
   pub whole : ¬ (status ≡ 9) → ¬ (status ≡ 6) → ¬ failed → report' ≡ then_written before_report (report_text entries replies ends' end)
@@ -96,7 +96,7 @@ pub record Ran (status : ℕ) (session : Clients) (racks : List (List ℕ)) (bef
 pub record RanByTurns (status : ℕ) (session : Clients) (racks : List (List ℕ)) (before left old now before_report report' : Option (List ℕ))
     (failed : Type 0) : Type 0 where
   pub ran : Ran status session racks before left old now before_report report' failed
-  pub rounds : Rounds (begun session racks) ran.entries session racks ran.end
+  pub rounds : Rounds (session_start session racks) ran.entries session racks ran.end
 
 -- ---- all of it
 

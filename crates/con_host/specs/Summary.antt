@@ -5,7 +5,7 @@ use Rattle.con_events.specs.Session.{Clients}
 use Rattle.con_events.specs.declared.entry.Entry.{Entry}
 use Rattle.con_events.specs.declared.reply.Reply.{Reply}
 use Rattle.con_events.specs.declared.reply.Reply.TheVariants as replies
-use Rattle.con_machine.specs.Follows.{begun}
+use Rattle.con_machine.specs.Follows.{session_start}
 use Rattle.con_machine.specs.History.{run}
 use Rattle.con_machine.specs.Turns.{paints}
 use Rattle.con_text.specs.Playing.{dump_after}
@@ -22,7 +22,7 @@ refusals (r ∷ rs) = refusal r + refusals rs
 
 -- how many records stand in the queue after a history of a session without handlers
 abbrev pub records_left : Clients → List Entry → ℕ
-records_left session h = length (run (begun session []) h).records
+records_left session h = length (run (session_start session []) h).records
 
 -- the lines of the counts; a generated session has 2,000 calls
 abbrev pub counts_text : ℕ → ℕ → ℕ → List ℕ

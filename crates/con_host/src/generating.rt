@@ -1,7 +1,7 @@
 //! `gen`: the generated session of a number, by turns, with its summary as the report.
 
 ghost use Rattle.std.specs.Prelude.{◌≡◌, ◌≤◌, [], true, IfOk, length};
-ghost use Rattle.con_machine.specs.Follows.{begun};
+ghost use Rattle.con_machine.specs.Follows.{session_start};
 ghost use Rattle.con_machine.specs.History.{is_legal};
 ghost use Rattle.con_machine.specs.Turns.{paints};
 ghost use Rattle.con_outside.specs.Outside.{Rose};
@@ -39,7 +39,7 @@ fn finished(
     outcome: &Outcome,
     stream: Vec<u8>,
 ) -> Result<Generation, OutOfMemory>
-    requires legal { is_legal (begun session.now []) outcome.now.entries ≡ true }
+    requires legal { is_legal (session_start session.now []) outcome.now.entries ≡ true }
     requires painted { length outcome.now.ends ≡ paints outcome.now.entries }
     ensures { IfOk result (λ g. (g.stream.items ≡ stream.items)
         × (g.summary.items ≡ summary_text session.now outcome.now.entries outcome.now.replies stream.items)) }

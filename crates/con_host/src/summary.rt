@@ -1,7 +1,7 @@
 //! The summary of a session.
 
 ghost use Rattle.std.specs.Prelude.{◌≡◌, ℕ, ◌+◌, ◌≤◌, ◌++◌, [], true, IfOk, length, string_bytes};
-ghost use Rattle.con_machine.specs.Follows.{begun};
+ghost use Rattle.con_machine.specs.Follows.{session_start};
 ghost use Rattle.con_machine.specs.History.{is_legal};
 ghost use Rattle.con_machine.specs.Turns.{paints};
 ghost use Rattle.con_text.specs.Playing.{dump_after};
@@ -41,7 +41,7 @@ fn refused(replies: &[Reply]) -> u64
 
 // How many records a history leaves in the queue: it is entered once more, in a console of its own.
 fn queued(alloc: Global, session: &Session, entries: &[Entry]) -> Result<usize, OutOfMemory>
-    requires legal { is_legal (begun session.now []) entries.now ≡ true }
+    requires legal { is_legal (session_start session.now []) entries.now ≡ true }
     ensures { IfOk result (λ n. n ≡ records_left session.now entries.now) }
 {
     let mut console = Console::new(alloc, session, &[])?;
@@ -97,7 +97,7 @@ pub fn summary(
     outcome: &Outcome,
     stream: &[u8],
 ) -> Result<Vec<u8>, OutOfMemory>
-    requires legal { is_legal (begun session.now []) outcome.now.entries ≡ true }
+    requires legal { is_legal (session_start session.now []) outcome.now.entries ≡ true }
     requires painted { length outcome.now.ends ≡ paints outcome.now.entries }
     ensures { IfOk result (λ bytes. bytes.items ≡ summary_text session.now outcome.now.entries outcome.now.replies stream.now) }
 {

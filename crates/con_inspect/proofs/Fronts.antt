@@ -11,7 +11,7 @@ use Rattle.con_events.specs.declared.event.Event.{Event}
 use Rattle.con_events.specs.declared.reply.Reply.{Reply}
 use Rattle.con_machine.specs.Along.{Along}
 use Rattle.con_machine.specs.Client.{May, moved_on, starting}
-use Rattle.con_machine.specs.Follows.{Follows, MaySend, sent_one, MayAct, asks, are_of_session, begun, is_cut, is_lost, is_one_of, steps_of, kinds_of}
+use Rattle.con_machine.specs.Follows.{Follows, MaySend, sent_one, MayAct, asks, are_of_session, session_start, is_cut, is_lost, is_one_of, steps_of, kinds_of}
 use Rattle.con_machine.specs.History.{is_legal}
 use Rattle.con_machine.specs.Sights.{sights_of, sights_at}
 use Rattle.con_machine.specs.State.{State}
@@ -78,7 +78,7 @@ along_of may move s xs all f a = along_front may move s xs f.0 (subst (Along may
 
 module _ (g : Given) (frames : List Frame) (h more : List Entry) where
   abbrev first : State
-  first = begun g.session g.racks
+  first = session_start g.session g.racks
 
   follows_front : Holds what.Follows g frames (h ++ more) → Holds what.Follows g frames h
   follows_front f = record {

@@ -5,7 +5,7 @@ use Rattle.std.specs.Option.{option_map_or}
 use Rattle.std.proofs.lemmas.Bool.Decides.{nat_tests}
 use Rattle.std.proofs.Math.Seq.{drop-cons}
 use Rattle.std.proofs.lemmas.Bool.{and_parts}
-use Rattle.con_events.specs.Session.{is_within, all_scripts, steps_of, are_scripts}
+use Rattle.con_events.specs.Session.{is_within, all_scripts, step_count, are_scripts}
 use Rattle.con_events.specs.declared.script.Script.{Script}
 use Rattle.con_handles.specs.Handles.{entered, is_used, free_from, new_number, opened_at}
 use Rattle.con_handles.specs.Tables.{tally, on}
@@ -161,7 +161,7 @@ starts_length (s ∷ ss) racks = ap suc (starts_length ss (behind_first racks))
 
 pub starts_few : (scripts : List Script) (racks : List ℕ) (starts : List ProcStart) → are_scripts scripts ≡ true → starts ≡ starts_of scripts racks → length starts ≤ 255
 starts_few scripts racks starts are is =
-    let parts = and_parts (is_within 1 64 (length scripts) && all_scripts scripts) (nat_le (steps_of scripts) 16384) are in
+    let parts = and_parts (is_within 1 64 (length scripts) && all_scripts scripts) (nat_le (step_count scripts) 16384) are in
     let within = and_parts (is_within 1 64 (length scripts)) (all_scripts scripts) parts.0 in
     let both = and_parts (nat_le 1 (length scripts)) (nat_le (length scripts) 64) within.0 in
     let most : nat_le (length scripts) 64 ≡ true = both.1 in

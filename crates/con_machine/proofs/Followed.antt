@@ -9,7 +9,7 @@ use Rattle.con_alias.specs.Aliases.{AliasList}
 use Rattle.con_readers.specs.Act.{Act, began, typed, passed, ended, woke, IsOf}
 use Rattle.con_readers.specs.Lines.{line_text}
 use Rattle.con_readers.specs.Reads.{Pumped, Settled, settled, settled_after, after_act, before, work}
-use Rattle.con_readers.specs.declared.step.Step.{Step}
+use Rattle.con_readers.specs.declared.step.ReadStep.{ReadStep}
 use Rattle.con_readers.specs.declared.open.Open.{Open}
 use Rattle.con_screen.specs.Echo.{Echoed, echoed, ended as line_ended}
 use Rattle.con_screens.specs.Buffers.{Buffers, screen_at}
@@ -81,7 +81,7 @@ shown_is s p n old new e b ns found shows is left notes = by_note (noted_of s.no
 
 -- ---- one step
 
-pub stepped_is : (s t u : State) (step : Step) → t ≡ with_pumped s (pumped_of s) → ((act : Option Act) → IsOf step act → IsTold act t.reads → u ≡ followed_by t act) → IsOf step (pumped_of s).act → IsTold (pumped_of s).act (pumped_of s).reads → u ≡ stepped s
+pub stepped_is : (s t u : State) (step : ReadStep) → t ≡ with_pumped s (pumped_of s) → ((act : Option Act) → IsOf step act → IsTold act t.reads → u ≡ followed_by t act) → IsOf step (pumped_of s).act → IsTold (pumped_of s).act (pumped_of s).reads → u ≡ stepped s
 stepped_is s t u step pump follow tells told =
     follow (pumped_of s).act tells (subst (λ (x : State). IsTold (pumped_of s).act x.reads) (sym pump) told) ∙ ap (λ (x : State). followed_by x (pumped_of s).act) pump
 

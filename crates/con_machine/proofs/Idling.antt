@@ -28,7 +28,7 @@ use Rattle.con_machine.specs.Outcome.{Outcome, refused, answered, guard, with_ob
 use Rattle.con_machine.specs.Call.{called}
 use Rattle.con_machine.specs.Closing.{closing, hung_up, all_wait}
 use Rattle.con_machine.specs.EventLaws.{served_first, settled_shows}
-use Rattle.con_machine.specs.Follows.{begun}
+use Rattle.con_machine.specs.Follows.{session_start}
 use Rattle.con_machine.specs.History.{run}
 use Rattle.con_machine.specs.HistoryLaws.{run-append}
 use Rattle.con_machine.specs.LineCalls.{told_alias_in}
@@ -173,9 +173,9 @@ pub run_settles : (s : State) (h : List Entry) → IsSettled s → IsSettled (ru
 run_settles s [] k = k
 run_settles s (x ∷ xs) k = run_settles (step s x.actor x.event).after xs (step_settles s x.actor x.event k)
 
-pub begins_settled : (session : Clients) (racks : List (List ℕ)) → IsSettled (begun session racks)
+pub begins_settled : (session : Clients) (racks : List (List ℕ)) → IsSettled (session_start session racks)
 unfolding closing
-begins_settled session racks = record { served = rests (begun session racks) refl; closes = refl }
+begins_settled session racks = record { served = rests (session_start session racks) refl; closes = refl }
 
 -- ---- an event without an effect
 

@@ -36,7 +36,7 @@ use Rattle.con_machine.specs.History.{run}
 use Rattle.con_machine.specs.Reads.{began as read_began, line_cut, part_told, part_left, line_front, front_of, back_of, answered_with, with_read, rest_answered, line_begun, began_units, history_used, read_answer, records_answer, is_empty}
 use Rattle.con_machine.specs.Step.{step, is_outside, client_of}
 use Rattle.con_machine.specs.Answers.{opens}
-use Rattle.con_machine.specs.Left.{Leaves, LeftBy, handle_of}
+use Rattle.con_machine.specs.Left.{LeavesRest, LeftBy, handle_of}
 use Rattle.con_screens.specs.Resize.{all_resized}
 use Rattle.con_machine.specs.EventLaws.{Core, call_walk, fed_walk, quiet_walk, hung_walk, size_core, finished_walk}
 use Rattle.con_machine.specs.declared.rest.Rest.{Rest}
@@ -168,7 +168,7 @@ call_kept q hd s p c = same q hd s (called s p c).after ((call_walk s p c).rests
 -- ---- an event: the rest stays, or is gone, or this event left it
 
 abbrev Stepped : State → ℕ → ℕ → ℕ → Event → Outcome → Type 0
-Stepped s c p hd e o = Kept p hd s o.after ⊎ ((c ≡ p) × Leaves s p hd e o.reply (rest_in o.after.rests p hd))
+Stepped s c p hd e o = Kept p hd s o.after ⊎ ((c ≡ p) × LeavesRest s p hd e o.reply (rest_in o.after.rests p hd))
 
 process_or : Option Noted → ℕ
 process_or None = 0
@@ -288,7 +288,7 @@ finish_step : (s : State) (c p hd : ℕ) (e : Event) (o : Outcome) → Stepped s
 finish_step s c p hd e o h = subst (λ (rs : List Rest). Ended rs) (sym (finished_walk o).rests) h
   where
     Ended : List Rest → Type 0
-    Ended rs = ((rest_in rs p hd ≡ rest_in s.rests p hd) ⊎ (rest_in rs p hd ≡ [])) ⊎ ((c ≡ p) × Leaves s p hd e o.reply (rest_in rs p hd))
+    Ended rs = ((rest_in rs p hd ≡ rest_in s.rests p hd) ⊎ (rest_in rs p hd ≡ [])) ⊎ ((c ≡ p) × LeavesRest s p hd e o.reply (rest_in rs p hd))
 
 entry_step : (s : State) (x : Entry) (p hd : ℕ) (b : Bool) → is_outside s x.actor x.event ≡ b → Stepped s (client_of x.actor) p hd x.event (step s x.actor x.event)
 unfolding step
@@ -319,7 +319,7 @@ origin_by s x xs p hd rest (inr l) h = inr (inr (record {
   later = xs;
   is = refl;
   client = l.0;
-  leaves = subst (Leaves s p hd x.event (step s x.actor x.event).reply) (sym h) l.1;
+  leaves = subst (LeavesRest s p hd x.event (step s x.actor x.event).reply) (sym h) l.1;
 }))
 
 origin_on : (s : State) (x : Entry) (xs : List Entry) (p hd : ℕ) (rest : List ℕ) → Origin (step s x.actor x.event).after xs p hd rest → Origin s (x ∷ xs) p hd rest

@@ -11,7 +11,7 @@ use Rattle.con_readers.specs.Reads.{has_done}
 use Rattle.con_machine.specs.State.{State}
 use Rattle.con_machine.specs.Answers.{opens, console_before, was_interrupted, was_cut_off, is_aborted, is_closed}
 use Rattle.con_machine.specs.Fates.{Taker, Begun, Begin, AnswersRecords, arrived, pieces, done_for, fate, fated, last_begin, wants_records}
-use Rattle.con_machine.specs.Follows.{begun}
+use Rattle.con_machine.specs.Follows.{session_start}
 use Rattle.con_machine.specs.History.{run}
 use Rattle.con_machine.specs.Once.{TakenOnce, collect}
 use Rattle.con_machine.specs.Settled.{IsSettled, peek}
@@ -58,5 +58,5 @@ once laws s h none unnoted unrested settled = record {
   keeps = λ before later k t is e. subst (λ (all : List Entry). fate s all k ≡ Some t) (sym is) (laws.stays s before later k t e);
 }
 
-pub session_once : Laws → (session : Clients) (racks : List (List ℕ)) (h : List Entry) → TakenOnce (begun session racks) h
-session_once laws session racks h = once laws (begun session racks) h refl refl refl (begins_settled session racks)
+pub session_once : Laws → (session : Clients) (racks : List (List ℕ)) (h : List Entry) → TakenOnce (session_start session racks) h
+session_once laws session racks h = once laws (session_start session racks) h refl refl refl (begins_settled session racks)

@@ -45,7 +45,7 @@ use Rattle.con_machine.specs.Terminal.{fed, quiet, resized}
 use Rattle.con_machine.specs.Painting.{painted, same_view, view_now, differs}
 use Rattle.con_machine.specs.Turns.{turns, sent, Turn}
 use Rattle.con_machine.specs.Client.{FollowsScript, GoesOn, Gone, client_after}
-use Rattle.con_machine.specs.Follows.{Follows, begun, FollowsLink, AreAnswered, are_of_session, steps_of, kinds_of}
+use Rattle.con_machine.specs.Follows.{Follows, session_start, FollowsLink, AreAnswered, are_of_session, steps_of, kinds_of}
 use Rattle.con_machine.specs.Whole.{IsWhole, HasLeft}
 use Rattle.con_machine.specs.Rounds.{Rounds, SideTurn, painter_turn, client_turn, client_at}
 use Rattle.con_machine.specs.SameViews.{shows_same}
@@ -120,31 +120,31 @@ break_key = frames.Quiet ∷ frames.Bytes (0x03 ∷ []) ∷ frames.End ∷ []
 abbrev noted : List Entry
 noted = side events.Quiet ∷ by 1 (events.Call (calls.HandlerAdd 0)) ∷ paint ∷ side (events.Feed (0x03 ∷ [])) ∷ by 1 events.TakeCtrl ∷ side events.Drained ∷ by 1 (events.Exit 3221225786) ∷ []
 
-noted_legal : is_legal (begun counting (rack 2)) noted ≡ true
+noted_legal : is_legal (session_start counting (rack 2)) noted ≡ true
 unfolding step effect called settled_state closing began collected took_ctrl left fed quiet resized painted is_due is_ready line_front settled served units_of rest_of next split_after is_front whole broken same_view ids_from drawn_by changed ended down shown part_lifted lifted filled written_on unit_written written heard split_in switches is_switch screen.effect screen.follow screen.act printed advanced put wrapped told_after refitted free_from
 noted_legal = refl
 
-noted_client : FollowsScript (steps_of counting 1) (2 ∷ []) (turns (begun counting (rack 2)) 1 noted)
+noted_client : FollowsScript (steps_of counting 1) (2 ∷ []) (turns (session_start counting (rack 2)) 1 noted)
 unfolding step effect called settled_state closing began collected took_ctrl left fed quiet resized painted is_due is_ready line_front settled served units_of rest_of next split_after is_front whole broken same_view ids_from drawn_by changed ended down shown part_lifted lifted filled written_on unit_written written heard split_in switches is_switch screen.effect screen.follow screen.act printed advanced put wrapped told_after refitted free_from
 noted_client = (inr refl, (inl refl, (refl, tt)))
 
-noted_follows : Follows (begun counting (rack 2)) noted counting (rack 2) break_key ends.Done
+noted_follows : Follows (session_start counting (rack 2)) noted counting (rack 2) break_key ends.Done
 unfolding step effect called settled_state closing began collected took_ctrl left fed quiet resized painted is_due is_ready line_front settled served units_of rest_of next split_after is_front whole broken same_view ids_from drawn_by changed ended down shown part_lifted lifted filled written_on unit_written written heard split_in switches is_switch screen.effect screen.follow screen.act printed advanced put wrapped told_after refitted free_from
 noted_follows = record {
   actors = refl;
-  clients = one_client (λ p. FollowsScript (steps_of counting p) (kinds_of (rack 2) p) (turns (begun counting (rack 2)) p noted)) noted_client;
+  clients = one_client (λ p. FollowsScript (steps_of counting p) (kinds_of (rack 2) p) (turns (session_start counting (rack 2)) p noted)) noted_client;
   link = ((refl, inl refl), ((refl, inl refl), ((refl, inl refl), tt)));
   answered = (tt, (tt, (tt, (tt, (tt, (tt, (tt, tt)))))));
 }
 
 -- after so many entries of it the painter does nothing
 abbrev noted_at : ℕ → State
-noted_at n = run (begun counting (rack 2)) (take n noted)
+noted_at n = run (session_start counting (rack 2)) (take n noted)
 
-noted_idles : (n : ℕ) → (noted_at n).resized ≡ false → (noted_at n).asked ≡ false → (noted_at n).painted ≡ Some (view_now (begun counting (rack 2))) → view_now (noted_at n) ≡ view_now (begun counting (rack 2)) → None ≡ painter_turn (noted_at n) false
-noted_idles n r a p v = idles (noted_at n) (begun counting (rack 2)) r a p v
+noted_idles : (n : ℕ) → (noted_at n).resized ≡ false → (noted_at n).asked ≡ false → (noted_at n).painted ≡ Some (view_now (session_start counting (rack 2))) → view_now (noted_at n) ≡ view_now (session_start counting (rack 2)) → None ≡ painter_turn (noted_at n) false
+noted_idles n r a p v = idles (noted_at n) (session_start counting (rack 2)) r a p v
 
-noted_rounds : Rounds (begun counting (rack 2)) noted counting (rack 2) ends.Done
+noted_rounds : Rounds (session_start counting (rack 2)) noted counting (rack 2) ends.Done
 unfolding step effect called settled_state closing began collected took_ctrl left fed quiet resized painted is_due is_ready line_front settled served units_of rest_of next split_after is_front whole broken same_view ids_from drawn_by changed ended down shown part_lifted lifted filled written_on unit_written written heard split_in switches is_switch screen.effect screen.follow screen.act printed advanced put wrapped told_after refitted free_from
 noted_rounds = record {
   failed = None;
@@ -166,31 +166,31 @@ noted_rounds = record {
 abbrev swallowed : List Entry
 swallowed = side events.Quiet ∷ by 1 (events.Call (calls.HandlerAdd 0)) ∷ paint ∷ side (events.Feed (0x03 ∷ [])) ∷ by 1 events.TakeCtrl ∷ side events.Drained ∷ by 1 (events.Call (calls.Count 1)) ∷ by 1 (events.Exit 0) ∷ []
 
-swallowed_legal : is_legal (begun counting (rack 1)) swallowed ≡ true
+swallowed_legal : is_legal (session_start counting (rack 1)) swallowed ≡ true
 unfolding step effect called settled_state closing began collected took_ctrl left fed quiet resized painted is_due is_ready line_front settled served units_of rest_of next split_after is_front whole broken same_view ids_from drawn_by changed ended down shown part_lifted lifted filled written_on unit_written written heard split_in switches is_switch screen.effect screen.follow screen.act printed advanced put wrapped told_after refitted free_from
 swallowed_legal = refl
 
-swallowed_client : FollowsScript (steps_of counting 1) (1 ∷ []) (turns (begun counting (rack 1)) 1 swallowed)
+swallowed_client : FollowsScript (steps_of counting 1) (1 ∷ []) (turns (session_start counting (rack 1)) 1 swallowed)
 unfolding step effect called settled_state closing began collected took_ctrl left fed quiet resized painted is_due is_ready line_front settled served units_of rest_of next split_after is_front whole broken same_view ids_from drawn_by changed ended down shown part_lifted lifted filled written_on unit_written written heard split_in switches is_switch screen.effect screen.follow screen.act printed advanced put wrapped told_after refitted free_from
 swallowed_client = (inr refl, (inl refl, (inr refl, (inr refl, tt))))
 
-swallowed_follows : Follows (begun counting (rack 1)) swallowed counting (rack 1) break_key ends.Done
+swallowed_follows : Follows (session_start counting (rack 1)) swallowed counting (rack 1) break_key ends.Done
 unfolding step effect called settled_state closing began collected took_ctrl left fed quiet resized painted is_due is_ready line_front settled served units_of rest_of next split_after is_front whole broken same_view ids_from drawn_by changed ended down shown part_lifted lifted filled written_on unit_written written heard split_in switches is_switch screen.effect screen.follow screen.act printed advanced put wrapped told_after refitted free_from
 swallowed_follows = record {
   actors = refl;
-  clients = one_client (λ p. FollowsScript (steps_of counting p) (kinds_of (rack 1) p) (turns (begun counting (rack 1)) p swallowed)) swallowed_client;
+  clients = one_client (λ p. FollowsScript (steps_of counting p) (kinds_of (rack 1) p) (turns (session_start counting (rack 1)) p swallowed)) swallowed_client;
   link = ((refl, inl refl), ((refl, inl refl), ((refl, inl refl), tt)));
   answered = (tt, (tt, (tt, (tt, (tt, (tt, (tt, (tt, tt))))))));
 }
 
 -- after so many entries of it the painter does nothing
 abbrev swallowed_at : ℕ → State
-swallowed_at n = run (begun counting (rack 1)) (take n swallowed)
+swallowed_at n = run (session_start counting (rack 1)) (take n swallowed)
 
-swallowed_idles : (n : ℕ) → (swallowed_at n).resized ≡ false → (swallowed_at n).asked ≡ false → (swallowed_at n).painted ≡ Some (view_now (begun counting (rack 1))) → view_now (swallowed_at n) ≡ view_now (begun counting (rack 1)) → None ≡ painter_turn (swallowed_at n) false
-swallowed_idles n r a p v = idles (swallowed_at n) (begun counting (rack 1)) r a p v
+swallowed_idles : (n : ℕ) → (swallowed_at n).resized ≡ false → (swallowed_at n).asked ≡ false → (swallowed_at n).painted ≡ Some (view_now (session_start counting (rack 1))) → view_now (swallowed_at n) ≡ view_now (session_start counting (rack 1)) → None ≡ painter_turn (swallowed_at n) false
+swallowed_idles n r a p v = idles (swallowed_at n) (session_start counting (rack 1)) r a p v
 
-swallowed_rounds : Rounds (begun counting (rack 1)) swallowed counting (rack 1) ends.Done
+swallowed_rounds : Rounds (session_start counting (rack 1)) swallowed counting (rack 1) ends.Done
 unfolding step effect called settled_state closing began collected took_ctrl left fed quiet resized painted is_due is_ready line_front settled served units_of rest_of next split_after is_front whole broken same_view ids_from drawn_by changed ended down shown part_lifted lifted filled written_on unit_written written heard split_in switches is_switch screen.effect screen.follow screen.act printed advanced put wrapped told_after refitted free_from
 swallowed_rounds = record {
   failed = None;
@@ -210,21 +210,21 @@ swallowed_rounds = record {
 }
 
 -- it answered false, and the client goes on: this follows no script
-goes_on_unhandled : FollowsScript (steps_of counting 1) (2 ∷ []) (turns (begun counting (rack 2)) 1 swallowed) → ⊥
+goes_on_unhandled : FollowsScript (steps_of counting 1) (2 ∷ []) (turns (session_start counting (rack 2)) 1 swallowed) → ⊥
 unfolding step effect called settled_state closing began collected took_ctrl left fed quiet resized painted is_due is_ready line_front settled served units_of rest_of next split_after is_front whole broken same_view ids_from drawn_by changed ended down shown part_lifted lifted filled written_on unit_written written heard split_in switches is_switch screen.effect screen.follow screen.act printed advanced put wrapped told_after refitted free_from
 goes_on_unhandled f = let e : events.Call (calls.Count 1) ≡ events.Exit 3221225786 = f.1.1.0 in cc
 
 -- it answered true, and the client leaves
-leaves_though_handled : FollowsScript (steps_of counting 1) (1 ∷ []) (turns (begun counting (rack 1)) 1 noted) → ⊥
+leaves_though_handled : FollowsScript (steps_of counting 1) (1 ∷ []) (turns (session_start counting (rack 1)) 1 noted) → ⊥
 unfolding step effect called settled_state closing began collected took_ctrl left fed quiet resized painted is_due is_ready line_front settled served units_of rest_of next split_after is_front whole broken same_view ids_from drawn_by changed ended down shown part_lifted lifted filled written_on unit_written written heard split_in switches is_switch screen.effect screen.follow screen.act printed advanced put wrapped told_after refitted free_from
 leaves_though_handled f = neither (λ e. let d : events.Exit 3221225786 ≡ events.TakeCtrl = e in cc) (λ e. let d : events.Exit 3221225786 ≡ events.Call (calls.Count 1) = e in cc) f.1.1.0
 
 -- it tells nothing of its answers: both follow
-noted_in_doubt : FollowsScript (steps_of counting 1) (0 ∷ []) (turns (begun counting (rack 0)) 1 noted)
+noted_in_doubt : FollowsScript (steps_of counting 1) (0 ∷ []) (turns (session_start counting (rack 0)) 1 noted)
 unfolding step effect called settled_state closing began collected took_ctrl left fed quiet resized painted is_due is_ready line_front settled served units_of rest_of next split_after is_front whole broken same_view ids_from drawn_by changed ended down shown part_lifted lifted filled written_on unit_written written heard split_in switches is_switch screen.effect screen.follow screen.act printed advanced put wrapped told_after refitted free_from
 noted_in_doubt = (inr refl, (inl refl, (inl refl, tt)))
 
-swallowed_in_doubt : FollowsScript (steps_of counting 1) (0 ∷ []) (turns (begun counting (rack 0)) 1 swallowed)
+swallowed_in_doubt : FollowsScript (steps_of counting 1) (0 ∷ []) (turns (session_start counting (rack 0)) 1 swallowed)
 unfolding step effect called settled_state closing began collected took_ctrl left fed quiet resized painted is_due is_ready line_front settled served units_of rest_of next split_after is_front whole broken same_view ids_from drawn_by changed ended down shown part_lifted lifted filled written_on unit_written written heard split_in switches is_switch screen.effect screen.follow screen.act printed advanced put wrapped told_after refitted free_from
 swallowed_in_doubt = (inr refl, (inl refl, (inr (inr refl), (inr refl, tt))))
 
@@ -239,24 +239,24 @@ two_asks = frames.Ask ∷ frames.Ask ∷ []
 abbrev asked_twice : List Entry
 asked_twice = side events.Ask ∷ by 1 (events.Exit 0) ∷ paint ∷ side events.Ask ∷ paint ∷ side events.Hangup ∷ []
 
-asked_twice_legal : is_legal (begun silent []) asked_twice ≡ true
+asked_twice_legal : is_legal (session_start silent []) asked_twice ≡ true
 unfolding step effect called settled_state closing began collected took_ctrl left fed quiet resized painted is_due is_ready line_front settled served units_of rest_of next split_after is_front whole broken same_view ids_from drawn_by changed ended down shown part_lifted lifted filled written_on unit_written written heard split_in switches is_switch screen.effect screen.follow screen.act printed advanced put wrapped told_after refitted free_from
 asked_twice_legal = refl
 
-asked_twice_client : FollowsScript (steps_of silent 1) [] (turns (begun silent []) 1 asked_twice)
+asked_twice_client : FollowsScript (steps_of silent 1) [] (turns (session_start silent []) 1 asked_twice)
 unfolding step effect called settled_state closing began collected took_ctrl left fed quiet resized painted is_due is_ready line_front settled served units_of rest_of next split_after is_front whole broken same_view ids_from drawn_by changed ended down shown part_lifted lifted filled written_on unit_written written heard split_in switches is_switch screen.effect screen.follow screen.act printed advanced put wrapped told_after refitted free_from
 asked_twice_client = (inr refl, tt)
 
-asked_twice_follows : Follows (begun silent []) asked_twice silent [] two_asks ends.Link
+asked_twice_follows : Follows (session_start silent []) asked_twice silent [] two_asks ends.Link
 unfolding step effect called settled_state closing began collected took_ctrl left fed quiet resized painted is_due is_ready line_front settled served units_of rest_of next split_after is_front whole broken same_view ids_from drawn_by changed ended down shown part_lifted lifted filled written_on unit_written written heard split_in switches is_switch screen.effect screen.follow screen.act printed advanced put wrapped told_after refitted free_from
 asked_twice_follows = record {
   actors = refl;
-  clients = one_client (λ p. FollowsScript (steps_of silent p) (kinds_of [] p) (turns (begun silent []) p asked_twice)) asked_twice_client;
+  clients = one_client (λ p. FollowsScript (steps_of silent p) (kinds_of [] p) (turns (session_start silent []) p asked_twice)) asked_twice_client;
   link = ((refl, inl refl), ((refl, inl refl), ((refl, inr (refl, refl)), tt)));
   answered = (tt, (tt, (tt, (tt, (tt, (tt, tt))))));
 }
 
-asked_twice_rounds : Rounds (begun silent []) asked_twice silent [] ends.Link
+asked_twice_rounds : Rounds (session_start silent []) asked_twice silent [] ends.Link
 unfolding step effect called settled_state closing began collected took_ctrl left fed quiet resized painted is_due is_ready line_front settled served units_of rest_of next split_after is_front whole broken same_view ids_from drawn_by changed ended down shown part_lifted lifted filled written_on unit_written written heard split_in switches is_switch screen.effect screen.follow screen.act printed advanced put wrapped told_after refitted free_from
 asked_twice_rounds = record {
   failed = None;
@@ -266,8 +266,8 @@ asked_twice_rounds = record {
       ∷ (Some events.Hangup ∷ None ∷ None ∷ []) ∷ [];
   last = None ∷ None ∷ None ∷ [];
   parts = refl;
-  turns_are = ((tt, (refl, (refl, tt))), refl, ((tt, (refl, (refl, tt))), refl, ((tt, (refl, (idles (run (begun silent []) asked_twice) (begun silent []) refl refl refl refl, tt))), refl, tt)));
-  last_is = ((refl, (refl, (idles (run (begun silent []) asked_twice) (begun silent []) refl refl refl refl, tt))), refl);
+  turns_are = ((tt, (refl, (refl, tt))), refl, ((tt, (refl, (refl, tt))), refl, ((tt, (refl, (idles (run (session_start silent []) asked_twice) (session_start silent []) refl refl refl refl, tt))), refl, tt)));
+  last_is = ((refl, (refl, (idles (run (session_start silent []) asked_twice) (session_start silent []) refl refl refl refl, tt))), refl);
 }
 
 -- nothing failed: the Hangup is no frame
@@ -308,44 +308,44 @@ all_closed = by 1 (events.Begin (wanted.ReadInput 1 1)) ∷ by 2 (events.Begin (
 abbrev woken : List Entry
 woken = all_closed ++ by 2 events.TakeCtrl ∷ by 2 (events.Exit 3221225786) ∷ []
 
-woken_legal : is_legal (begun waiting []) woken ≡ true
+woken_legal : is_legal (session_start waiting []) woken ≡ true
 unfolding step effect called settled_state closing began collected took_ctrl left fed quiet resized painted is_due is_ready line_front settled served units_of rest_of next split_after is_front whole broken same_view ids_from drawn_by changed ended down shown part_lifted lifted filled written_on unit_written written heard split_in switches is_switch screen.effect screen.follow screen.act printed advanced put wrapped told_after refitted free_from
 woken_legal = refl
 
-woken_first : FollowsScript (steps_of waiting 1) [] (turns (begun waiting []) 1 woken)
+woken_first : FollowsScript (steps_of waiting 1) [] (turns (session_start waiting []) 1 woken)
 unfolding step effect called settled_state closing began collected took_ctrl left fed quiet resized painted is_due is_ready line_front settled served units_of rest_of next split_after is_front whole broken same_view ids_from drawn_by changed ended down shown part_lifted lifted filled written_on unit_written written heard split_in switches is_switch screen.effect screen.follow screen.act printed advanced put wrapped told_after refitted free_from
 woken_first = (inr refl, (inr refl, (inr refl, tt)))
 
-woken_second : FollowsScript (steps_of waiting 2) [] (turns (begun waiting []) 2 woken)
+woken_second : FollowsScript (steps_of waiting 2) [] (turns (session_start waiting []) 2 woken)
 unfolding step effect called settled_state closing began collected took_ctrl left fed quiet resized painted is_due is_ready line_front settled served units_of rest_of next split_after is_front whole broken same_view ids_from drawn_by changed ended down shown part_lifted lifted filled written_on unit_written written heard split_in switches is_switch screen.effect screen.follow screen.act printed advanced put wrapped told_after refitted free_from
 woken_second = (inr refl, (inr refl, (refl, (refl, tt))))
 
-woken_third : FollowsScript (steps_of waiting 3) [] (turns (begun waiting []) 3 woken)
+woken_third : FollowsScript (steps_of waiting 3) [] (turns (session_start waiting []) 3 woken)
 unfolding step effect called settled_state closing began collected took_ctrl left fed quiet resized painted is_due is_ready line_front settled served units_of rest_of next split_after is_front whole broken same_view ids_from drawn_by changed ended down shown part_lifted lifted filled written_on unit_written written heard split_in switches is_switch screen.effect screen.follow screen.act printed advanced put wrapped told_after refitted free_from
 woken_third = (inr refl, (inr refl, tt))
 
 -- it goes on though an event is pending at the end of its Collect
-leaves_an_event : FollowsScript (steps_of waiting 2) [] (turns (begun waiting []) 2 (all_closed ++ by 2 (events.Exit 0) ∷ [])) → ⊥
+leaves_an_event : FollowsScript (steps_of waiting 2) [] (turns (session_start waiting []) 2 (all_closed ++ by 2 (events.Exit 0) ∷ [])) → ⊥
 unfolding step effect called settled_state closing began collected took_ctrl left fed quiet resized painted is_due is_ready line_front settled served units_of rest_of next split_after is_front whole broken same_view ids_from drawn_by changed ended down shown part_lifted lifted filled written_on unit_written written heard split_in switches is_switch screen.effect screen.follow screen.act printed advanced put wrapped told_after refitted free_from
 leaves_an_event f = let e : events.Exit 0 ≡ events.TakeCtrl = f.1.1.0 in cc
 
 -- it goes on behind the close event
-goes_on_behind_close : FollowsScript (steps_of waiting 2) [] (turns (begun waiting []) 2 (all_closed ++ by 2 events.TakeCtrl ∷ by 2 (events.Exit 0) ∷ [])) → ⊥
+goes_on_behind_close : FollowsScript (steps_of waiting 2) [] (turns (session_start waiting []) 2 (all_closed ++ by 2 events.TakeCtrl ∷ by 2 (events.Exit 0) ∷ [])) → ⊥
 unfolding step effect called settled_state closing began collected took_ctrl left fed quiet resized painted is_due is_ready line_front settled served units_of rest_of next split_after is_front whole broken same_view ids_from drawn_by changed ended down shown part_lifted lifted filled written_on unit_written written heard split_in switches is_switch screen.effect screen.follow screen.act printed advanced put wrapped told_after refitted free_from
 goes_on_behind_close f = let e : events.Exit 0 ≡ events.Exit 3221225786 = f.1.1.1.0 in grind arith
 
 -- it leaves before it has collected
-leaves_before_collect : FollowsScript (steps_of waiting 1) [] (turns (begun waiting []) 1 (by 1 (events.Begin (wanted.ReadInput 1 1)) ∷ by 1 (events.Exit 0) ∷ [])) → ⊥
+leaves_before_collect : FollowsScript (steps_of waiting 1) [] (turns (session_start waiting []) 1 (by 1 (events.Begin (wanted.ReadInput 1 1)) ∷ by 1 (events.Exit 0) ∷ [])) → ⊥
 unfolding step effect called settled_state closing began collected took_ctrl left fed quiet resized painted is_due is_ready line_front settled served units_of rest_of next split_after is_front whole broken same_view ids_from drawn_by changed ended down shown part_lifted lifted filled written_on unit_written written heard split_in switches is_switch screen.effect screen.follow screen.act printed advanced put wrapped told_after refitted free_from
 leaves_before_collect f = neither (λ n. let e : events.Exit 0 ≡ events.TakeCtrl = n in cc) (λ n. let e : events.Exit 0 ≡ events.Collect = n in cc) f.1.0
 
 -- a step is left out
-skips_a_step : FollowsScript (steps_of waiting 3) [] (turns (begun waiting []) 3 (by 3 (events.Exit 0) ∷ [])) → ⊥
+skips_a_step : FollowsScript (steps_of waiting 3) [] (turns (session_start waiting []) 3 (by 3 (events.Exit 0) ∷ [])) → ⊥
 unfolding step effect called settled_state closing began collected took_ctrl left fed quiet resized painted is_due is_ready line_front settled served units_of rest_of next split_after is_front whole broken same_view ids_from drawn_by changed ended down shown part_lifted lifted filled written_on unit_written written heard split_in switches is_switch screen.effect screen.follow screen.act printed advanced put wrapped told_after refitted free_from
 skips_a_step f = neither (λ n. let e : events.Exit 0 ≡ events.TakeCtrl = n in cc) (λ n. let e : events.Exit 0 ≡ events.Call (calls.WriteInput 1 (kinds.Focus true ∷ [])) = n in cc) f.0
 
 -- nothing follows an exit
-acts_behind_exit : FollowsScript (steps_of waiting 3) [] (turns (begun waiting []) 3 (all_closed ++ by 3 events.Collect ∷ [])) → ⊥
+acts_behind_exit : FollowsScript (steps_of waiting 3) [] (turns (session_start waiting []) 3 (all_closed ++ by 3 events.Collect ∷ [])) → ⊥
 unfolding step effect called settled_state closing began collected took_ctrl left fed quiet resized painted is_due is_ready line_front settled served units_of rest_of next split_after is_front whole broken same_view ids_from drawn_by changed ended down shown part_lifted lifted filled written_on unit_written written heard split_in switches is_switch screen.effect screen.follow screen.act printed advanced put wrapped told_after refitted free_from
 acts_behind_exit f = f.1.1.0
 
@@ -392,7 +392,7 @@ listing = side (events.Feed typed) ∷ by 1 (events.Call (calls.SetMode 2 7)) �
     ∷ by 1 (events.Exit 0) ∷ []
 
 abbrev listing_at : ℕ → State
-listing_at n = run (begun shell []) (take n listing)
+listing_at n = run (session_start shell []) (take n listing)
 
 -- the prompt, the line and what is written behind it are each to be painted
 prompt_due : is_ready (listing_at 8) actors.Painter events.Paint ≡ true
@@ -407,19 +407,19 @@ output_due : is_ready (listing_at 13) actors.Painter events.Paint ≡ true
 unfolding step effect called settled_state closing began collected took_ctrl left fed quiet resized painted is_due is_ready line_front settled served units_of rest_of next split_after is_front whole broken same_view ids_from drawn_by changed ended down shown part_lifted lifted filled written_on unit_written written heard split_in switches is_switch screen.effect screen.follow screen.act printed advanced put wrapped told_after refitted free_from text.is_front text.whole
 output_due = is_due_at (listing_at 13) (listing_at 10) refl refl refl (λ e. let x : pos 1 ≡ pos 0 = ap (λ v. v.cursor.x) e in cc)
 
-listing_legal : is_legal (begun shell []) listing ≡ true
+listing_legal : is_legal (session_start shell []) listing ≡ true
 unfolding step effect called settled_state closing began collected took_ctrl left fed quiet resized painted is_due is_ready line_front settled served units_of rest_of next split_after is_front whole broken same_view ids_from drawn_by changed ended down shown part_lifted lifted filled written_on unit_written written heard split_in switches is_switch screen.effect screen.follow screen.act printed advanced put wrapped told_after refitted free_from text.is_front text.whole
 listing_legal = both refl (both refl (both refl (both refl (both refl (both refl (both refl (both refl (both prompt_due (both refl (both line_due (both refl (both refl (both output_due (both refl (both refl refl)))))))))))))))
 
-listing_client : FollowsScript (steps_of shell 1) [] (turns (begun shell []) 1 listing)
+listing_client : FollowsScript (steps_of shell 1) [] (turns (session_start shell []) 1 listing)
 unfolding step effect called settled_state closing began collected took_ctrl left fed quiet resized painted is_due is_ready line_front settled served units_of rest_of next split_after is_front whole broken same_view ids_from drawn_by changed ended down shown part_lifted lifted filled written_on unit_written written heard split_in switches is_switch screen.effect screen.follow screen.act printed advanced put wrapped told_after refitted free_from text.is_front text.whole
 listing_client = (inr refl, (inr refl, (inr refl, (inr refl, (inr refl, (inr refl, (inr refl, (inr refl, tt))))))))
 
-listing_follows : Follows (begun shell []) listing shell [] typing ends.Done
+listing_follows : Follows (session_start shell []) listing shell [] typing ends.Done
 unfolding step effect called settled_state closing began collected took_ctrl left fed quiet resized painted is_due is_ready line_front settled served units_of rest_of next split_after is_front whole broken same_view ids_from drawn_by changed ended down shown part_lifted lifted filled written_on unit_written written heard split_in switches is_switch screen.effect screen.follow screen.act printed advanced put wrapped told_after refitted free_from text.is_front text.whole
 listing_follows = record {
   actors = refl;
-  clients = one_client (λ p. FollowsScript (steps_of shell p) (kinds_of [] p) (turns (begun shell []) p listing)) listing_client;
+  clients = one_client (λ p. FollowsScript (steps_of shell p) (kinds_of [] p) (turns (session_start shell []) p listing)) listing_client;
   link = ((refl, inl refl), ((refl, inl refl), ((refl, inl refl), tt)));
   answered = (tt, (tt, (tt, (tt, (tt, (tt, (tt, (tt, (tt, (tt, (tt, (tt, (tt, (tt, (tt, (tt, tt))))))))))))))));
 }
@@ -433,7 +433,7 @@ waits_with_the_prompt : painter_turn (listing_at 8) false ≡ None → ⊥
 waits_with_the_prompt e = let wrong : Some events.Paint ≡ None = paints (listing_at 8) prompt_due ∙ e in cc
 
 -- nor the client with a control event
-waits_with_an_event : client_turn (noted_at 4) 1 (client_at (record { state = begun counting (rack 2); session = counting; racks = rack 2; failed = None }) (take 4 noted) 1) ≡ Some (events.Call (calls.Count 1)) → ⊥
+waits_with_an_event : client_turn (noted_at 4) 1 (client_at (record { state = session_start counting (rack 2); session = counting; racks = rack 2; failed = None }) (take 4 noted) 1) ≡ Some (events.Call (calls.Count 1)) → ⊥
 unfolding step effect called settled_state closing began collected took_ctrl left fed quiet resized painted is_due is_ready line_front settled served units_of rest_of next split_after is_front whole broken same_view ids_from drawn_by changed ended down shown part_lifted lifted filled written_on unit_written written heard split_in switches is_switch screen.effect screen.follow screen.act printed advanced put wrapped told_after refitted free_from text.is_front text.whole
 waits_with_an_event e = let wrong : Some events.TakeCtrl ≡ Some (events.Call (calls.Count 1)) = e in cc
 
@@ -442,24 +442,24 @@ waits_with_an_event e = let wrong : Some events.TakeCtrl ≡ Some (events.Call (
 abbrev lost : List Entry
 lost = side (events.Feed typed) ∷ by 1 (events.Call (calls.SetMode 2 7)) ∷ paint ∷ side events.Hangup ∷ by 1 events.TakeCtrl ∷ by 1 (events.Exit 3221225786) ∷ []
 
-lost_legal : is_legal (begun shell []) lost ≡ true
+lost_legal : is_legal (session_start shell []) lost ≡ true
 unfolding step effect called settled_state closing began collected took_ctrl left fed quiet resized painted is_due is_ready line_front settled served units_of rest_of next split_after is_front whole broken same_view ids_from drawn_by changed ended down shown part_lifted lifted filled written_on unit_written written heard split_in switches is_switch screen.effect screen.follow screen.act printed advanced put wrapped told_after refitted free_from text.is_front text.whole
 lost_legal = refl
 
-lost_client : FollowsScript (steps_of shell 1) [] (turns (begun shell []) 1 lost)
+lost_client : FollowsScript (steps_of shell 1) [] (turns (session_start shell []) 1 lost)
 unfolding step effect called settled_state closing began collected took_ctrl left fed quiet resized painted is_due is_ready line_front settled served units_of rest_of next split_after is_front whole broken same_view ids_from drawn_by changed ended down shown part_lifted lifted filled written_on unit_written written heard split_in switches is_switch screen.effect screen.follow screen.act printed advanced put wrapped told_after refitted free_from text.is_front text.whole
 lost_client = (inr refl, (inl refl, (refl, tt)))
 
-lost_follows : Follows (begun shell []) lost shell [] typing ends.Term
+lost_follows : Follows (session_start shell []) lost shell [] typing ends.Term
 unfolding step effect called settled_state closing began collected took_ctrl left fed quiet resized painted is_due is_ready line_front settled served units_of rest_of next split_after is_front whole broken same_view ids_from drawn_by changed ended down shown part_lifted lifted filled written_on unit_written written heard split_in switches is_switch screen.effect screen.follow screen.act printed advanced put wrapped told_after refitted free_from text.is_front text.whole
 lost_follows = record {
   actors = refl;
-  clients = one_client (λ p. FollowsScript (steps_of shell p) (kinds_of [] p) (turns (begun shell []) p lost)) lost_client;
+  clients = one_client (λ p. FollowsScript (steps_of shell p) (kinds_of [] p) (turns (session_start shell []) p lost)) lost_client;
   link = ((refl, inl refl), ((refl, inr (refl, refl)), tt));
   answered = (tt, (tt, (tt, (tt, (tt, (tt, tt))))));
 }
 
-lost_rounds : Rounds (begun shell []) lost shell [] ends.Term
+lost_rounds : Rounds (session_start shell []) lost shell [] ends.Term
 unfolding step effect called settled_state closing began collected took_ctrl left fed quiet resized painted is_due is_ready line_front settled served units_of rest_of next split_after is_front whole broken same_view ids_from drawn_by changed ended down shown part_lifted lifted filled written_on unit_written written heard split_in switches is_switch screen.effect screen.follow screen.act printed advanced put wrapped told_after refitted free_from text.is_front text.whole
 lost_rounds = record {
   failed = Some 1;
@@ -490,26 +490,26 @@ abbrev waited : List Entry
 waited = side events.Quiet ∷ by 1 (events.Begin (wanted.ReadInput 1 1)) ∷ paint ∷ side events.Quiet ∷ side (events.Feed (0x61 ∷ [])) ∷ by 1 events.Collect ∷ side events.Drained ∷ by 1 (events.Exit 0) ∷ []
 
 abbrev waited_at : ℕ → State
-waited_at n = run (begun reader []) (take n waited)
+waited_at n = run (session_start reader []) (take n waited)
 
-waited_legal : is_legal (begun reader []) waited ≡ true
+waited_legal : is_legal (session_start reader []) waited ≡ true
 unfolding step effect called settled_state closing began collected took_ctrl left fed quiet resized painted is_due is_ready line_front settled served units_of rest_of next split_after is_front whole broken same_view ids_from drawn_by changed ended down shown part_lifted lifted filled written_on unit_written written heard split_in switches is_switch screen.effect screen.follow screen.act printed advanced put wrapped told_after refitted free_from
 waited_legal = refl
 
-waited_client : FollowsScript (steps_of reader 1) [] (turns (begun reader []) 1 waited)
+waited_client : FollowsScript (steps_of reader 1) [] (turns (session_start reader []) 1 waited)
 unfolding step effect called settled_state closing began collected took_ctrl left fed quiet resized painted is_due is_ready line_front settled served units_of rest_of next split_after is_front whole broken same_view ids_from drawn_by changed ended down shown part_lifted lifted filled written_on unit_written written heard split_in switches is_switch screen.effect screen.follow screen.act printed advanced put wrapped told_after refitted free_from
 waited_client = (inr refl, (inr refl, (inr refl, tt)))
 
-waited_follows : Follows (begun reader []) waited reader [] late_key ends.Done
+waited_follows : Follows (session_start reader []) waited reader [] late_key ends.Done
 unfolding step effect called settled_state closing began collected took_ctrl left fed quiet resized painted is_due is_ready line_front settled served units_of rest_of next split_after is_front whole broken same_view ids_from drawn_by changed ended down shown part_lifted lifted filled written_on unit_written written heard split_in switches is_switch screen.effect screen.follow screen.act printed advanced put wrapped told_after refitted free_from
 waited_follows = record {
   actors = refl;
-  clients = one_client (λ p. FollowsScript (steps_of reader p) (kinds_of [] p) (turns (begun reader []) p waited)) waited_client;
+  clients = one_client (λ p. FollowsScript (steps_of reader p) (kinds_of [] p) (turns (session_start reader []) p waited)) waited_client;
   link = ((refl, inl refl), ((refl, inl refl), ((refl, inl refl), ((refl, inl refl), tt))));
   answered = (tt, (tt, (tt, (tt, (tt, (tt, (tt, (tt, tt))))))));
 }
 
-waited_rounds : Rounds (begun reader []) waited reader [] ends.Done
+waited_rounds : Rounds (session_start reader []) waited reader [] ends.Done
 unfolding step effect called settled_state closing began collected took_ctrl left fed quiet resized painted is_due is_ready line_front settled served units_of rest_of next split_after is_front whole broken same_view ids_from drawn_by changed ended down shown part_lifted lifted filled written_on unit_written written heard split_in switches is_switch screen.effect screen.follow screen.act printed advanced put wrapped told_after refitted free_from
 waited_rounds = record {
   failed = None;
@@ -524,18 +524,18 @@ waited_rounds = record {
     (tt, (refl, (refl, tt))),
     refl,
     (
-      (tt, (refl, (idles (waited_at 4) (begun reader []) refl refl refl refl, tt))),
+      (tt, (refl, (idles (waited_at 4) (session_start reader []) refl refl refl refl, tt))),
       refl,
-      ((tt, (refl, (idles (waited_at 6) (begun reader []) refl refl refl refl, tt))), refl, ((tt, (refl, (idles (waited_at 8) (begun reader []) refl refl refl refl, tt))), refl, tt)),
+      ((tt, (refl, (idles (waited_at 6) (session_start reader []) refl refl refl refl, tt))), refl, ((tt, (refl, (idles (waited_at 8) (session_start reader []) refl refl refl refl, tt))), refl, tt)),
     ),
   );
-  last_is = ((refl, (refl, (idles (waited_at 8) (begun reader []) refl refl refl refl, tt))), refl);
+  last_is = ((refl, (refl, (idles (waited_at 8) (session_start reader []) refl refl refl refl, tt))), refl);
 }
 
-waited_whole : IsWhole (begun reader []) waited reader []
+waited_whole : IsWhole (session_start reader []) waited reader []
 unfolding step effect called settled_state closing began collected took_ctrl left fed quiet resized painted is_due is_ready line_front settled served units_of rest_of next split_after is_front whole broken same_view ids_from drawn_by changed ended down shown part_lifted lifted filled written_on unit_written written heard split_in switches is_switch screen.effect screen.follow screen.act printed advanced put wrapped told_after refitted free_from
 waited_whole = record {
-  clients = one_client (λ p. HasLeft (client_after (steps_of reader p) (kinds_of [] p) (turns (begun reader []) p waited))) refl;
+  clients = one_client (λ p. HasLeft (client_after (steps_of reader p) (kinds_of [] p) (turns (session_start reader []) p waited))) refl;
   ended = refl;
   shown = record {
     front = take 2 waited;
@@ -549,6 +549,6 @@ waited_whole = record {
 }
 
 -- without its Exit the client has not left
-stays : HasLeft (client_after (steps_of reader 1) [] (turns (begun reader []) 1 (take 7 waited))) → ⊥
+stays : HasLeft (client_after (steps_of reader 1) [] (turns (session_start reader []) 1 (take 7 waited))) → ⊥
 unfolding step effect called settled_state closing began collected took_ctrl left fed quiet resized painted is_due is_ready line_front settled served units_of rest_of next split_after is_front whole broken same_view ids_from drawn_by changed ended down shown part_lifted lifted filled written_on unit_written written heard split_in switches is_switch screen.effect screen.follow screen.act printed advanced put wrapped told_after refitted free_from
 stays e = let wrong : GoesOn ≡ Gone = e in cc

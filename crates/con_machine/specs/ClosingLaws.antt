@@ -25,7 +25,7 @@ use Rattle.con_machine.specs.Step.{step, effect, is_outside, finished, client_of
 use Rattle.con_machine.specs.History.{run}
 use Rattle.con_machine.specs.Turns.{moved, sent, is_last_sent, has_ended}
 use Rattle.con_machine.specs.Client.{is_fail}
-use Rattle.con_machine.specs.Follows.{begun}
+use Rattle.con_machine.specs.Follows.{session_start}
 use Rattle.con_machine.specs.Opens.{WaitsOrGone}
 use Rattle.con_machine.specs.Moves.{drains_by}
 use Rattle.con_machine.specs.PictureLaws.{step_moves}
@@ -267,7 +267,7 @@ as_many_scripts : (ss : List Script) (racks : List ℕ) → length (procs_of ss 
 as_many_scripts [] racks = refl
 as_many_scripts (s ∷ ss) racks = ap suc (as_many_scripts ss (behind_first racks))
 
-sound_begun : (session : Clients) (racks : List (List ℕ)) → Sound (begun session racks) false (length session.scripts)
+sound_begun : (session : Clients) (racks : List (List ℕ)) → Sound (session_start session racks) false (length session.scripts)
 sound_begun session racks =
     record {
       count =
@@ -291,11 +291,11 @@ none_by s n k f (inr d) p low high = elim (k.due d) [
 
 -- after a history after which the terminal's side has ended, they are gone if each is gone or waits
 pub none_waits : (session : Clients) (racks : List (List ℕ)) (h : List Entry) → has_ended false (sent h) ≡ true
-    → ((p : ℕ) → 0 < p → p ≤ length session.scripts → WaitsOrGone (run (begun session racks) h) p)
-    → (p : ℕ) → 0 < p → p ≤ length session.scripts → is_attached (run (begun session racks) h).procs p ≡ false
+    → ((p : ℕ) → 0 < p → p ≤ length session.scripts → WaitsOrGone (run (session_start session racks) h) p)
+    → (p : ℕ) → 0 < p → p ≤ length session.scripts → is_attached (run (session_start session racks) h).procs p ≡ false
 none_waits session racks h over f p low high =
-    let s = run (begun session racks) h in
+    let s = run (session_start session racks) h in
     let n = length session.scripts in
     let P : Bool → Type 0 = λ b. Sound s b n in
-    let k = subst P over (run_sound (begun session racks) h false n (sound_begun session racks)) in
+    let k = subst P over (run_sound (session_start session racks) h false n (sound_begun session racks)) in
     none_by s n k f (k.ends refl) p low high

@@ -6,7 +6,7 @@ use Rattle.con_events.specs.declared.event.Event.{Event}
 use Rattle.con_procs.specs.Procs.{is_attached}
 use Rattle.con_machine.specs.ClientRooms.{IsClientRoom}
 use Rattle.con_machine.specs.Held.{Held}
-use Rattle.con_machine.specs.TerminalRooms.{IsTerminalRoom}
+use Rattle.con_machine.specs.TerminalRooms.{IsSideRoom}
 use Rattle.con_machine.specs.declared.room.Room.{Room}
 use Rattle.con_machine.specs.declared.room.Room.TheVariants as rooms
 
@@ -16,7 +16,7 @@ IsOfClient c p e rooms.Outside = ⊥
 IsOfClient c p e (rooms.Terminal r) = ⊥
 
 abbrev pub IsOfTerminal : Held → Event → Room → Type 0
-IsOfTerminal c e (rooms.Terminal r) = IsTerminalRoom c e r
+IsOfTerminal c e (rooms.Terminal r) = IsSideRoom c e r
 IsOfTerminal c e rooms.Outside = ⊥
 IsOfTerminal c e (rooms.Client r) = ⊥
 

@@ -40,19 +40,19 @@ pub record RestLeaves (s : State) (p hd : ℕ) (w : Wanted) (rest : List ℕ) : 
   pub whole : rest_in s.rests p hd ≡ units ++ rest
 
 -- the line read that a client's event answered left this for the handle
-abbrev pub Leaves : State → ℕ → ℕ → Event → Reply → List ℕ → Type 0
-Leaves s p hd events.Collect reply rest = LineLeaves s p hd reply rest
-Leaves s p hd (events.Begin w) reply rest = RestLeaves s p hd w rest
-Leaves s p hd (events.Call c) reply rest = ⊥
-Leaves s p hd events.TakeCtrl reply rest = ⊥
-Leaves s p hd (events.Exit n) reply rest = ⊥
-Leaves s p hd (events.Feed bytes) reply rest = ⊥
-Leaves s p hd events.Quiet reply rest = ⊥
-Leaves s p hd (events.Resize size) reply rest = ⊥
-Leaves s p hd events.Ask reply rest = ⊥
-Leaves s p hd events.Hangup reply rest = ⊥
-Leaves s p hd events.Drained reply rest = ⊥
-Leaves s p hd events.Paint reply rest = ⊥
+abbrev pub LeavesRest : State → ℕ → ℕ → Event → Reply → List ℕ → Type 0
+LeavesRest s p hd events.Collect reply rest = LineLeaves s p hd reply rest
+LeavesRest s p hd (events.Begin w) reply rest = RestLeaves s p hd w rest
+LeavesRest s p hd (events.Call c) reply rest = ⊥
+LeavesRest s p hd events.TakeCtrl reply rest = ⊥
+LeavesRest s p hd (events.Exit n) reply rest = ⊥
+LeavesRest s p hd (events.Feed bytes) reply rest = ⊥
+LeavesRest s p hd events.Quiet reply rest = ⊥
+LeavesRest s p hd (events.Resize size) reply rest = ⊥
+LeavesRest s p hd events.Ask reply rest = ⊥
+LeavesRest s p hd events.Hangup reply rest = ⊥
+LeavesRest s p hd events.Drained reply rest = ⊥
+LeavesRest s p hd events.Paint reply rest = ⊥
 
 -- an entry of this history by the handle's client left it
 pub record LeftBy (s : State) (h : List Entry) (p hd : ℕ) (rest : List ℕ) : Type 0 where
@@ -61,4 +61,4 @@ pub record LeftBy (s : State) (h : List Entry) (p hd : ℕ) (rest : List ℕ) : 
   pub later : List Entry
   pub is : h ≡ before ++ entry ∷ later
   pub client : client_of entry.actor ≡ p
-  pub leaves : Leaves (run s before) p hd entry.event (step (run s before) entry.actor entry.event).reply rest
+  pub leaves : LeavesRest (run s before) p hd entry.event (step (run s before) entry.actor entry.event).reply rest

@@ -7,7 +7,7 @@ use Rattle.con_events.specs.declared.script.Script.{Script}
 use Rattle.con_procs.specs.Procs.{live_in, pending_in}
 use Rattle.con_procs.specs.declared.proc.Proc.{Proc}
 use Rattle.con_machine.specs.State.{procs_of, behind_first}
-use Rattle.con_machine.specs.Follows.{begun}
+use Rattle.con_machine.specs.Follows.{session_start}
 use Rattle.con_machine.specs.Opens.{Opens}
 
 -- who is there
@@ -31,7 +31,7 @@ none_of : (ps : List Proc) (p : ℕ) (b : Bool) → slice_get (pending_in (slice
 none_of ps p true e = refl
 none_of ps p false e = ap is_some e
 
-pub opens : (session : Clients) (racks : List (List ℕ)) → Opens session (begun session racks)
+pub opens : (session : Clients) (racks : List (List ℕ)) → Opens session (session_start session racks)
 opens session racks =
     let counts = map (λ kinds. length kinds) racks in
     record {

@@ -91,10 +91,10 @@ entry_of a None = []
 entry_of a (Some e) = (let x : Entry = record { actor = a; event = e } in x) ∷ []
 
 -- what is entered in the turns of these actors
-abbrev pub entries_of : List Actor → List (Option Event) → List Entry
-entries_of [] ts = []
-entries_of (a ∷ rest) [] = []
-entries_of (a ∷ rest) (t ∷ ts) = entry_of a t ++ entries_of rest ts
+abbrev pub round_entries : List Actor → List (Option Event) → List Entry
+round_entries [] ts = []
+round_entries (a ∷ rest) [] = []
+round_entries (a ∷ rest) (t ∷ ts) = entry_of a t ++ round_entries rest ts
 
 -- the actors have these turns one after another, from a history on; where it may break off, the last of them may have none
 abbrev pub AreTurns : Bool → Begun → List Entry → List Actor → List (Option Event) → Type 0
@@ -114,12 +114,12 @@ all_order b = order (length b.session.scripts)
 -- whole rounds from a history on, in each of which somebody acts
 abbrev pub AreRounds : Begun → List Entry → List (List (Option Event)) → Type 0
 AreRounds b h [] = Unit {0}
-AreRounds b h (one ∷ more) = AreTurns false b h (all_order b) one × (is_nobody one ≡ false) × AreRounds b (h ++ entries_of (all_order b) one) more
+AreRounds b h (one ∷ more) = AreTurns false b h (all_order b) one × (is_nobody one ≡ false) × AreRounds b (h ++ round_entries (all_order b) one) more
 
 -- what is entered in whole rounds
 abbrev pub all_entries : List Actor → List (List (Option Event)) → List Entry
 all_entries by [] = []
-all_entries by (one ∷ more) = entries_of by one ++ all_entries by more
+all_entries by (one ∷ more) = round_entries by one ++ all_entries by more
 
 -- the last round: nobody acts in it; for want of memory it may break off
 abbrev pub IsLast : Bool → Begun → List Entry → List (Option Event) → Type 0
@@ -141,7 +141,7 @@ pub record Rounds (s : State) (h : List Entry) (session : Clients) (racks : List
   pub fails : MayFail (is_lost end) (paints h) failed
   pub rounds : List (List (Option Event))
   pub last : List (Option Event)
-  pub parts : h ≡ all_entries (order (length session.scripts)) rounds ++ entries_of (order (length session.scripts)) last
+  pub parts : h ≡ all_entries (order (length session.scripts)) rounds ++ round_entries (order (length session.scripts)) last
   pub turns_are : AreRounds (record { state = s; session = session; racks = racks; failed = failed }) [] rounds
   pub last_is : IsLast (is_memory end) (record { state = s; session = session; racks = racks; failed = failed })
       (all_entries (order (length session.scripts)) rounds) last

@@ -13,7 +13,7 @@ use Rattle.con_machine.specs.Step.{step, is_ready, is_due}
 use Rattle.con_machine.specs.Painting.{view_now, differs, same_view}
 use Rattle.con_machine.specs.History.{run}
 use Rattle.con_machine.specs.Turns.{moved, is_paint}
-use Rattle.con_machine.specs.Follows.{begun}
+use Rattle.con_machine.specs.Follows.{session_start}
 use Rattle.con_machine.specs.Whole.{are_pictured, ShowsAll}
 use Rattle.con_machine.specs.SameViews.{view_is}
 use Rattle.con_machine.specs.PictureLaws.{step_moves}
@@ -118,6 +118,6 @@ shows_all s h n e =
       }
     ]
 
-pub painted_shows : (session : Clients) (racks : List (List ℕ)) (h : List Entry) → is_ready (run (begun session racks) h) actors.Painter events.Paint ≡ false
-    → ShowsAll (begun session racks) h
-painted_shows session racks h e = shows_all (begun session racks) h refl e
+pub painted_shows : (session : Clients) (racks : List (List ℕ)) (h : List Entry) → is_ready (run (session_start session racks) h) actors.Painter events.Paint ≡ false
+    → ShowsAll (session_start session racks) h
+painted_shows session racks h e = shows_all (session_start session racks) h refl e

@@ -7,12 +7,12 @@ ghost use Rattle.con_machine.specs.Fits.{Fits, IsOfClient, IsOfTerminal};
 ghost use Rattle.con_machine.specs.Marks.{told, Tells};
 ghost use Rattle.con_machine.specs.Serving.{settled_state};
 ghost use Rattle.con_machine.specs.Step.{is_clients, is_due, effect, finished, step, is_ready};
-ghost use Rattle.con_machine.specs.TerminalRooms.{IsTerminalRoom};
+ghost use Rattle.con_machine.specs.TerminalRooms.{IsSideRoom};
 
 use crate::client_room::ClientRoom;
 use crate::console::Console;
 use crate::room::Room;
-use crate::terminal_room::TerminalRoom;
+use crate::terminal_room::SideRoom;
 use con_events::{Actor, Event, Reply};
 use con_units::{Code, OutOfMemory};
 
@@ -43,10 +43,10 @@ impl Console {
     }
 
     // An event that is no client's.
-    fn enter_terminal(&mut self, event: &Event, room: TerminalRoom) -> Reply
+    fn enter_terminal(&mut self, event: &Event, room: SideRoom) -> Reply
         requires side { is_clients event.now ≡ false }
         requires due { is_due self.old.state 0 event.now ≡ true }
-        requires room { IsTerminalRoom self.old event.now room }
+        requires room { IsSideRoom self.old event.now room }
         ensures state { self.new.state ≡ (finished (effect self.old.state 0 event.now)).after }
         ensures reply { told result ≡ (effect self.old.state 0 event.now).reply }
         ensures tells { Tells self.old.state event.now result }

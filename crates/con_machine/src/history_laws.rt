@@ -19,7 +19,7 @@ ghost use Rattle.con_machine.specs.Along.{after};
 ghost use Rattle.con_machine.specs.AlongLaws.{all_coming};
 ghost use Rattle.con_machine.specs.Client.{May, FollowsScript, client_after};
 ghost use Rattle.con_machine.specs.Follows.{is_one_of, are_of_session, MaySend, sent_one, FollowsLink, MayAct, asks, AreAnswered};
-ghost use Rattle.con_machine.specs.Rounds.{Begun, AreTurns, IsTurn, AreRounds, entry_of, entries_of, all_entries, all_order, is_nobody};
+ghost use Rattle.con_machine.specs.Rounds.{Begun, AreTurns, IsTurn, AreRounds, entry_of, round_entries, all_entries, all_order, is_nobody};
 
 /// Of two histories, one behind the other: the console after them, the replies, whether each event is ready, what a client
 /// did, what the terminal's side sent, what was shown and how often.
@@ -46,15 +46,15 @@ pub fn an_entry_is_its_actors()
 /// Rounds go on by one more turn, and by one more round.
 pub fn rounds_go_on()
     ensures turn { (b : Begun) (h : List Entry) (by : List Actor) (ts : List (Option Event)) (a : Actor) (t : Option Event) → AreTurns false b h by ts
-        → IsTurn b (h ++ entries_of by ts) a t → AreTurns false b h (by ++ a ∷ []) (ts ++ t ∷ []) }
+        → IsTurn b (h ++ round_entries by ts) a t → AreTurns false b h (by ++ a ∷ []) (ts ++ t ∷ []) }
     ensures entries { (b : Begun) (h : List Entry) (by : List Actor) (ts : List (Option Event)) (a : Actor) (t : Option Event) → AreTurns false b h by ts
-        → entries_of (by ++ a ∷ []) (ts ++ t ∷ []) ≡ entries_of by ts ++ entry_of a t }
+        → round_entries (by ++ a ∷ []) (ts ++ t ∷ []) ≡ round_entries by ts ++ entry_of a t }
     ensures broken { (b : Begun) (h : List Entry) (by more : List Actor) (ts : List (Option Event)) → AreTurns false b h by ts
         → AreTurns true b h (by ++ more) ts }
     ensures round { (b : Begun) (h : List Entry) (rounds : List (List (Option Event))) (one : List (Option Event)) → AreRounds b h rounds
         → AreTurns false b (h ++ all_entries (all_order b) rounds) (all_order b) one → is_nobody one ≡ false → AreRounds b h (rounds ++ one ∷ []) }
     ensures all_entries { (by : List Actor) (rounds : List (List (Option Event))) (one : List (Option Event))
-        → all_entries by (rounds ++ one ∷ []) ≡ all_entries by rounds ++ entries_of by one }
+        → all_entries by (rounds ++ one ∷ []) ≡ all_entries by rounds ++ round_entries by one }
 {}
 
 /// An Ask and a Resize stand until the next Paint, which shows what there is; no other event changes what is asked for, whether

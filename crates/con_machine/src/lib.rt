@@ -86,5 +86,5 @@ pub use rests::Rests;
 pub use room::Room;
 pub use seen::Seen;
 pub use shown::Shown;
-pub use terminal_room::TerminalRoom;
+pub use terminal_room::SideRoom;
 pub use title::Title;

@@ -3,7 +3,7 @@ ghost use Rattle.std.specs.Prelude.{◌≡◌, ℕ, List, []};
 ghost use Rattle.con_events.specs.Session.{Clients};
 ghost use Rattle.con_events.specs.declared.entry.Entry.{Entry};
 ghost use Rattle.con_machine.specs.State.{State};
-ghost use Rattle.con_machine.specs.Follows.{begun};
+ghost use Rattle.con_machine.specs.Follows.{session_start};
 ghost use Rattle.con_machine.specs.Once.{TakenOnce};
 ghost use Rattle.con_machine.specs.Settled.{IsSettled};
 
@@ -17,7 +17,7 @@ use crate::fates::{
 /// read, nothing left of a line, and nothing left to do.
 pub fn each_record_is_taken_once()
     ensures console { (s : State) (h : List Entry) → s.reads ≡ [] → s.noted ≡ [] → s.rests ≡ [] → IsSettled s → TakenOnce s h }
-    ensures session { (session : Clients) (racks : List (List ℕ)) (h : List Entry) → TakenOnce (begun session racks) h }
+    ensures session { (session : Clients) (racks : List (List ℕ)) (h : List Entry) → TakenOnce (session_start session racks) h }
 {
     no_record_is_lost();
     a_read_answers_the_records_of_its_fate();

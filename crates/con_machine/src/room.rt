@@ -1,7 +1,7 @@
 //! The memory of an event.
 
 use crate::client_room::ClientRoom;
-use crate::terminal_room::TerminalRoom;
+use crate::terminal_room::SideRoom;
 
 /// What an event is given that takes memory, made ready in the state in which it is entered.
 #[derive(Drop)]
@@ -11,5 +11,5 @@ pub enum Room {
     /// That of an attached client.
     Client(ClientRoom),
     /// That of the terminal's side, and of the painter.
-    Terminal(TerminalRoom),
+    Terminal(SideRoom),
 }

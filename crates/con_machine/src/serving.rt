@@ -13,7 +13,7 @@ ghost use Rattle.con_machine.specs.Pumping.{pumped_of, with_pumped, followed_by,
 use crate::console::Console;
 use crate::echoes;
 use con_cooked::Echo;
-use con_readers::{Step, is_idle};
+use con_readers::{ReadStep, is_idle};
 
 impl Console {
     // A read becomes the first one.
@@ -58,23 +58,23 @@ impl Console {
     }
 
     // What is seen of a step.
-    fn follow(&mut self, step: Step)
+    fn follow(&mut self, step: ReadStep)
         requires inside { IsIn step (head_text self.old.state.reads) }
         ensures state { (act : Option Act) → IsOf step act → IsTold act self.old.state.reads → self.new.state ≡ followed_by self.old.state act }
         ensures spare { self.new.spare ≡ self.old.spare }
     {
         match step {
-            Step::Idle => {}
-            Step::Started(p) => self.start_read(p),
-            Step::Echo(p, echo) => self.show_line(p, echo),
-            Step::Dropped(_) => {}
-            Step::Finished(p, length) => self.finish_line(p, length),
-            Step::Woken(p) => self.notes.wake(p),
+            ReadStep::Idle => {}
+            ReadStep::Started(p) => self.start_read(p),
+            ReadStep::Echo(p, echo) => self.show_line(p, echo),
+            ReadStep::Dropped(_) => {}
+            ReadStep::Finished(p, length) => self.finish_line(p, length),
+            ReadStep::Woken(p) => self.notes.wake(p),
         }
     }
 
     // One step of the reads.
-    fn pump(&mut self) -> Step
+    fn pump(&mut self) -> ReadStep
         ensures state { self.new.state ≡ with_pumped self.old.state (pumped_of self.old.state) }
         ensures spare { self.new.spare ≡ self.old.spare }
         ensures tells { IsOf result (pumped_of self.old.state).act }

@@ -9,19 +9,19 @@ ghost use Rattle.con_machine.specs.State.{State};
 ghost use Rattle.con_machine.specs.Step.{is_ready};
 ghost use Rattle.con_machine.specs.History.{run};
 ghost use Rattle.con_machine.specs.Turns.{sent, has_ended};
-ghost use Rattle.con_machine.specs.Follows.{begun};
+ghost use Rattle.con_machine.specs.Follows.{session_start};
 ghost use Rattle.con_machine.specs.Whole.{ShowsAll};
 ghost use Rattle.con_machine.specs.Opens.{Opens, WaitsOrGone};
 
 /// A session opens with its clients attached, and nothing read, asked for or painted, in a window of its size.
 pub fn a_session_opens()
-    ensures { (session : Clients) (racks : List (List ℕ)) → Opens session (begun session racks) }
+    ensures { (session : Clients) (racks : List (List ℕ)) → Opens session (session_start session racks) }
 {}
 
 /// Where no Paint is ready, there was one, nothing was resized behind it, and it showed what there is now.
 pub fn the_last_paint_shows_all()
-    ensures { (session : Clients) (racks : List (List ℕ)) (h : List Entry) → is_ready (run (begun session racks) h) actors.Painter events.Paint ≡ false
-        → ShowsAll (begun session racks) h }
+    ensures { (session : Clients) (racks : List (List ℕ)) (h : List Entry) → is_ready (run (session_start session racks) h) actors.Painter events.Paint ≡ false
+        → ShowsAll (session_start session racks) h }
 {}
 
 /// And the other way: where the last Paint showed what there is now, nothing was resized behind it, and nothing is asked for, no Paint
@@ -33,6 +33,6 @@ pub fn nothing_is_due()
 /// Once the terminal's side has ended, it is never so that all who are left wait for reads.
 pub fn nobody_waits_at_the_end()
     ensures { (session : Clients) (racks : List (List ℕ)) (h : List Entry) → has_ended false (sent h) ≡ true
-        → ((p : ℕ) → 0 < p → p ≤ length session.scripts → WaitsOrGone (run (begun session racks) h) p) → (p : ℕ) → 0 < p → p ≤ length session.scripts
-        → is_attached (run (begun session racks) h).procs p ≡ false }
+        → ((p : ℕ) → 0 < p → p ≤ length session.scripts → WaitsOrGone (run (session_start session racks) h) p) → (p : ℕ) → 0 < p → p ≤ length session.scripts
+        → is_attached (run (session_start session racks) h).procs p ≡ false }
 {}

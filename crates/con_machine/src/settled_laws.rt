@@ -8,14 +8,14 @@ ghost use Rattle.con_events.specs.declared.entry.Entry.{Entry};
 ghost use Rattle.con_events.specs.declared.event.Event.{Event};
 ghost use Rattle.con_events.specs.declared.event.Event.TheVariants as events;
 ghost use Rattle.con_machine.specs.State.{State};
-ghost use Rattle.con_machine.specs.Follows.{begun};
+ghost use Rattle.con_machine.specs.Follows.{session_start};
 ghost use Rattle.con_machine.specs.History.{run};
 ghost use Rattle.con_machine.specs.Settled.{IsSettled, only_tells, peek};
 ghost use Rattle.con_machine.specs.Step.{step, effect, client_of};
 
 /// A session begins with nothing left to do, and every event, and so every history, leaves it so.
 pub fn every_event_leaves_nothing_to_do()
-    ensures begins { (session : Clients) (racks : List (List ℕ)) → IsSettled (begun session racks) }
+    ensures begins { (session : Clients) (racks : List (List ℕ)) → IsSettled (session_start session racks) }
     ensures step { (s : State) (a : Actor) (e : Event) → IsSettled s → IsSettled (step s a e).after }
     ensures run { (s : State) (h : List Entry) → IsSettled s → IsSettled (run s h) }
 {}

@@ -2,88 +2,88 @@
 ghost use Rattle.std.specs.Prelude.{◌≡◌, true, false, IfOk};
 ghost use Rattle.con_machine.specs.Step.{is_clients, is_due, effect};
 ghost use Rattle.con_machine.specs.Marks.{told, Tells};
-ghost use Rattle.con_machine.specs.TerminalRooms.{IsTerminalRoom};
+ghost use Rattle.con_machine.specs.TerminalRooms.{IsSideRoom};
 
 use crate::console::Console;
 use crate::ready::is_size;
-use crate::terminal_room::TerminalRoom;
+use crate::terminal_room::SideRoom;
 use crate::unused::done;
 use con_events::{Event, Reply};
 use con_units::OutOfMemory;
 
 impl Console {
     /// Takes the memory of an event that is no client's. Nothing that is seen changes.
-    #[tactic(auto, unfolding(crate::specs::TerminalRooms::IsTerminalRoom))]
-    pub(crate) fn terminal_room(&mut self, event: &Event) -> Result<TerminalRoom, OutOfMemory>
+    #[tactic(auto, unfolding(crate::specs::TerminalRooms::IsSideRoom))]
+    pub(crate) fn terminal_room(&mut self, event: &Event) -> Result<SideRoom, OutOfMemory>
         ensures state { self.new.state ≡ self.old.state }
-        ensures room { IfOk result (λ r. IsTerminalRoom self.new event.now r) }
+        ensures room { IfOk result (λ r. IsSideRoom self.new event.now r) }
     {
         match event {
             Event::Feed(bytes) => {
                 let keys = self.feed_room(bytes.len())?;
-                Ok(TerminalRoom::Keys(keys))
+                Ok(SideRoom::Keys(keys))
             }
             Event::Quiet => {
                 let keys = self.feed_room(0)?;
-                Ok(TerminalRoom::Keys(keys))
+                Ok(SideRoom::Keys(keys))
             }
             Event::Resize(size) => {
                 if !is_size(*size) {
-                    return Ok(TerminalRoom::Nothing);
+                    return Ok(SideRoom::Nothing);
                 }
                 let fits = self.resize_room(*size)?;
-                Ok(TerminalRoom::Fits(fits))
+                Ok(SideRoom::Fits(fits))
             }
             Event::Paint => {
                 let room = self.paint_room()?;
-                Ok(TerminalRoom::Paint(room))
+                Ok(SideRoom::Paint(room))
             }
-            Event::Call(_) => Ok(TerminalRoom::Nothing),
-            Event::Begin(_) => Ok(TerminalRoom::Nothing),
-            Event::Collect => Ok(TerminalRoom::Nothing),
-            Event::TakeCtrl => Ok(TerminalRoom::Nothing),
-            Event::Exit(_) => Ok(TerminalRoom::Nothing),
-            Event::Ask => Ok(TerminalRoom::Nothing),
-            Event::Hangup => Ok(TerminalRoom::Nothing),
-            Event::Drained => Ok(TerminalRoom::Nothing),
+            Event::Call(_) => Ok(SideRoom::Nothing),
+            Event::Begin(_) => Ok(SideRoom::Nothing),
+            Event::Collect => Ok(SideRoom::Nothing),
+            Event::TakeCtrl => Ok(SideRoom::Nothing),
+            Event::Exit(_) => Ok(SideRoom::Nothing),
+            Event::Ask => Ok(SideRoom::Nothing),
+            Event::Hangup => Ok(SideRoom::Nothing),
+            Event::Drained => Ok(SideRoom::Nothing),
         }
     }
 
     /// An event that is no client's. A Paint answers the view, which rows may differ from the view at the last Paint, and
     /// whether it is for a terminal of a new size; the others are done.
-    #[tactic(auto, unfolding(crate::specs::TerminalRooms::IsTerminalRoom, crate::specs::Step::effect, crate::specs::Step::is_due))]
-    pub(crate) fn terminal(&mut self, event: &Event, room: TerminalRoom) -> Reply
+    #[tactic(auto, unfolding(crate::specs::TerminalRooms::IsSideRoom, crate::specs::Step::effect, crate::specs::Step::is_due))]
+    pub(crate) fn terminal(&mut self, event: &Event, room: SideRoom) -> Reply
         requires side { is_clients event.now ≡ false }
         requires due { is_due self.old.state 0 event.now ≡ true }
-        requires room { IsTerminalRoom self.old event.now room }
+        requires room { IsSideRoom self.old event.now room }
         ensures state { self.new.state ≡ (effect self.old.state 0 event.now).after }
         ensures reply { told result ≡ (effect self.old.state 0 event.now).reply }
         ensures tells { Tells self.old.state event.now result }
     {
         match event {
             Event::Feed(bytes) => {
-                let TerminalRoom::Keys(keys) = room else {
+                let SideRoom::Keys(keys) = room else {
                     unreachable!()
                 };
                 self.feed(bytes.as_slice(), keys);
                 Reply::Done
             }
             Event::Quiet => {
-                let TerminalRoom::Keys(keys) = room else {
+                let SideRoom::Keys(keys) = room else {
                     unreachable!()
                 };
                 self.quiet(keys);
                 Reply::Done
             }
             Event::Resize(_) => {
-                let TerminalRoom::Fits(fits) = room else {
+                let SideRoom::Fits(fits) = room else {
                     unreachable!()
                 };
                 self.resize(fits);
                 Reply::Done
             }
             Event::Paint => {
-                let TerminalRoom::Paint(room) = room else {
+                let SideRoom::Paint(room) = room else {
                     unreachable!()
                 };
                 self.paint(room)

@@ -6,7 +6,7 @@ use con_screens::AllFits;
 
 /// What is made ready for an event of the terminal's side, or for a Paint.
 #[derive(Drop)]
-pub enum TerminalRoom {
+pub enum SideRoom {
     /// It needs no memory.
     Nothing,
     /// For the keys of a byte.

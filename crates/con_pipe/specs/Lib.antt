@@ -1,3 +1,3 @@
 -- What a reader must believe: the words that public clauses cite.
-pub mod Ends
+pub mod PipeEnds
 pub mod Pieces

@@ -1,7 +1,7 @@
 // A pipe's two ends together.
 ghost use Rattle.std.specs.Prelude.{◌≡◌, ◌<◌, ◌≤◌, true, false, [], IfOk};
 ghost use Rattle.con_pipe.specs.Pieces.{StartsWith};
-ghost use Rattle.con_pipe.specs.Ends.{pieces_put, is_finished, pieces_taken, has_ended, put_room, take_room, IsPipe, IsSameIn, IsSameOut};
+ghost use Rattle.con_pipe.specs.PipeEnds.{pieces_put, is_finished, pieces_taken, has_ended, put_room, take_room, IsPipe, IsSameIn, IsSameOut};
 
 use crate::put::PipeIn;
 use crate::signal::Signal;
@@ -13,13 +13,13 @@ use std::sync::Arc;
 
 /// The two ends of a new pipe. Each may go to a thread of its own.
 #[derive(Drop)]
-pub struct Ends {
+pub struct PipeEnds {
     pub put: PipeIn,
     pub take: PipeOut,
 }
 
 /// A pipe with room for this many pieces, 1 to 1,024. The end mark takes the place of a piece.
-pub fn pipe(alloc: Global, pieces: usize) -> Result<Ends, OutOfMemory>
+pub fn pipe(alloc: Global, pieces: usize) -> Result<PipeEnds, OutOfMemory>
     requires { (0 < pieces) × (pieces ≤ 1024) }
     ensures pipe { IfOk result (λ ends. IsPipe ends.put ends.take) }
     ensures room { IfOk result (λ ends. (put_room ends.put ≡ pieces) × (take_room ends.take ≡ pieces)) }
@@ -35,7 +35,7 @@ pub fn pipe(alloc: Global, pieces: usize) -> Result<Ends, OutOfMemory>
     let Ok((producer, consumer)) = RingBuffer::new(alloc, pieces) else {
         return Err(OutOfMemory);
     };
-    Ok(Ends {
+    Ok(PipeEnds {
         put: PipeIn {
             producer,
             finished: false,

@@ -1,11 +1,11 @@
 //! Pieces of bytes that one thread puts and another takes, in order.
 //!
-//! - [`pipe`]: makes the two [`Ends`] of a pipe, with room for some pieces.
+//! - [`pipe`]: makes the two [`PipeEnds`] of a pipe, with room for some pieces.
 //! - [`PipeIn`]: puts pieces, and at last the end mark. [`PipeOut`]: takes them, and `None` once it took the end mark.
 //! - [`meet`]: compares the two ends, once one thread has both again.
 //!
 //! Contracts see a [`PipeIn`] as the pieces that it put and whether it is finished, and a [`PipeOut`] as the pieces that it
-//! took and whether it took the end mark, and both as the room that they were made with (`specs/Ends`). What was taken is a
+//! took and whether it took the end mark, and both as the room that they were made with (`specs/PipeEnds`). What was taken is a
 //! beginning of what was put, and all of it once the end mark was taken.
 //!
 //! A thread that waits for room or for a piece looks a few times, then lets others run, and then sleeps until the other
@@ -19,6 +19,6 @@ mod put;
 mod signal;
 mod take;
 
-pub use ends::{Ends, meet, pipe};
+pub use ends::{PipeEnds, meet, pipe};
 pub use put::PipeIn;
 pub use take::PipeOut;

@@ -47,7 +47,7 @@ fn put_last<R: Wait>(
 }
 
 impl PipeIn {
-    ghost use Rattle.con_pipe.specs.Ends.{pieces_put, is_finished, IsSameIn};
+    ghost use Rattle.con_pipe.specs.PipeEnds.{pieces_put, is_finished, IsSameIn};
 
     /// Waits for room, and puts the piece last.
     pub fn push<R: Wait>(&mut self, rt: &R, piece: Bytes)

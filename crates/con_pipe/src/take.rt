@@ -43,7 +43,7 @@ fn take_first<R: Wait>(
 }
 
 impl PipeOut {
-    ghost use Rattle.con_pipe.specs.Ends.{pieces_taken, has_ended, IsSameOut};
+    ghost use Rattle.con_pipe.specs.PipeEnds.{pieces_taken, has_ended, IsSameOut};
 
     // Waits for an item, and takes it.
     fn take<R: Wait>(&mut self, rt: &R) -> Option<Bytes>

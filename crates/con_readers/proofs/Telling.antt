@@ -5,7 +5,7 @@ use Rattle.con_cooked.specs.declared.progress.Echo.{Echo}
 use Rattle.con_cooked.specs.Cooked.{line_of, echo_between}
 use Rattle.con_readers.specs.Act.{Act, began, typed, passed, ended, woke, told, IsOf, IsIn}
 use Rattle.con_readers.specs.Lines.{line_text}
-use Rattle.con_readers.specs.declared.step.Step.{Step}
+use Rattle.con_readers.specs.declared.step.ReadStep.{ReadStep}
 
 told_is : (x : Option Act) → IsOf (told x) x
 told_is None = refl
@@ -15,8 +15,8 @@ told_is (Some (passed p)) = refl
 told_is (Some (ended p read n)) = (read, refl)
 told_is (Some (woke p line)) = (line, refl)
 
-pub told_by : (s : Step) (x : Option Act) → s ≡ told x → IsOf s x
-told_by s x e = subst (λ (t : Step). IsOf t x) (sym e) (told_is x)
+pub told_by : (s : ReadStep) (x : Option Act) → s ≡ told x → IsOf s x
+told_by s x e = subst (λ (t : ReadStep). IsOf t x) (sym e) (told_is x)
 
 -- an echo is of what differs between two lines, and the text is the new one
 Shows : Option Act → List ℕ → Type 0
@@ -37,11 +37,11 @@ told_in (Some (passed p)) text ends shows = tt
 told_in (Some (ended p read n)) text ends shows = tt
 told_in (Some (woke p line)) text ends shows = tt
 
-pub in_text : (s : Step) (x : Option Act) (text : List ℕ) → s ≡ told x
+pub in_text : (s : ReadStep) (x : Option Act) (text : List ℕ) → s ≡ told x
     → ((old new : Cooked) → (echo_between (line_of old).line (line_of new).line).offset ≤ (echo_between (line_of old).line (line_of new).line).end)
     → ((p : ℕ) (old new : Cooked) (echo : Echo) → x ≡ Some (typed p old new echo) → echo ≡ echo_between (line_of old).line (line_of new).line)
     → ((p : ℕ) (old new : Cooked) (echo : Echo) → x ≡ Some (typed p old new echo) → text ≡ line_text new)
     → IsIn s text
 unfolding Ends Shows
 in_text s x text e ends echoes texts =
-    subst (λ (t : Step). IsIn t text) (sym e) (told_in x text ends (λ p old new echo h. (echoes p old new echo h, texts p old new echo h)))
+    subst (λ (t : ReadStep). IsIn t text) (sym e) (told_in x text ends (λ p old new echo h. (echoes p old new echo h, texts p old new echo h)))

@@ -3,8 +3,8 @@ use Rattle.std.specs.Prelude.{◌≡◌, ◌≤◌, ℕ, List, length, Option, S
 use Rattle.con_cooked.specs.declared.cooked.Cooked.{Cooked}
 use Rattle.con_cooked.specs.declared.progress.Echo.{Echo}
 use Rattle.con_readers.specs.declared.open.OpenRead.{OpenRead}
-use Rattle.con_readers.specs.declared.step.Step.{Step}
-use Rattle.con_readers.specs.declared.step.Step.TheVariants as steps
+use Rattle.con_readers.specs.declared.step.ReadStep.{ReadStep}
+use Rattle.con_readers.specs.declared.step.ReadStep.TheVariants as steps
 
 pub data Act : Type 0 where
   -- the process's read became the first that is not done
@@ -19,7 +19,7 @@ pub data Act : Type 0 where
   woke : ℕ → Cooked → Act
 
 -- what a caller is told of it
-abbrev pub told : Option Act → Step
+abbrev pub told : Option Act → ReadStep
 told None = steps.Idle
 told (Some (began p)) = steps.Started p
 told (Some (typed p line line' echo)) = steps.Echo p echo
@@ -28,7 +28,7 @@ told (Some (ended p read len)) = steps.Finished p len
 told (Some (woke p line)) = steps.Woken p
 
 -- what happened in a step that a caller is told of
-abbrev pub IsOf : Step → Option Act → Type 0
+abbrev pub IsOf : ReadStep → Option Act → Type 0
 IsOf steps.Idle act = act ≡ None
 IsOf (steps.Started p) act = act ≡ Some (began p)
 IsOf (steps.Echo p echo) act = (old : Cooked) × (new : Cooked) × (act ≡ Some (typed p old new echo))
@@ -37,7 +37,7 @@ IsOf (steps.Finished p len) act = (read : OpenRead) × (act ≡ Some (ended p re
 IsOf (steps.Woken p) act = (line : Cooked) × (act ≡ Some (woke p line))
 
 -- the places that an echo shows are those of a text, up to its end
-abbrev pub IsIn : Step → List ℕ → Type 0
+abbrev pub IsIn : ReadStep → List ℕ → Type 0
 IsIn (steps.Echo p echo) text = (echo.offset ≤ echo.end) × (echo.end ≡ length text)
 IsIn steps.Idle text = Unit {0}
 IsIn (steps.Started p) text = Unit {0}

@@ -1,9 +1,9 @@
 -- Steps that do nothing.
 use Rattle.std.specs.Prelude.{Bool, true, false}
-use Rattle.con_readers.specs.declared.step.Step.{Step}
-use Rattle.con_readers.specs.declared.step.Step.TheVariants as steps
+use Rattle.con_readers.specs.declared.step.ReadStep.{ReadStep}
+use Rattle.con_readers.specs.declared.step.ReadStep.TheVariants as steps
 
-abbrev pub is_idle : Step → Bool
+abbrev pub is_idle : ReadStep → Bool
 is_idle steps.Idle = true
 is_idle (steps.Started p) = false
 is_idle (steps.Echo p e) = false

@@ -25,6 +25,6 @@ pub mod wants_units;
 pub use answer::Answer;
 pub use open::{Open, OpenRead};
 pub use readers::Readers;
-pub use step::{Step, is_idle};
+pub use step::{ReadStep, is_idle};
 pub use wants_records::WantsRecords;
 pub use wants_units::WantsUnits;

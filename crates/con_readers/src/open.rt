@@ -7,7 +7,7 @@ ghost use Rattle.con_readers.specs.Serving.{took, took_units, took_one, took_lin
 ghost use Rattle.con_readers.specs.Reads.{moved, moved_on, failed, closed_one, answer_of, answered, text_in};
 
 use crate::answer::Answer;
-use crate::step::Step;
+use crate::step::ReadStep;
 use crate::wants_records::WantsRecords;
 use crate::wants_units::WantsUnits;
 use con_alias::Aliases;
@@ -45,7 +45,7 @@ pub struct Open {
 #[derive(Drop)]
 pub struct Taking {
     pub read: OpenRead,
-    pub step: Step,
+    pub step: ReadStep,
 }
 
 fn take_units(
@@ -64,11 +64,11 @@ fn take_units(
     match wants.take(records) {
         Ok(units) => Taking {
             read: OpenRead::Done(Answer::Units(units)),
-            step: Step::Finished(process, 0),
+            step: ReadStep::Finished(process, 0),
         },
         Err(wants) => Taking {
             read: OpenRead::Units(wants),
-            step: Step::Dropped(process),
+            step: ReadStep::Dropped(process),
         },
     }
 }
@@ -80,7 +80,7 @@ fn unchanged(read: OpenRead) -> Taking
 {
     Taking {
         read,
-        step: Step::Idle,
+        step: ReadStep::Idle,
     }
 }
 
@@ -108,18 +108,18 @@ fn take_one(
     match line.press(&one, histories) {
         Progress::Going(echo) => Taking {
             read: OpenRead::Line(line),
-            step: Step::Echo(process, echo),
+            step: ReadStep::Echo(process, echo),
         },
         Progress::Done(_) => {
             let len = length_of(&line);
             Taking {
                 read: OpenRead::Done(Answer::Units(line.finish(histories, aliases))),
-                step: Step::Finished(process, len),
+                step: ReadStep::Finished(process, len),
             }
         }
         Progress::Woken => Taking {
             read: OpenRead::Done(Answer::Units(line.finish(histories, aliases))),
-            step: Step::Woken(process),
+            step: ReadStep::Woken(process),
         },
     }
 }
@@ -158,7 +158,7 @@ fn take(
     match read {
         OpenRead::Records(wants) => Taking {
             read: OpenRead::Done(Answer::Records(wants.take(records))),
-            step: Step::Finished(process, 0),
+            step: ReadStep::Finished(process, 0),
         },
         OpenRead::Units(wants) => take_units(process, wants, records, histories),
         OpenRead::Line(line) => take_line(process, line, records, histories, aliases),
@@ -214,7 +214,7 @@ impl Open {
         records: &mut Records,
         histories: &mut Histories,
         aliases: &Aliases,
-    ) -> Step
+    ) -> ReadStep
         ensures one { self.new ≡ (moved aliases.now.programs self.old records.old.items histories.old).one }
         ensures records { records.new ≡ record records.old { items = (moved aliases.now.programs self.old records.old.items histories.old).records } }
         ensures histories { histories.new ≡ (moved aliases.now.programs self.old records.old.items histories.old).histories }
@@ -222,10 +222,10 @@ impl Open {
     {
         if !self.started {
             self.started = true;
-            return Step::Started(self.process);
+            return ReadStep::Started(self.process);
         }
         if records.count() == 0 {
-            return Step::Idle;
+            return ReadStep::Idle;
         }
         let nothing = OpenRead::Done(Answer::Fail(Code::Closed));
         let read = mem::replace(&mut self.read, nothing);

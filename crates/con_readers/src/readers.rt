@@ -10,7 +10,7 @@ ghost use Rattle.std.specs.List.{position_or_len, position};
 
 use crate::answer::Answer;
 use crate::open::{Open, OpenRead};
-use crate::step::Step;
+use crate::step::ReadStep;
 use con_alias::Aliases;
 use con_cooked::laws::a_common_front_is_not_drawn;
 use con_history::Histories;
@@ -55,7 +55,7 @@ fn pump_reads(
     records: &mut Records,
     histories: &mut Histories,
     aliases: &Aliases,
-) -> Step
+) -> ReadStep
     ensures reads { reads.new ≡ (pumped aliases.now.programs reads.old records.old.items histories.old).reads }
     ensures records { records.new ≡ record records.old { items = (pumped aliases.now.programs reads.old records.old.items histories.old).records } }
     ensures histories { histories.new ≡ (pumped aliases.now.programs reads.old records.old.items histories.old).histories }
@@ -66,7 +66,7 @@ fn pump_reads(
         let one = &mut reads[i];
         one.advance(records, histories, aliases)
     } else {
-        Step::Idle
+        ReadStep::Idle
     }
 }
 
@@ -172,7 +172,12 @@ impl Readers {
     }
 
     // One step, and what it tells.
-    fn step(&mut self, records: &mut Records, histories: &mut Histories, aliases: &Aliases) -> Step
+    fn step(
+        &mut self,
+        records: &mut Records,
+        histories: &mut Histories,
+        aliases: &Aliases,
+    ) -> ReadStep
         ensures reads { self.new ≡ record self.old { reads = (pumped aliases.now.programs self.old.reads records.old.items histories.old).reads } }
         ensures records { records.new ≡ record records.old { items = (pumped aliases.now.programs self.old.reads records.old.items histories.old).records } }
         ensures histories { histories.new ≡ (pumped aliases.now.programs self.old.reads records.old.items histories.old).histories }
@@ -192,7 +197,7 @@ impl Readers {
         records: &mut Records,
         histories: &mut Histories,
         aliases: &Aliases,
-    ) -> Step
+    ) -> ReadStep
         ensures reads { self.new ≡ record self.old { reads = (pumped aliases.now.programs self.old.reads records.old.items histories.old).reads } }
         ensures records { records.new ≡ record records.old { items = (pumped aliases.now.programs self.old.reads records.old.items histories.old).records } }
         ensures histories { histories.new ≡ (pumped aliases.now.programs self.old.reads records.old.items histories.old).histories }

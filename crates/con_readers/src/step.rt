@@ -6,7 +6,7 @@ use con_cooked::Echo;
 
 /// What happened in one step, and to which process's read.
 #[derive(Clone, Copy, PartialEq, Eq, Debug)]
-pub enum Step {
+pub enum ReadStep {
     /// Nothing.
     Idle,
     /// It became the first that is not done.
@@ -22,8 +22,8 @@ pub enum Step {
 }
 
 /// Whether nothing happened.
-pub fn is_idle(step: Step) -> bool
+pub fn is_idle(step: ReadStep) -> bool
     ensures { result ≡ is_idle step }
 {
-    matches!(step, Step::Idle)
+    matches!(step, ReadStep::Idle)
 }

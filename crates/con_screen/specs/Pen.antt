@@ -9,8 +9,8 @@ use Rattle.con_screen.specs.Nibble.{nibble}
 use Rattle.con_screen.specs.declared.pen.Layer.{Layer}
 use Rattle.con_screen.specs.declared.pen.Layer.TheVariants.{Fore, Back}
 use Rattle.con_screen.specs.declared.pen.Pen.{Pen}
-use Rattle.con_screen.specs.declared.pen.Reading.{Reading}
-use Rattle.con_screen.specs.declared.pen.Reading.TheVariants.{Plain, Kind, Number, Skip, Over}
+use Rattle.con_screen.specs.declared.pen.ParameterRole.{ParameterRole}
+use Rattle.con_screen.specs.declared.pen.ParameterRole.TheVariants.{Plain, Kind, Number, Skip, Over}
 use Rattle.con_screen.specs.declared.pen.Styling.{Styling}
 
 -- the foreground's four bits, with their intensity where the pen is bold
@@ -78,11 +78,11 @@ pub record IsPen (p : Pen) : Type 0 where
 
 -- behind 38 or 48: a number of the table of 256, or a colour by three parameters, which is skipped; another one ends the
 -- effect of the sequence, and so does its end
-abbrev pub kind_of : Layer → ℕ → Reading
+abbrev pub kind_of : Layer → ℕ → ParameterRole
 kind_of layer n = if n == 5 then Number layer else if n == 2 then Skip 3 else Over
 
 -- behind one of so many that are skipped
-abbrev pub skip_of : ℕ → Reading
+abbrev pub skip_of : ℕ → ParameterRole
 skip_of k = if nat_le k 1 then Plain else Skip (k - 1)
 
 abbrev pub styled_plainly : Pen → ℕ → Styling
@@ -91,7 +91,7 @@ styled_plainly p n =
     else if n == 48 then record { pen = p; reading = Kind Back }
     else record { pen = pen_after p n; reading = Plain }
 
-abbrev pub styled_in : Pen → ℕ → Reading → Styling
+abbrev pub styled_in : Pen → ℕ → ParameterRole → Styling
 styled_in p n Plain = styled_plainly p n
 styled_in p n (Kind layer) = record { pen = p; reading = kind_of layer n }
 styled_in p n (Number layer) = record { pen = indexed p layer n; reading = Plain }

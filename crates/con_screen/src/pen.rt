@@ -2,7 +2,7 @@
 ghost use Rattle.std.specs.Prelude.{◌≡◌, ◌<◌, ◌≤◌};
 ghost use Rattle.con_screen.specs.Pen.{word_of, attr_of, lit, starting_pen, in_colour, in_shade, coloured, pen_after};
 ghost use Rattle.con_screen.specs.Pen.{indexed, IsPen, styled, styled_plainly, styled_all, kind_of, skip_of};
-ghost use Rattle.con_screen.specs.declared.pen.Reading.TheVariants.{Plain};
+ghost use Rattle.con_screen.specs.declared.pen.ParameterRole.TheVariants.{Plain};
 ghost use Rattle.con_screen.specs.Nibble.{nibble as nibble_of};
 
 use con_units::{Attr, Shade, near};
@@ -184,7 +184,7 @@ fn colour(number: u16) -> u8
 
 /// What the next parameter is.
 #[derive(Clone, Copy, Debug)]
-pub enum Reading {
+pub enum ParameterRole {
     /// A parameter that acts.
     Plain,
     /// The kind of a layer's colour.
@@ -201,7 +201,7 @@ pub enum Reading {
 #[derive(Clone, Copy, Debug)]
 pub struct Styling {
     pub pen: Pen,
-    pub reading: Reading,
+    pub reading: ParameterRole,
 }
 
 impl Styling {
@@ -214,14 +214,14 @@ impl Styling {
         ensures small { IsPen self.new.pen }
     {
         match self.reading {
-            Reading::Plain => self.take_plainly(parameter),
-            Reading::Kind(layer) => self.reading = kind(layer, parameter),
-            Reading::Number(layer) => {
+            ParameterRole::Plain => self.take_plainly(parameter),
+            ParameterRole::Kind(layer) => self.reading = kind(layer, parameter),
+            ParameterRole::Number(layer) => {
                 self.pen.take_index(layer, parameter);
-                self.reading = Reading::Plain;
+                self.reading = ParameterRole::Plain;
             }
-            Reading::Skip(count) => self.reading = skip(count),
-            Reading::Over => {}
+            ParameterRole::Skip(count) => self.reading = skip(count),
+            ParameterRole::Over => {}
         }
     }
 
@@ -233,31 +233,31 @@ impl Styling {
         ensures small { IsPen self.new.pen }
     {
         match parameter {
-            38 => self.reading = Reading::Kind(Layer::Fore),
-            48 => self.reading = Reading::Kind(Layer::Back),
+            38 => self.reading = ParameterRole::Kind(Layer::Fore),
+            48 => self.reading = ParameterRole::Kind(Layer::Back),
             _ => self.pen.act(parameter),
         }
     }
 }
 
 // What follows where one of so many was skipped.
-fn skip(count: u8) -> Reading
+fn skip(count: u8) -> ParameterRole
     ensures { result ≡ skip_of count }
 {
     if count <= 1 {
-        Reading::Plain
+        ParameterRole::Plain
     } else {
-        Reading::Skip(count - 1)
+        ParameterRole::Skip(count - 1)
     }
 }
 
-fn kind(layer: Layer, parameter: u16) -> Reading
+fn kind(layer: Layer, parameter: u16) -> ParameterRole
     ensures { result ≡ kind_of layer parameter }
 {
     match parameter {
-        5 => Reading::Number(layer),
-        2 => Reading::Skip(3),
-        _ => Reading::Over,
+        5 => ParameterRole::Number(layer),
+        2 => ParameterRole::Skip(3),
+        _ => ParameterRole::Over,
     }
 }
 
@@ -269,7 +269,7 @@ pub fn after_all(pen: Pen, parameters: &[u16]) -> Pen
 {
     let mut styling = Styling {
         pen,
-        reading: Reading::Plain,
+        reading: ParameterRole::Plain,
     };
     for parameter in parameters {
         styling.take(*parameter);

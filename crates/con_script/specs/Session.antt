@@ -5,7 +5,7 @@ use Rattle.std.specs.Str.{bytes_eq}
 use Rattle.con_units.specs.declared.place.Size.{Size}
 use Rattle.con_events.specs.declared.script.Step.{Step}
 use Rattle.con_events.specs.declared.script.Script.{Script}
-use Rattle.con_events.specs.Session.{Clients, is_within, steps_of}
+use Rattle.con_events.specs.Session.{Clients, is_within, step_count}
 use Rattle.serde_json.specs.Data.{Data, null, boolean, number, string, array, object, Items, no_items, item, Members, no_members, member}
 use Rattle.serde_json.specs.Find.{get, as_number, as_u64, as_array}
 use Rattle.con_script.specs.declared.version.Version.{Version}
@@ -166,7 +166,7 @@ as_where (call i) = all
 
 -- at most 16,384 calls over all clients
 abbrev pub few_calls : List Script → Bool
-few_calls scripts = nat_le (steps_of scripts) 16384
+few_calls scripts = nat_le (step_count scripts) 16384
 
 abbrev pub of_scripts : Size → List Script → Result Clients Where
 of_scripts size scripts = if few_calls scripts then Ok (record { size = size; scripts = scripts }) else Err (key_of (codes "clients"))

@@ -3,14 +3,14 @@ use Rattle.std.proofs.Common.{◌≡◌, ℕ, zero, suc, ◌+◌, ◌<◌, ◌�
 use Rattle.std.proofs.Common.{drop, Option, Some, None, get_or, refl, sym, ap, ◌∙◌, subst, inl, arith, length-append}
 use Rattle.std.specs.Prelude.{◌-◌, slice_get}
 use Rattle.con_handlers.specs.Memory.{Memory}
-use Rattle.con_link.specs.Reading.{Reading}
+use Rattle.con_link.specs.LinkReading.{LinkReading}
 use Rattle.con_paint.specs.Painter.{Kept}
 use Rattle.con_events.specs.Session.{Clients}
 use Rattle.con_events.specs.declared.end.End.TheVariants as ends
 use Rattle.con_events.specs.declared.entry.Entry.{Entry}
 use Rattle.con_events.specs.declared.reply.Reply.{Reply}
 use Rattle.con_events.specs.declared.script.Script.{Script}
-use Rattle.con_machine.specs.Follows.{begun, kinds_of}
+use Rattle.con_machine.specs.Follows.{session_start, kinds_of}
 use Rattle.con_machine.specs.OpeningLaws.{opens}
 use Rattle.con_machine.specs.Rounds.{Begun}
 use Rattle.con_machine.specs.State.{State, opening}
@@ -69,7 +69,7 @@ fresh_at worker places mems slots racks k (x ∷ xs) (u, v, f) (suc j) w ps m ys
 
 pub all_fresh : {A : Type 0} (worker : A → Worker) (places : A → List ℕ) (mems : A → List Memory) (slots : A → List ℕ) (session : Clients)
     (racks : List (List ℕ)) (f : Option ℕ) (seats : List A) → AreFreshBy worker places mems slots racks 0 seats
-    → AllStandBy (begins session racks f) (begun session racks) [] session.scripts (map worker seats) (map places seats) (map mems seats) (map slots seats)
+    → AllStandBy (begins session racks f) (session_start session racks) [] session.scripts (map worker seats) (map places seats) (map mems seats) (map slots seats)
 all_fresh worker places mems slots session racks f seats are = λ k script w xs m ys e a b c d.
     let q = fresh_at worker places mems slots racks 0 seats are k w xs m ys a b c d in
     seated_fresh session racks f k script w xs m ys (get_below session.scripts k script e) e q.0 q.1
@@ -96,9 +96,9 @@ moment_of s h rs ws places ms slots side taken left kept es end failed written =
 }
 
 -- a session begins
-pub opens_goes : {A : Type 0} (R : Reading) (More : List R.One → List Entry → Type 0) (worker : A → Worker) (places : A → List ℕ) (mems : A → List Memory)
+pub opens_goes : {A : Type 0} (R : LinkReading) (More : List R.One → List Entry → Type 0) (worker : A → Worker) (places : A → List ℕ) (mems : A → List Memory)
     (slots : A → List ℕ) (session : Clients) (racks : List (List ℕ)) (f : Option ℕ) (before old : Option (List ℕ)) (seats : List A) (kept : Kept) (s : State)
-    → s ≡ begun session racks → AreFreshBy worker places mems slots racks 0 seats → More [] []
+    → s ≡ session_start session racks → AreFreshBy worker places mems slots racks 0 seats → More [] []
     → GoesBy R More (begins session racks f) session.scripts before old
     (moment_of s [] [] (map worker seats) (map places seats) (map mems seats) (map slots seats)
     (record { ended = false; end = ends.Done }) 0 before kept [] 0 false old)
@@ -182,7 +182,7 @@ length_mapped f [] = refl
 length_mapped f (y ∷ ys) = ap suc (length_mapped f ys)
 
 -- a session begins, as its parts were made
-pub goes_open : {A : Type 0} (R : Reading) (More : List R.One → List Entry → Type 0) (worker : A → Worker) (places : A → List ℕ) (mems : A → List Memory)
+pub goes_open : {A : Type 0} (R : LinkReading) (More : List R.One → List Entry → Type 0) (worker : A → Worker) (places : A → List ℕ) (mems : A → List Memory)
     (slots : A → List ℕ) (session : Clients) (racks : List (List ℕ)) (sizes : List ℕ) (before old : Option (List ℕ)) (seats slice : List A) (kept : Kept)
     (s : State) (h : List Entry) (rs : List Reply) (side : Side) (taken : ℕ) (es : List ℕ) (end : ℕ) (failed : Bool) (scripts : List Script)
     → s ≡ opening session sizes → map (λ ys. length ys) racks ≡ sizes → (h ≡ []) × (rs ≡ []) → (side ≡ side_first) × (taken ≡ 0)
@@ -212,7 +212,7 @@ goes_open {A} R More worker places mems slots session racks sizes before old sea
     subst P7 (sym ec)
     (subst P6 (sym ef) (subst P5 (sym en) (subst P4 (sym es') (subst P3 (sym et) (subst P2 (sym ed) (subst P1 (sym er) (subst P0 (sym eh) first)))))))
 
-pub going_open : (R : Reading) (More : List R.One → List Entry → Type 0) (session : Clients) (racks : List (List ℕ)) (before old : Option (List ℕ))
+pub going_open : (R : LinkReading) (More : List R.One → List Entry → Type 0) (session : Clients) (racks : List (List ℕ)) (before old : Option (List ℕ))
     (scripts : List Script) (m : Moment)
     → ((f : Option ℕ) → GoesBy R More (begins session racks f) scripts before old m) → (b : Begun) × (x : Option (List ℕ)) × (y : Option (List ℕ))
     × ((f : Option ℕ) → FailsBy m.failed f (paints m.entries) → GoesBy R More (fails_at b f) scripts x y m)

@@ -2,7 +2,7 @@
 use Rattle.std.proofs.Common.{◌≡◌, ◌⊎◌, ℕ, ◌+◌, ◌<◌, Bool, true, false, List, [], ◌∷◌, ◌++◌, length}
 use Rattle.std.proofs.Common.{Option, Some, None, refl, sym, ap, ◌∙◌, subst, inl, inr, arith}
 use Rattle.std.specs.Prelude.{not, ◌&&◌, if◌then◌else◌}
-use Rattle.con_link.specs.Reading.{Reading}
+use Rattle.con_link.specs.LinkReading.{LinkReading}
 use Rattle.con_link.specs.declared.fault.LinkFault.{LinkFault}
 use Rattle.con_link.specs.declared.fault.LinkFault.TheVariants as faults
 use Rattle.con_events.specs.Session.{Clients}
@@ -14,7 +14,7 @@ use Rattle.con_events.specs.declared.event.Event.{Event}
 use Rattle.con_events.specs.declared.event.Event.TheVariants as events
 use Rattle.con_events.specs.declared.reply.Reply.{Reply}
 use Rattle.con_events.specs.declared.script.Script.{Script}
-use Rattle.con_machine.specs.Follows.{begun, is_cut, is_lost}
+use Rattle.con_machine.specs.Follows.{session_start, is_cut, is_lost}
 use Rattle.con_machine.specs.History.{run}
 use Rattle.con_machine.specs.Opens.{WaitsOrGone}
 use Rattle.con_machine.specs.Rounds.{Begun, AreTurns, IsTurn, IsLast, MayFail, SideTurn, all_entries, all_order, clients_from, is_failed, is_memory, is_nobody}
@@ -48,7 +48,7 @@ unready true r f e = absurd (cc)
 all_left : (session : Clients) (racks : List (List ℕ)) (f : Option ℕ) (h : List Entry)
     → ((k : ℕ) → k < length session.scripts → ClientStands (begins session racks f) h (k + 1))
     → AllRest (begins session racks f) h (clients_from 0 (length session.scripts) ++ actors.Painter ∷ []) → has_ended false (sent h) ≡ true
-    → HaveAllLeft (begun session racks) h session racks
+    → HaveAllLeft (session_start session racks) h session racks
 all_left session racks f h k rest ended =
     let b = begins session racks f in
     let n = length session.scripts in
@@ -72,7 +72,7 @@ last_is true b h last are n = broken_all b h (all_order b) last are
 
 -- ---- the whole
 
-whole_outcome : (R : Reading) (M Then : List R.One → List Entry → Type 0) (session : Clients) (racks : List (List ℕ)) (scripts : List Script)
+whole_outcome : (R : LinkReading) (M Then : List R.One → List Entry → Type 0) (session : Clients) (racks : List (List ℕ)) (scripts : List Script)
     (before old : Option (List ℕ)) (m : Moment)
     → GoesBy R M (begins session racks (failing m.failed (paints m.entries))) scripts before old m
     → AllIdle (begins session racks (failing m.failed (paints m.entries))) m.entries
@@ -92,7 +92,7 @@ whole_outcome R M Then session racks scripts before old m goes (last, are, nobod
     let A : List Entry → Type 0 = λ z. AreTurns false b z (all_order b) last in
     record {
       leaves = leaves_whole_by R M Then session racks f scripts before old m k stands ended left
-          (λ g. unready (is_failed f n) (is_ready (run (begun session racks) m.entries) actors.Painter events.Paint)
+          (λ g. unready (is_failed f n) (is_ready (run (session_start session racks) m.entries) actors.Painter events.Paint)
           (fails_false m.failed f n g (fails_now m.failed n)) (painter_rests b m.entries 0 (length session.scripts) rest.1))
           then';
       rounds = record {
@@ -108,7 +108,7 @@ whole_outcome R M Then session racks scripts before old m goes (last, are, nobod
     }
 
 -- nobody has anything left to do
-pub outcome_whole : (R : Reading) (M Then : List R.One → List Entry → Type 0) (session : Clients) (racks : List (List ℕ)) (scripts : List Script)
+pub outcome_whole : (R : LinkReading) (M Then : List R.One → List Entry → Type 0) (session : Clients) (racks : List (List ℕ)) (scripts : List Script)
     (before old : Option (List ℕ)) (m : Moment) (end : End) → end ≡ end_by m.failed m.side.end
     → ((f : Option ℕ) → FailsBy m.failed f (paints m.entries)
     → GoesBy R M (begins session racks f) scripts before old m × AllIdle (begins session racks f) m.entries)
@@ -125,7 +125,7 @@ outcome_whole R M Then session racks scripts before old m end e all follow then'
     (subst N (ap (λ (z : List Script). length z) both.0.holds.scripts') (follow b m.state m.entries both.0.holds.clients)) then')
 
 -- there was no memory
-pub outcome_stops : (R : Reading) (Then : List R.One → List Entry → Type 0) (session : Clients) (racks : List (List ℕ))
+pub outcome_stops : (R : LinkReading) (Then : List R.One → List Entry → Type 0) (session : Clients) (racks : List (List ℕ))
     (before old left written : Option (List ℕ)) (h : List Entry) (rs : List Reply) (es : List ℕ) (failed : Bool)
     → ((f : Option ℕ) → FailsBy failed f (paints h) → StopsBy R Then (begins session racks f) before old h rs es left written failed)
     → IsOutcomeBy R Then session racks h rs es ends.Memory before left old written
@@ -142,7 +142,7 @@ outcome_stops R Then session racks before old left written h rs es failed all =
     }
 
 -- there was none to begin with
-pub outcome_none : (R : Reading) (Then : List R.One → List Entry → Type 0) (session : Clients) (racks : List (List ℕ)) (before old : Option (List ℕ))
+pub outcome_none : (R : LinkReading) (Then : List R.One → List Entry → Type 0) (session : Clients) (racks : List (List ℕ)) (before old : Option (List ℕ))
     → Then [] [] → IsOutcomeBy R Then session racks [] [] [] ends.Memory before before old old
 outcome_none R Then session racks before old more = record {
   leaves = leaves_none_by R Then session racks before old more;
@@ -151,7 +151,7 @@ outcome_none R Then session racks before old more = record {
 
 -- ---- as it is handed out
 
-handed : (R : Reading) (Then : List R.One → List Entry → Type 0) (session : Clients) (racks : List (List ℕ)) (before left old now : Option (List ℕ))
+handed : (R : LinkReading) (Then : List R.One → List Entry → Type 0) (session : Clients) (racks : List (List ℕ)) (before left old now : Option (List ℕ))
     (h g : List Entry) (rs qs : List Reply) (es xs : List ℕ) (end other : End) → h ≡ g → rs ≡ qs → es ≡ xs → end ≡ other
     → IsOutcomeBy R Then session racks g qs xs other before left old now → IsOutcomeBy R Then session racks h rs es end before left old now
 handed R Then session racks before left old now h g rs qs es xs end other eh er ee en k =
@@ -161,13 +161,13 @@ handed R Then session racks before left old now h g rs qs es xs end other eh er 
     let S : End → Type 0 = λ z. IsOutcomeBy R Then session racks g qs xs z before left old now in
     subst P (sym eh) (subst Q (sym er) (subst E (sym ee) (subst S (sym en) k)))
 
-pub handed_none : (R : Reading) (Then : List R.One → List Entry → Type 0) (session : Clients) (racks : List (List ℕ)) (before old : Option (List ℕ))
+pub handed_none : (R : LinkReading) (Then : List R.One → List Entry → Type 0) (session : Clients) (racks : List (List ℕ)) (before old : Option (List ℕ))
     (h : List Entry) (rs : List Reply) (es : List ℕ) (end : End) → h ≡ [] → rs ≡ [] → es ≡ [] → end ≡ ends.Memory → Then [] []
     → IsOutcomeBy R Then session racks h rs es end before before old old
 handed_none R Then session racks before old h rs es end eh er ee en more =
     handed R Then session racks before before old old h [] rs [] es [] end ends.Memory eh er ee en (outcome_none R Then session racks before old more)
 
-pub handed_whole : (R : Reading) (M Then : List R.One → List Entry → Type 0) (session : Clients) (racks : List (List ℕ)) (scripts : List Script)
+pub handed_whole : (R : LinkReading) (M Then : List R.One → List Entry → Type 0) (session : Clients) (racks : List (List ℕ)) (scripts : List Script)
     (before old : Option (List ℕ)) (m : Moment) (h : List Entry) (rs : List Reply) (es : List ℕ) (end other : End)
     → ((f : Option ℕ) → FailsBy m.failed f (paints m.entries)
     → GoesBy R M (begins session racks f) scripts before old m × AllIdle (begins session racks f) m.entries)
@@ -178,7 +178,7 @@ pub handed_whole : (R : Reading) (M Then : List R.One → List Entry → Type 0)
 handed_whole R M Then session racks scripts before old m h rs es end other all eh er ee en eo follow then' = handed R Then session racks before m.left old
     m.written h m.entries rs m.replies es m.ends end other eh er ee en (outcome_whole R M Then session racks scripts before old m other eo all follow then')
 
-pub handed_stops : (R : Reading) (Then : List R.One → List Entry → Type 0) (session : Clients) (racks : List (List ℕ))
+pub handed_stops : (R : LinkReading) (Then : List R.One → List Entry → Type 0) (session : Clients) (racks : List (List ℕ))
     (before old left written : Option (List ℕ)) (failed : Bool) (h g : List Entry) (rs qs : List Reply) (es xs : List ℕ) (end : End)
     → ((f : Option ℕ) → FailsBy failed f (paints g) → StopsBy R Then (begins session racks f) before old g qs xs left written failed) → h ≡ g → rs ≡ qs
     → es ≡ xs → end ≡ ends.Memory → IsOutcomeBy R Then session racks h rs es end before left old written
@@ -193,12 +193,12 @@ not_term faults.TooLong e = cc
 not_term (faults.Bad place kind) e = cc
 not_term faults.OutOfMemory e = cc
 
-term_failed : (R : Reading) (M : List R.One → List Entry → Type 0) (failed : Bool) (b : Begun) (scripts : List Script) (before old : Option (List ℕ))
+term_failed : (R : LinkReading) (M : List R.One → List Entry → Type 0) (failed : Bool) (b : Begun) (scripts : List Script) (before old : Option (List ℕ))
     (m : Moment) → GoesBy R M b scripts before old m → end_by failed m.side.end ≡ ends.Term → failed ≡ true
 term_failed R M true b scripts before old m k e = refl
 term_failed R M false b scripts before old m k e = let q = k.holds.link.fault (ap is_cut e) in absurd (not_term q.0 (sym e ∙ q.2))
 
-pub term_by : (R : Reading) (M : List R.One → List Entry → Type 0) (P : Type 0) (session : Clients) (racks : List (List ℕ)) (scripts : List Script)
+pub term_by : (R : LinkReading) (M : List R.One → List Entry → Type 0) (P : Type 0) (session : Clients) (racks : List (List ℕ)) (scripts : List Script)
     (before old : Option (List ℕ)) (m : Moment) (was : Bool) (end other : End)
     → ((f : Option ℕ) → FailsBy m.failed f (paints m.entries)
     → GoesBy R M (begins session racks f) scripts before old m × AllIdle (begins session racks f) m.entries)

@@ -7,7 +7,7 @@ use Rattle.con_handlers.specs.Memory.{Memory}
 use Rattle.con_units.specs.declared.code.OutOfMemory.{OutOfMemory}
 use Rattle.con_units.specs.declared.place.Size.{Size}
 use Rattle.con_outside.specs.Outside.{Rose}
-use Rattle.con_link.specs.Reading.{Reading}
+use Rattle.con_link.specs.LinkReading.{LinkReading}
 use Rattle.con_paint.specs.Painter.{Kept}
 use Rattle.con_events.specs.declared.actor.Actor.{Actor}
 use Rattle.con_events.specs.declared.actor.Actor.TheVariants as actors
@@ -18,7 +18,7 @@ use Rattle.con_events.specs.declared.reply.Reply.{Reply}
 use Rattle.con_events.specs.declared.script.Script.{Script}
 use Rattle.con_machine.specs.Follows.{are_of_session, is_one_of}
 use Rattle.con_machine.specs.History.{run}
-use Rattle.con_machine.specs.Rounds.{Begun, AreTurns, IsTurn, clients_from, all_order, entries_of, entry_of, is_nobody, is_failed}
+use Rattle.con_machine.specs.Rounds.{Begun, AreTurns, IsTurn, clients_from, all_order, round_entries, entry_of, is_nobody, is_failed}
 use Rattle.con_machine.specs.State.{State}
 use Rattle.con_machine.specs.Turns.{paints, sent, has_ended, is_terminal, is_paint}
 use Rattle.con_session.specs.Desk.{Rests, Stands, entry}
@@ -55,7 +55,7 @@ fails_now false n = refl
 -- ---- the turns of a round
 
 -- what the turns of a round promise, from a moment on
-pub record Turned (R : Reading) (M0 M1 M2 : List R.One → List Entry → Type 0) (start : State) (scripts : List Script) (m : Moment) (s1 : State)
+pub record Turned (R : LinkReading) (M0 M1 M2 : List R.One → List Entry → Type 0) (start : State) (scripts : List Script) (m : Moment) (s1 : State)
     (h1 : List Entry) (r1 : List Reply) (side : Side) (taken : ℕ) (left : Option (List ℕ)) (s2 : State) (h2 : List Entry) (r2 : List Reply)
     (ws : List Worker) (places : List (List ℕ)) (ms : List (List Memory)) (slots : List (List ℕ)) (n : ℕ) (s3 : State) (h3 : List Entry)
     (r3 : List Reply) (kept : Kept) (es : List ℕ) (end : ℕ) (failed : Bool) (written : Option (List ℕ)) (sent' entered painted : Bool) : Type 0 where
@@ -74,13 +74,13 @@ pub record Turned (R : Reading) (M0 M1 M2 : List R.One → List Entry → Type 0
       → CanvasIs b h2 size m.kept ps m.ends m.end old m.written m.failed → PaintTurn (Ok painted) b s2 s3 h2 h3 r2 r3 size kept ps es end old written failed
 
 -- what comes of them
-pub record Comes (R : Reading) (M : List R.One → List Entry → Type 0) (b : Begun) (scripts : List Script) (before old : Option (List ℕ))
+pub record Comes (R : LinkReading) (M : List R.One → List Entry → Type 0) (b : Begun) (scripts : List Script) (before old : Option (List ℕ))
     (h : List Entry) (m : Moment) (acted painted : Bool) : Type 0 where
   pub holds : HoldsBy R M b scripts before old m
   pub served : (m.state.asked ≡ false) ⊎ (m.failed ≡ true)
   pub one : List (Option Event)
   pub are : AreTurns false b h (all_order b) one
-  pub entries : m.entries ≡ h ++ entries_of (all_order b) one
+  pub entries : m.entries ≡ h ++ round_entries (all_order b) one
   pub nobody : is_nobody one ≡ not acted
   pub more : painted ≡ true → paints m.entries ≡ paints h + 1
   pub same : painted ≡ false → paints m.entries ≡ paints h
@@ -88,7 +88,7 @@ pub record Comes (R : Reading) (M : List R.One → List Entry → Type 0) (b : B
 count_is : (b : Begun) (scripts : List Script) (n : ℕ) → n ≡ length scripts → scripts ≡ b.session.scripts → n ≡ length b.session.scripts
 count_is b scripts n e i = e ∙ ap (λ (z : List Script). length z) i
 
-comes : (R : Reading) (M0 M1 M2 : List R.One → List Entry → Type 0) (b : Begun) (scripts : List Script) (before old : Option (List ℕ)) (m : Moment)
+comes : (R : LinkReading) (M0 M1 M2 : List R.One → List Entry → Type 0) (b : Begun) (scripts : List Script) (before old : Option (List ℕ)) (m : Moment)
     (s1 : State) (h1 : List Entry) (r1 : List Reply) (side : Side) (taken : ℕ) (left : Option (List ℕ)) (s2 : State) (h2 : List Entry) (r2 : List Reply)
     (ws : List Worker) (places : List (List ℕ)) (ms : List (List Memory)) (slots : List (List ℕ)) (n : ℕ) (s3 : State) (h3 : List Entry)
     (r3 : List Reply) (kept : Kept) (es : List ℕ) (end : ℕ) (failed : Bool) (written : Option (List ℕ)) (sent' entered painted : Bool)
@@ -125,7 +125,7 @@ comes R M0 M1 M2 b scripts before old m s1 h1 r1 side taken left s2 h2 r2 ws pla
     (t.acts b k2.stands.state (subst F (sym same2) f)) p in
     let q = count_is b scripts n t.count k0.scripts' in
     let A : ℕ → Type 0 = λ z. AreTurns false b h1 (clients_from 0 z) c.0.turns in
-    let E : ℕ → Type 0 = λ z. h2 ≡ h1 ++ entries_of (clients_from 0 z) c.0.turns in
+    let E : ℕ → Type 0 = λ z. h2 ≡ h1 ++ round_entries (clients_from 0 z) c.0.turns in
     let w = whole_round b m.entries h1 h2 h3 t1 c.0.turns tp (clients_from 0 (length b.session.scripts)) u1 e1
     (subst A q c.0.are) (subst E q c.0.entries) up ep in
     let z = painted_count b s2 s3 h2 h3 r2 r3 b.session.size kept k2.pieces es end old written failed painted p in
@@ -140,7 +140,7 @@ comes R M0 M1 M2 b scripts before old m s1 h1 r1 side taken left s2 h2 r2 ws pla
       same = λ e. z.1 e ∙ same2;
     }
 
-turn_by : (R : Reading) (M : List R.One → List Entry → Type 0) (b : Begun) (scripts : List Script) (before old : Option (List ℕ)) (h : List Entry)
+turn_by : (R : LinkReading) (M : List R.One → List Entry → Type 0) (b : Begun) (scripts : List Script) (before old : Option (List ℕ)) (h : List Entry)
     (m : Moment) (acted painted : Bool) → HasRounds b h → (x : Comes R M b scripts before old h m acted painted) → (a : Bool) → is_nobody x.one ≡ not a
     → RoundTurnBy R M M (Ok a) b scripts before old h m
 turn_by R M b scripts before old h m acted painted k x true n = (
@@ -154,7 +154,7 @@ turn_by R M b scripts before old h m acted painted k x false n =
     (record { holds = x.holds; served = x.served; rounds = subst W (sym e) k }, (x.one, subst A (sym e) x.are, n))
 
 -- a whole round
-pub round_ok : (R : Reading) (M0 M1 M2 : List R.One → List Entry → Type 0) (b : Begun) (scripts : List Script) (before old : Option (List ℕ)) (m : Moment)
+pub round_ok : (R : LinkReading) (M0 M1 M2 : List R.One → List Entry → Type 0) (b : Begun) (scripts : List Script) (before old : Option (List ℕ)) (m : Moment)
     (s1 : State) (h1 : List Entry) (r1 : List Reply) (side : Side) (taken : ℕ) (left : Option (List ℕ)) (s2 : State) (h2 : List Entry) (r2 : List Reply)
     (ws : List Worker) (places : List (List ℕ)) (ms : List (List Memory)) (slots : List (List ℕ)) (n : ℕ) (s3 : State) (h3 : List Entry)
     (r3 : List Reply) (kept : Kept) (es : List ℕ) (end : ℕ) (failed : Bool) (written : Option (List ℕ)) (sent' entered painted acted : Bool)
@@ -178,13 +178,13 @@ round_ok R M0 M1 M2 b scripts before old m s1 h1 r1 side taken left s2 h2 r2 ws 
 -- ---- where there was no memory
 
 broken_by : (b : Begun) (h g : List Entry) (last : List (Option Event))
-    → HasRounds b h → AreTurns true b h (all_order b) last → g ≡ h ++ entries_of (all_order b) last → BreaksOff b g
+    → HasRounds b h → AreTurns true b h (all_order b) last → g ≡ h ++ round_entries (all_order b) last → BreaksOff b g
 broken_by b h g last (rounds, are, e) t i =
     let P : List Entry → Type 0 = λ z. AreTurns true b z (all_order b) last in
-    (rounds, last, are, subst P e t, i ∙ ap (λ (z : List Entry). z ++ entries_of (all_order b) last) e)
+    (rounds, last, are, subst P e t, i ∙ ap (λ (z : List Entry). z ++ round_entries (all_order b) last) e)
 
 -- before anything was entered
-pub sent_err : (R : Reading) (M0 Then : List R.One → List Entry → Type 0) (b : Begun) (scripts : List Script) (before old : Option (List ℕ))
+pub sent_err : (R : LinkReading) (M0 Then : List R.One → List Entry → Type 0) (b : Begun) (scripts : List Script) (before old : Option (List ℕ))
     (m : Moment) (s : State) (h : List Entry) (rs : List Reply) (left : Option (List ℕ)) (e : OutOfMemory)
     → ((c : Begun) → FailsBy m.failed c.failed (paints m.entries) → has_ended false (sent m.entries) ≡ m.side.ended
     → SenderTurn (Err e) c m.state s m.entries h m.replies rs)
@@ -218,7 +218,7 @@ sent_err R M0 Then b scripts before old m s h rs left e turn link follow all f k
     }
 
 -- among the clients
-pub entered_err : (R : Reading) (M0 M1 Then : List R.One → List Entry → Type 0) (b : Begun) (scripts : List Script) (before old : Option (List ℕ)) (m : Moment)
+pub entered_err : (R : LinkReading) (M0 M1 Then : List R.One → List Entry → Type 0) (b : Begun) (scripts : List Script) (before old : Option (List ℕ)) (m : Moment)
     (s1 : State) (h1 : List Entry) (r1 : List Reply) (side : Side) (taken : ℕ) (left : Option (List ℕ)) (s2 : State) (h2 : List Entry) (r2 : List Reply)
     (ws : List Worker) (places : List (List ℕ)) (ms : List (List Memory)) (slots : List (List ℕ)) (n : ℕ) (sent' : Bool) (e : OutOfMemory) → n ≡ length scripts
     → ((c : Begun) → FailsBy m.failed c.failed (paints m.entries) → has_ended false (sent m.entries) ≡ m.side.ended
@@ -256,7 +256,7 @@ entered_err R M0 M1 Then b scripts before old m s1 h1 r1 side taken left s2 h2 r
     let st = had.stands y.stands in
     let N : ℕ → Type 0 = λ z. AllFollow c h2 z in
     let A : ℕ → Type 0 = λ z. AreTurns true c h1 (clients_from 0 z) had.turns in
-    let E : ℕ → Type 0 = λ z. h2 ≡ h1 ++ entries_of (clients_from 0 z) had.turns in
+    let E : ℕ → Type 0 = λ z. h2 ≡ h1 ++ round_entries (clients_from 0 z) had.turns in
     let (t1, u1, e1, n1) = sent_turn c m.state s1 m.entries h1 m.replies r1 sent' x in
     let w = broken_round c m.entries h1 h2 t1 had.turns (clients_from 0 size') u1 e1 (subst A q had.are) (subst E q had.entries) in
     record {
@@ -275,10 +275,10 @@ entered_err R M0 M1 Then b scripts before old m s1 h1 r1 side taken left s2 h2 r
 
 -- where the painter's turn broke off: nothing was entered, or a Paint
 broken_paint : (b : Begun) (s t : State) (h h1 h2 g : List Entry) (rs qs : List Reply) (t1 : Option Event) (tc : List (Option Event)) (by : List Actor)
-    → IsTurn b h actors.Terminal t1 → h1 ≡ h ++ entry_of actors.Terminal t1 → AreTurns false b h1 by tc → h2 ≡ h1 ++ entries_of by tc
+    → IsTurn b h actors.Terminal t1 → h1 ≡ h ++ entry_of actors.Terminal t1 → AreTurns false b h1 by tc → h2 ≡ h1 ++ round_entries by tc
     → IsTurn b h2 actors.Painter (Some events.Paint) → (Rests s t h2 g rs qs ⊎ EntersPaint s t h2 g rs qs)
     → (last : List (Option Event)) × AreTurns true b h (actors.Terminal ∷ (by ++ actors.Painter ∷ [])) last
-    × (g ≡ h ++ entries_of (actors.Terminal ∷ (by ++ actors.Painter ∷ [])) last)
+    × (g ≡ h ++ round_entries (actors.Terminal ∷ (by ++ actors.Painter ∷ [])) last)
 broken_paint b s t h h1 h2 g rs qs t1 tc by u e v i w (inl r) =
     let k = broken_round b h h1 h2 t1 tc by u e (broken_all b h1 by tc v) i in (t1 ∷ tc, k.0, r.entries ∙ k.1)
 broken_paint b s t h h1 h2 g rs qs t1 tc by u e v i w (inr x) =
@@ -302,7 +302,7 @@ all_either b s t h g rs qs scripts ws places ms slots (inl r) k = all_still b s 
 all_either b s t h g rs qs scripts ws places ms slots (inr x) k =
     all_other b s t h g rs qs actors.Painter events.Paint scripts ws places ms slots refl x.enters k
 
-link_either : (R : Reading) (M Then : List R.One → List Entry → Type 0) (s t : State) (h g : List Entry) (rs qs : List Reply) (side : Side)
+link_either : (R : LinkReading) (M Then : List R.One → List Entry → Type 0) (s t : State) (h g : List Entry) (rs qs : List Reply) (side : Side)
     (failed : Bool) (before left : Option (List ℕ)) (taken : ℕ) → (Rests s t h g rs qs ⊎ EntersPaint s t h g rs qs)
     → ((fs : List R.One) (z : List Entry) → M fs z → Then fs z)
     → ((fs : List R.One) (z : List Entry) → M fs z → Then fs (z ++ entry actors.Painter events.Paint ∷ []))
@@ -322,7 +322,7 @@ failed_either : (s t : State) (h g : List Entry) (rs qs : List Reply) (f : Optio
 failed_either s t h g rs qs f (inl r) k = ap (λ (z : List Entry). is_failed f (paints z)) (sym r.entries) ∙ k
 failed_either s t h g rs qs f (inr x) k = not_yet f (paints h) (paints g) (let e = paints_next h g x.enters.entries in omega arith) k
 
-pub painted_err : (R : Reading) (M0 M1 Then : List R.One → List Entry → Type 0) (b : Begun) (scripts : List Script) (before old : Option (List ℕ)) (m : Moment)
+pub painted_err : (R : LinkReading) (M0 M1 Then : List R.One → List Entry → Type 0) (b : Begun) (scripts : List Script) (before old : Option (List ℕ)) (m : Moment)
     (s1 : State) (h1 : List Entry) (r1 : List Reply) (side : Side) (taken : ℕ) (left : Option (List ℕ)) (s2 : State) (h2 : List Entry) (r2 : List Reply)
     (ws : List Worker) (places : List (List ℕ)) (ms : List (List Memory)) (slots : List (List ℕ)) (n : ℕ) (s3 : State) (h3 : List Entry) (r3 : List Reply)
     (kept : Kept) (es : List ℕ) (end : ℕ) (failed : Bool) (written : Option (List ℕ)) (sent' entered : Bool) (e : OutOfMemory) → n ≡ length scripts
@@ -372,7 +372,7 @@ painted_err R M0 M1 Then b scripts before old m s1 h1 r1 side taken left s2 h2 r
     let st = stands_either c s2 s3 h2 h3 r2 r3 o z.stands in
     let N : ℕ → Type 0 = λ j. AllFollow c h3 j in
     let A : ℕ → Type 0 = λ j. AreTurns false c h1 (clients_from 0 j) d.0.turns in
-    let E : ℕ → Type 0 = λ j. h2 ≡ h1 ++ entries_of (clients_from 0 j) d.0.turns in
+    let E : ℕ → Type 0 = λ j. h2 ≡ h1 ++ round_entries (clients_from 0 j) d.0.turns in
     let (t1, u1, e1, n1) = sent_turn c m.state s1 m.entries h1 m.replies r1 sent' x in
     let (last, are, parts) = broken_paint c s2 s3 m.entries h1 h2 h3 r2 r3 t1 d.0.turns (clients_from 0 (length b.session.scripts)) u1 e1
     (subst A q d.0.are) (subst E q d.0.entries) (acts c z.stands.state then') o in
@@ -389,7 +389,7 @@ painted_err R M0 M1 Then b scripts before old m s1 h1 r1 side taken left s2 h2 r
     }
 
 -- the second terminal's part of the painter's turn: the Paint has its frame
-pub followed_err : (R : Reading) (M0 M1 Then : List R.One → List Entry → Type 0) (b : Begun) (scripts : List Script) (before old : Option (List ℕ)) (m : Moment)
+pub followed_err : (R : LinkReading) (M0 M1 Then : List R.One → List Entry → Type 0) (b : Begun) (scripts : List Script) (before old : Option (List ℕ)) (m : Moment)
     (s1 : State) (h1 : List Entry) (r1 : List Reply) (side : Side) (taken : ℕ) (left : Option (List ℕ)) (s2 : State) (h2 : List Entry) (r2 : List Reply)
     (ws : List Worker) (places : List (List ℕ)) (ms : List (List Memory)) (slots : List (List ℕ)) (n : ℕ) (s3 : State) (h3 : List Entry)
     (r3 : List Reply) (kept : Kept) (es : List ℕ) (end : ℕ) (failed : Bool) (written : Option (List ℕ)) (sent' entered painted : Bool)
@@ -422,7 +422,7 @@ followed_err R M0 M1 Then b scripts before old m s1 h1 r1 side taken left s2 h2 
 
 -- ---- answers
 
-pub round_err : (R : Reading) (M Then : List R.One → List Entry → Type 0) (b : Begun) (scripts : List Script) (before old : Option (List ℕ)) (h : List Entry)
+pub round_err : (R : LinkReading) (M Then : List R.One → List Entry → Type 0) (b : Begun) (scripts : List Script) (before old : Option (List ℕ)) (h : List Entry)
     (m : Moment) (result : Result Bool OutOfMemory) → IsErr result → StopsBy R Then b before old m.entries m.replies m.ends m.left m.written m.failed
     → RoundTurnBy R M Then result b scripts before old h m
 round_err R M Then b scripts before old h m (Ok x) i k = absurd (cc)
@@ -430,23 +430,23 @@ round_err R M Then b scripts before old h m (Err x) i k = k
 
 -- one round more
 
-pub goes_on : (R : Reading) (M : List R.One → List Entry → Type 0) (b : Begun) (scripts : List Script) (before old : Option (List ℕ)) (h : List Entry)
+pub goes_on : (R : LinkReading) (M : List R.One → List Entry → Type 0) (b : Begun) (scripts : List Script) (before old : Option (List ℕ)) (h : List Entry)
     (m : Moment) (acted : Bool) → RoundTurnBy R M M (Ok acted) b scripts before old h m → GoesBy R M b scripts before old m
 goes_on R M b scripts before old h m true k = k.0
 goes_on R M b scripts before old h m false k = k.0
 
-pub goes_longer : (R : Reading) (M : List R.One → List Entry → Type 0) (b : Begun) (scripts : List Script) (before old : Option (List ℕ))
+pub goes_longer : (R : LinkReading) (M : List R.One → List Entry → Type 0) (b : Begun) (scripts : List Script) (before old : Option (List ℕ))
     (h : List Entry) (m : Moment) (acted : Bool) → acted ≡ true → RoundTurnBy R M M (Ok acted) b scripts before old h m → length h < length m.entries
 goes_longer R M b scripts before old h m true e k = k.1
 goes_longer R M b scripts before old h m false e k = absurd (cc)
 
-pub goes_idle : (R : Reading) (M : List R.One → List Entry → Type 0) (b : Begun) (scripts : List Script) (before old : Option (List ℕ))
+pub goes_idle : (R : LinkReading) (M : List R.One → List Entry → Type 0) (b : Begun) (scripts : List Script) (before old : Option (List ℕ))
     (h : List Entry) (m : Moment) (acted : Bool) → acted ≡ false → RoundTurnBy R M M (Ok acted) b scripts before old h m
     → GoesBy R M b scripts before old m × AllIdle b m.entries
 goes_idle R M b scripts before old h m false e k = k
 goes_idle R M b scripts before old h m true e k = absurd (cc)
 
-pub rounds_err : (R : Reading) (M Then : List R.One → List Entry → Type 0) (b : Begun) (scripts : List Script) (before old : Option (List ℕ)) (m : Moment)
+pub rounds_err : (R : LinkReading) (M Then : List R.One → List Entry → Type 0) (b : Begun) (scripts : List Script) (before old : Option (List ℕ)) (m : Moment)
     (result : Result (Unit {0}) OutOfMemory) → IsErr result → StopsBy R Then b before old m.entries m.replies m.ends m.left m.written m.failed
     → RoundsTurnBy R M Then result b scripts before old m
 rounds_err R M Then b scripts before old m (Ok x) i k = absurd (cc)

@@ -8,7 +8,7 @@ use Rattle.con_units.specs.declared.place.Size.{Size}
 use Rattle.con_units.specs.declared.view.Frame.{Frame}
 use Rattle.con_outside.specs.Outside.{then_left}
 use Rattle.con_link.specs.Frames.{ends_link, is_frame}
-use Rattle.con_link.specs.Reading.{Reading, plainly}
+use Rattle.con_link.specs.LinkReading.{LinkReading, plainly}
 use Rattle.con_link.specs.declared.fault.LinkFault.{LinkFault}
 use Rattle.con_link.specs.declared.fault.LinkFault.TheVariants as faults
 use Rattle.con_paint.specs.Painter.{Kept}
@@ -35,7 +35,7 @@ use Rattle.con_session.specs.declared.desk.Picture.{Picture}
 use Rattle.con_session.specs.declared.terminal.Side.{Side}
 
 -- what was read of the link, and how far the reader is then
-abbrev pub Took : (R : Reading) → Result R.One LinkFault → Option (List ℕ) → Option (List ℕ) → ℕ → ℕ → Type 0
+abbrev pub Took : (R : LinkReading) → Result R.One LinkFault → Option (List ℕ) → Option (List ℕ) → ℕ → ℕ → Type 0
 Took R read old now taken later = (text : List ℕ) × (old ≡ then_left text now) × (later ≡ taken + length text) × R.answers read taken text now
 
 as_read : (read : Result Frame LinkFault) → plain_of plainly read ≡ read
@@ -95,7 +95,7 @@ heard_turn (Ok f) (Err lack) was side b s t h g rs qs failed n m o i (rests, sam
 heard_turn (Err x) (Err lack) was side b s t h g rs qs failed n m o i (rests, same) k j = rests
 
 -- the link behind it, and what more is known of its frames
-pub heard_by : (R : Reading) (M0 M1 Then : List R.One → List Entry → Type 0) (read : Result R.One LinkFault) (result : Result Bool OutOfMemory)
+pub heard_by : (R : LinkReading) (M0 M1 Then : List R.One → List Entry → Type 0) (read : Result R.One LinkFault) (result : Result Bool OutOfMemory)
     (was side : Side) (s t : State) (h g : List Entry) (rs qs : List Reply) (failed : Bool) (before old now : Option (List ℕ)) (taken later : ℕ)
     → was.ended ≡ false → Hears result (plain_of R read) was side s t h g rs qs → Took R read old now taken later
     → ((f : R.One) → read ≡ Ok f → g ≡ h ++ entry actors.Terminal (sent_by (R.plain f)) ∷ [] → (fs : List R.One) → M0 fs h → M1 (fs ++ f ∷ []) g)
@@ -118,7 +118,7 @@ heard_by R M0 M1 Then (Err x) (Err lack) was side s t h g rs qs failed before ol
     subst P (sym rests.entries) (λ m. linked_stops R M0 Then h was failed before old now taken later (Err x) n took m k) (stops rests.entries)
 
 -- no more bytes were taken than a link may have, while it goes on
-pub heard_few : (R : Reading) (read : Result R.One LinkFault) (result : Result Bool OutOfMemory) (was side : Side) (s t : State) (h g : List Entry)
+pub heard_few : (R : LinkReading) (read : Result R.One LinkFault) (result : Result Bool OutOfMemory) (was side : Side) (s t : State) (h g : List Entry)
     (rs qs : List Reply) (old now : Option (List ℕ)) (taken later : ℕ)
     → Hears result (plain_of R read) was side s t h g rs qs → Took R read old now taken later → IfOk result (λ _. side.ended ≡ false → later ≤ 16777216)
 heard_few R (Ok f) (Ok a) was side s t h g rs qs old now taken later hears (text, l, c, answered) = λ e.
@@ -130,7 +130,7 @@ heard_few R (Ok f) (Err lack) was side s t h g rs qs old now taken later hears t
 heard_few R (Err x) (Err lack) was side s t h g rs qs old now taken later hears took = tt
 
 -- only a failed source ends a session with Link
-pub heard_failed : (R : Reading) (P : Type 0) (read : Result R.One LinkFault) (result : Result Bool OutOfMemory) (was side : Side) (s t : State)
+pub heard_failed : (R : LinkReading) (P : Type 0) (read : Result R.One LinkFault) (result : Result Bool OutOfMemory) (was side : Side) (s t : State)
     (h g : List Entry) (rs qs : List Reply)
     → Hears result (plain_of R read) was side s t h g rs qs → (read ≡ Err faults.Failed → P) → side.end ≡ ends.Link → (was.end ≡ ends.Link) ⊎ P
 heard_failed R P (Ok f) (Ok a) was side s t h g rs qs (i, enters, e) rose l = inl (sym (ap (λ (y : Side). y.end) e) ∙ l)

@@ -9,7 +9,7 @@ use Rattle.con_units.specs.declared.place.Size.{Size}
 use Rattle.con_units.specs.declared.view.Frame.{Frame}
 use Rattle.con_link.specs.Frames.{is_frame}
 use Rattle.con_link.specs.Mirrored.{is_mirror_frame}
-use Rattle.con_link.specs.Reading.{mirrored}
+use Rattle.con_link.specs.LinkReading.{mirrored}
 use Rattle.con_link.specs.declared.fault.LinkFault.{LinkFault}
 use Rattle.con_link.specs.declared.fault.LinkFault.TheVariants as faults
 use Rattle.con_link.specs.declared.mirror.MirrorFrame.{MirrorFrame}

@@ -8,7 +8,7 @@ use Rattle.con_events.specs.declared.actor.Actor.TheVariants as actors
 use Rattle.con_events.specs.declared.entry.Entry.{Entry}
 use Rattle.con_events.specs.declared.event.Event.{Event}
 use Rattle.con_machine.specs.RoundLaws.{turns_more, entries_more, rounds_more, all_entries_more}
-use Rattle.con_machine.specs.Rounds.{Begun, AreTurns, IsTurn, clients_from, entry_of, entries_of, all_order, is_failed, is_nobody}
+use Rattle.con_machine.specs.Rounds.{Begun, AreTurns, IsTurn, clients_from, entry_of, round_entries, all_order, is_failed, is_nobody}
 use Rattle.con_session.specs.Painting.{PainterFails}
 use Rattle.con_session.specs.Sender.{FailsBy}
 use Rattle.con_session.specs.Solo.{HasRounds}
@@ -43,21 +43,21 @@ fails_before true old new f n m e p q k =
 -- ---- a whole round
 
 pub whole_round : (b : Begun) (h h1 h2 h3 : List Entry) (t1 : Option Event) (tc : List (Option Event)) (tp : Option Event) (by : List Actor)
-    → IsTurn b h actors.Terminal t1 → h1 ≡ h ++ entry_of actors.Terminal t1 → AreTurns false b h1 by tc → h2 ≡ h1 ++ entries_of by tc
+    → IsTurn b h actors.Terminal t1 → h1 ≡ h ++ entry_of actors.Terminal t1 → AreTurns false b h1 by tc → h2 ≡ h1 ++ round_entries by tc
     → IsTurn b h2 actors.Painter tp → h3 ≡ h2 ++ entry_of actors.Painter tp
     → AreTurns false b h (actors.Terminal ∷ (by ++ actors.Painter ∷ [])) (t1 ∷ (tc ++ tp ∷ []))
-    × (h3 ≡ h ++ entries_of (actors.Terminal ∷ (by ++ actors.Painter ∷ [])) (t1 ∷ (tc ++ tp ∷ [])))
+    × (h3 ≡ h ++ round_entries (actors.Terminal ∷ (by ++ actors.Painter ∷ [])) (t1 ∷ (tc ++ tp ∷ [])))
 whole_round b h h1 h2 h3 t1 tc tp by u e1 v e2 w e3 =
     let sent = h ++ entry_of actors.Terminal t1 in
     let A : List Entry → Type 0 = λ z. AreTurns false b z by tc in
     let v' : AreTurns false b sent by tc = subst A e1 v in
     let I : List Entry → Type 0 = λ z. IsTurn b z actors.Painter tp in
-    let e2' : h2 ≡ sent ++ entries_of by tc = e2 ∙ ap (λ (z : List Entry). z ++ entries_of by tc) e1 in
+    let e2' : h2 ≡ sent ++ round_entries by tc = e2 ∙ ap (λ (z : List Entry). z ++ round_entries by tc) e1 in
     let m = entries_more b sent by tc actors.Painter tp v' in (
       (u, turns_more b sent by tc actors.Painter tp v' (subst I e2' w)),
-      e3 ∙ (ap (λ (z : List Entry). z ++ entry_of actors.Painter tp) e2' ∙ (append_assoc sent (entries_of by tc) (entry_of actors.Painter tp)
+      e3 ∙ (ap (λ (z : List Entry). z ++ entry_of actors.Painter tp) e2' ∙ (append_assoc sent (round_entries by tc) (entry_of actors.Painter tp)
           ∙ (ap (λ (z : List Entry). sent ++ z) (sym m)
-          ∙ append_assoc h (entry_of actors.Terminal t1) (entries_of (by ++ actors.Painter ∷ []) (tc ++ tp ∷ []))))),
+          ∙ append_assoc h (entry_of actors.Terminal t1) (round_entries (by ++ actors.Painter ∷ []) (tc ++ tp ∷ []))))),
     )
 
 -- ---- one that breaks off
@@ -69,7 +69,7 @@ broken_all b h (c ∷ cs) [] are = refl
 broken_all b h (c ∷ cs) (u ∷ us) are = (are.0, broken_all b (h ++ entry_of c u) cs us are.1)
 
 broken_front : (b : Begun) (h : List Entry) (by more : List Actor) (ts : List (Option Event)) → AreTurns true b h by ts
-    → AreTurns true b h (by ++ more) ts × (entries_of (by ++ more) ts ≡ entries_of by ts)
+    → AreTurns true b h (by ++ more) ts × (round_entries (by ++ more) ts ≡ round_entries by ts)
 broken_front b h [] [] [] are = (tt, refl)
 broken_front b h [] (a ∷ rest) [] are = (refl, refl)
 broken_front b h [] more (u ∷ us) are = absurd are
@@ -80,15 +80,15 @@ broken_front b h (c ∷ cs) more (u ∷ us) are =
 
 -- it breaks off among the clients
 pub broken_round : (b : Begun) (h h1 h2 : List Entry) (t1 : Option Event) (tc : List (Option Event)) (by : List Actor)
-    → IsTurn b h actors.Terminal t1 → h1 ≡ h ++ entry_of actors.Terminal t1 → AreTurns true b h1 by tc → h2 ≡ h1 ++ entries_of by tc
+    → IsTurn b h actors.Terminal t1 → h1 ≡ h ++ entry_of actors.Terminal t1 → AreTurns true b h1 by tc → h2 ≡ h1 ++ round_entries by tc
     → AreTurns true b h (actors.Terminal ∷ (by ++ actors.Painter ∷ [])) (t1 ∷ tc)
-    × (h2 ≡ h ++ entries_of (actors.Terminal ∷ (by ++ actors.Painter ∷ [])) (t1 ∷ tc))
+    × (h2 ≡ h ++ round_entries (actors.Terminal ∷ (by ++ actors.Painter ∷ [])) (t1 ∷ tc))
 broken_round b h h1 h2 t1 tc by u e1 v e2 =
     let sent = h ++ entry_of actors.Terminal t1 in
     let A : List Entry → Type 0 = λ z. AreTurns true b z by tc in
     let k = broken_front b sent by (actors.Painter ∷ []) tc (subst A e1 v) in (
       (u, k.0),
-      e2 ∙ (ap (λ (z : List Entry). z ++ entries_of by tc) e1 ∙ (append_assoc h (entry_of actors.Terminal t1) (entries_of by tc)
+      e2 ∙ (ap (λ (z : List Entry). z ++ round_entries by tc) e1 ∙ (append_assoc h (entry_of actors.Terminal t1) (round_entries by tc)
           ∙ ap (λ (z : List Entry). h ++ (entry_of actors.Terminal t1 ++ z)) (sym k.1))),
     )
 
@@ -116,7 +116,7 @@ nobody_all t1 tc tp sent entered painted a b c =
     ∙ (ap (λ (x : Bool). x && (is_nobody tc && is_nobody (tp ∷ []))) a ∙ (ap (λ (x : Bool). not sent && (x && is_nobody (tp ∷ []))) b
     ∙ (ap (λ (x : Bool). not sent && (not entered && x)) c ∙ none_by sent entered painted))))
 
-pub nobody_none : (by : List Actor) (ts : List (Option Event)) → is_nobody ts ≡ true → entries_of by ts ≡ []
+pub nobody_none : (by : List Actor) (ts : List (Option Event)) → is_nobody ts ≡ true → round_entries by ts ≡ []
 nobody_none [] ts n = refl
 nobody_none (a ∷ rest) [] n = refl
 nobody_none (a ∷ rest) (None ∷ ts) n = nobody_none rest ts n
@@ -151,16 +151,16 @@ painter_rests b h from (suc n) k = painter_rests b h (from + 1) n k.1
 -- ---- one more round
 
 pub one_round : (b : Begun) (h g : List Entry) (one : List (Option Event))
-    → HasRounds b h → AreTurns false b h (all_order b) one → is_nobody one ≡ false → g ≡ h ++ entries_of (all_order b) one → HasRounds b g
+    → HasRounds b h → AreTurns false b h (all_order b) one → is_nobody one ≡ false → g ≡ h ++ round_entries (all_order b) one → HasRounds b g
 one_round b h g one (rounds, are, e) t n i =
     let P : List Entry → Type 0 = λ z. AreTurns false b z (all_order b) one in (
       rounds ++ one ∷ [],
       rounds_more b [] rounds one are (subst P e t) n,
-      i ∙ (ap (λ (z : List Entry). z ++ entries_of (all_order b) one) e ∙ sym (all_entries_more (all_order b) rounds one)),
+      i ∙ (ap (λ (z : List Entry). z ++ round_entries (all_order b) one) e ∙ sym (all_entries_more (all_order b) rounds one)),
     )
 
 some_entry : (b : Begun) (h : List Entry) (by : List Actor) (ts : List (Option Event))
-    → AreTurns false b h by ts → is_nobody ts ≡ false → 0 < length (entries_of by ts)
+    → AreTurns false b h by ts → is_nobody ts ≡ false → 0 < length (round_entries by ts)
 some_entry b h [] [] are n = absurd (cc)
 some_entry b h [] (u ∷ us) are n = absurd are
 some_entry b h (c ∷ cs) [] are n = absurd (cc)
@@ -169,5 +169,5 @@ some_entry b h (c ∷ cs) (Some e ∷ us) are n = omega arith
 
 -- and it has more entries
 pub round_longer : (b : Begun) (h g : List Entry) (by : List Actor) (ts : List (Option Event))
-    → AreTurns false b h by ts → is_nobody ts ≡ false → g ≡ h ++ entries_of by ts → length h < length g
-round_longer b h g by ts are n e = let l = some_entry b h by ts are n in omega (arith, ap (λ (z : List Entry). length z) e, length-append h (entries_of by ts))
+    → AreTurns false b h by ts → is_nobody ts ≡ false → g ≡ h ++ round_entries by ts → length h < length g
+round_longer b h g by ts are n e = let l = some_entry b h by ts are n in omega (arith, ap (λ (z : List Entry). length z) e, length-append h (round_entries by ts))

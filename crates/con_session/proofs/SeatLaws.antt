@@ -15,7 +15,7 @@ use Rattle.con_events.specs.declared.script.Step.{Step}
 use Rattle.con_handlers.specs.Memory.{Memory}
 use Rattle.con_machine.specs.Client.{Client, Stance, GoesOn, MayLeave, MustLeave, Gone, MayBy}
 use Rattle.con_machine.specs.RoundLaws.{turns_more, entries_more, broken_off}
-use Rattle.con_machine.specs.Rounds.{Begun, AreTurns, IsTurn, clients_from, client_at, entry_of, entries_of, is_nobody}
+use Rattle.con_machine.specs.Rounds.{Begun, AreTurns, IsTurn, clients_from, client_at, entry_of, round_entries, is_nobody}
 use Rattle.con_machine.specs.State.{State}
 use Rattle.con_machine.specs.Turns.{is_client}
 use Rattle.con_session.specs.Desk.{Enters, Rests, Stands, entry}
@@ -252,9 +252,9 @@ had_more b s0 s t h0 h g rs0 rs qs k o is e on had =
     record {
       turns = had.turns ++ o ∷ [];
       are = subst T (sym (clients_next k)) (turns_more b h0 by had.turns a o had.are (subst I had.entries is));
-      entries = e ∙ (ap (λ (z : List Entry). z ++ entry_of a o) had.entries ∙ (append_assoc h0 (entries_of by had.turns) (entry_of a o)
+      entries = e ∙ (ap (λ (z : List Entry). z ++ entry_of a o) had.entries ∙ (append_assoc h0 (round_entries by had.turns) (entry_of a o)
           ∙ (ap (λ (z : List Entry). h0 ++ z) (sym (entries_more b h0 by had.turns a o had.are))
-          ∙ ap (λ (z : List Actor). h0 ++ entries_of z (had.turns ++ o ∷ [])) (sym (clients_next k)))));
+          ∙ ap (λ (z : List Actor). h0 ++ round_entries z (had.turns ++ o ∷ [])) (sym (clients_next k)))));
       stands = λ k0. on (had.stands k0);
     }
 
@@ -326,7 +326,7 @@ clients_step {A} worker places mems slots b s0 s t h0 h g rs0 rs qs k scripts sc
 -- ---- for want of memory, perhaps behind an entry
 
 entries_front : (b : Begun) (h : List Entry) (by more : List Actor) (ts : List (Option Event)) → AreTurns false b h by ts
-    → entries_of (by ++ more) ts ≡ entries_of by ts
+    → round_entries (by ++ more) ts ≡ round_entries by ts
 entries_front b h [] [] [] are = refl
 entries_front b h [] (a ∷ as') [] are = refl
 entries_front b h [] more (u ∷ us) are = absurd are
@@ -343,7 +343,7 @@ had_broken b s t h g rs qs k m had =
       turns = had.turns;
       are = subst T (sym (clients_split 0 k m)) (broken_off b h by more had.turns had.are);
       entries = had.entries ∙ (ap (λ (z : List Entry). h ++ z) (sym (entries_front b h by more had.turns had.are))
-          ∙ ap (λ (z : List Actor). h ++ entries_of z had.turns) (sym (clients_split 0 k m)));
+          ∙ ap (λ (z : List Actor). h ++ round_entries z had.turns) (sym (clients_split 0 k m)));
       stands = had.stands;
     }
 

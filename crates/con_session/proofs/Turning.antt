@@ -6,7 +6,7 @@ use Rattle.std.proofs.lemmas.Bool.{and_parts}
 use Rattle.std.proofs.lemmas.Bool.Decides.{nat_tests}
 use Rattle.con_handlers.specs.Memory.{Memory}
 use Rattle.con_units.specs.declared.place.Size.{Size}
-use Rattle.con_link.specs.Reading.{Reading}
+use Rattle.con_link.specs.LinkReading.{LinkReading}
 use Rattle.con_paint.specs.Painter.{Kept}
 use Rattle.con_events.specs.declared.actor.Actor.{Actor}
 use Rattle.con_events.specs.declared.actor.Actor.TheVariants as actors
@@ -20,7 +20,7 @@ use Rattle.con_machine.specs.Follows.{MayAct, asks, asks_by, are_of_session, is_
 use Rattle.con_machine.specs.History.{run, is_legal}
 use Rattle.con_machine.specs.HistoryLaws.{legal-append, after-append, along-one}
 use Rattle.con_machine.specs.PictureLaws.{step_moves}
-use Rattle.con_machine.specs.Rounds.{Begun, clients_from, entry_of, entries_of, is_nobody, IsTurn}
+use Rattle.con_machine.specs.Rounds.{Begun, clients_from, entry_of, round_entries, is_nobody, IsTurn}
 use Rattle.con_machine.specs.State.{State}
 use Rattle.con_machine.specs.Step.{is_ready}
 use Rattle.con_machine.specs.Turns.{moved, paints, is_paint, is_terminal}
@@ -114,7 +114,7 @@ some_on failed h g x e n k f = let P : ℕ → Type 0 = λ z. 0 < z in subst P (
 no_client_ready : (s : State) (ev : Event) → is_ready s actors.Terminal ev ≡ true → is_paint ev ≡ false
 no_client_ready s ev r = no_paint s actors.Terminal ev r (λ e. absurd (cc))
 
-pub sent_holds : (R : Reading) (M0 M1 : List R.One → List Entry → Type 0) (b : Begun) (scripts : List Script) (before old : Option (List ℕ))
+pub sent_holds : (R : LinkReading) (M0 M1 : List R.One → List Entry → Type 0) (b : Begun) (scripts : List Script) (before old : Option (List ℕ))
     (m : Moment) (t : State) (g : List Entry) (qs : List Reply) (side : Side) (taken : ℕ) (left : Option (List ℕ)) (sent' : Bool)
     → (m.state.asked ≡ false) ⊎ (m.failed ≡ true) → SenderTurn (Ok sent') b m.state t m.entries g m.replies qs → LinkBy R M1 g side m.failed before left taken
     → HoldsBy R M0 b scripts before old m
@@ -164,7 +164,7 @@ FromClients n (x ∷ xs) = (is_terminal x.actor ≡ false) × (is_one_of n x.act
 one_of : (n p : ℕ) → p + 1 ≤ n → (nat_lt 0 (p + 1) && nat_le (p + 1) n) ≡ true
 one_of n p l = grind (arith, nat_tests)
 
-from_clients : (all from n : ℕ) (ts : List (Option Event)) → from + n ≤ all → FromClients all (entries_of (clients_from from n) ts)
+from_clients : (all from n : ℕ) (ts : List (Option Event)) → from + n ≤ all → FromClients all (round_entries (clients_from from n) ts)
 from_clients all from zero ts l = tt
 from_clients all from (suc n) [] l = tt
 from_clients all from (suc n) (None ∷ ts) l = from_clients all (from + 1) n ts (omega arith)
@@ -189,10 +189,10 @@ pub clients_keep : (broken : Bool) (b : Begun) (s t : State) (h g : List Entry) 
     → HaveTurns broken b s t h g rs qs n → P h → P g
 clients_keep broken b s t h g rs qs n all P l st one had k =
     let Q : List Entry → Type 0 = λ z. is_legal b.state z ≡ true in
-    let r = entries_of (clients_from 0 n) had.turns in
+    let r = round_entries (clients_from 0 n) had.turns in
     subst P (sym had.entries) (along_clients all b.state P one h r (subst Q had.entries (had.stands st).legal) (from_clients all 0 n had.turns (omega arith)) k)
 
-pub entered_holds : (R : Reading) (M : List R.One → List Entry → Type 0) (b : Begun) (scripts : List Script) (before old : Option (List ℕ))
+pub entered_holds : (R : LinkReading) (M : List R.One → List Entry → Type 0) (b : Begun) (scripts : List Script) (before old : Option (List ℕ))
     (m : Moment) (t : State) (g : List Entry) (qs : List Reply) (ws : List Worker) (places : List (List ℕ)) (ms : List (List Memory))
     (slots : List (List ℕ)) (n : ℕ) (entered : Bool)
     → n ≡ length scripts → ClientsTurnBy (Ok entered) b m.state t m.entries g m.replies qs n scripts ws places ms slots
@@ -229,7 +229,7 @@ entered_paints broken b s t h g rs qs n st had =
 failed_later : (was now : Bool) → was ≡ false → was ≡ true → now ≡ true
 failed_later was now e i = absurd (let z = sym e ∙ i in cc)
 
-pub painted_holds : (R : Reading) (M1 M2 : List R.One → List Entry → Type 0) (b : Begun) (scripts : List Script) (before old : Option (List ℕ)) (m : Moment)
+pub painted_holds : (R : LinkReading) (M1 M2 : List R.One → List Entry → Type 0) (b : Begun) (scripts : List Script) (before old : Option (List ℕ)) (m : Moment)
     (t : State) (g : List Entry) (qs : List Reply) (kept : Kept) (es : List ℕ) (end : ℕ) (failed : Bool) (written : Option (List ℕ)) (painted : Bool)
     → PainterFails (Ok painted) m.failed failed
     → ((ps : List (List ℕ)) → CanvasIs b m.entries b.session.size m.kept ps m.ends m.end old m.written m.failed

@@ -9,7 +9,7 @@ use Rattle.con_units.specs.declared.view.Sight.{Sight}
 use Rattle.con_units.specs.declared.view.Sight.TheVariants as sights
 use Rattle.con_outside.specs.Outside.{then_written}
 use Rattle.con_outside.specs.Laws.{WroteFront-nothing, then_written-none, then_left-none}
-use Rattle.con_link.specs.Reading.{Reading, plainly}
+use Rattle.con_link.specs.LinkReading.{LinkReading, plainly}
 use Rattle.con_link.specs.declared.fault.LinkFault.{LinkFault}
 use Rattle.con_link.specs.declared.fault.LinkFault.TheVariants as faults
 use Rattle.con_term.specs.Play.{play}
@@ -29,7 +29,7 @@ use Rattle.con_readers.specs.Reads.{is_open, has_done}
 use Rattle.con_machine.specs.Along.{Along}
 use Rattle.con_machine.specs.ClosingLaws.{none_waits}
 use Rattle.con_machine.specs.Client.{Client, Stance, GoesOn, MayLeave, MustLeave, Gone, next_event}
-use Rattle.con_machine.specs.Follows.{are_of_session, FollowsLink, MayAct, asks, begun, is_cut, is_lost, sent_by}
+use Rattle.con_machine.specs.Follows.{are_of_session, FollowsLink, MayAct, asks, session_start, is_cut, is_lost, sent_by}
 use Rattle.con_machine.specs.History.{run, is_legal, replies_of}
 use Rattle.con_machine.specs.Opens.{WaitsOrGone}
 use Rattle.con_machine.specs.Rounds.{Begun, ClientTurn, ClientTurnBy, IsTurn, client_at}
@@ -96,8 +96,8 @@ each_number session racks f h k = by_number (λ p. ClientStands (begins session 
 -- the terminal's side has ended, and each client waits for a read or is gone: then all are gone
 pub left_by_waits : (session : Clients) (racks : List (List ℕ)) (f : Option ℕ) (h : List Entry)
     → ((k : ℕ) → k < length session.scripts → ClientStands (begins session racks f) h (k + 1))
-    → ((k : ℕ) → k < length session.scripts → WaitsOrGone (run (begun session racks) h) (k + 1)) → has_ended false (sent h) ≡ true
-    → HaveAllLeft (begun session racks) h session racks
+    → ((k : ℕ) → k < length session.scripts → WaitsOrGone (run (session_start session racks) h) (k + 1)) → has_ended false (sent h) ≡ true
+    → HaveAllLeft (session_start session racks) h session racks
 left_by_waits session racks f h k wait ended = λ p l m.
     let b = begins session racks f in
     let gone = none_waits session racks h ended (by_number (λ q. WaitsOrGone (run b.state h) q) (length session.scripts) wait) p l m in
@@ -153,11 +153,11 @@ bad_at place kind faults.Failed e = absurd (cc)
 bad_at place kind faults.TooLong e = absurd (cc)
 bad_at place kind faults.OutOfMemory e = absurd (cc)
 
-pub sent_cut : (R : Reading) (frames : List R.One) (es : List Event) (cut : Bool)
+pub sent_cut : (R : LinkReading) (frames : List R.One) (es : List Event) (cut : Bool)
     → cut ≡ true → all_go_on R frames ≡ true → es ≡ map sent_by (R.plains frames) ++ hung cut → IsCutBy R frames es
 sent_cut R frames es cut c g e = (g, e ∙ ap (λ (z : Bool). map sent_by (R.plains frames) ++ hung z) c)
 
-pub answer_of : (R : Reading) (f g : LinkFault) (n : ℕ) (text : List ℕ) (left : Option (List ℕ))
+pub answer_of : (R : LinkReading) (f g : LinkFault) (n : ℕ) (text : List ℕ) (left : Option (List ℕ))
     → f ≡ g → R.answers (Err f) n text left → R.answers (Err g) n text left
 answer_of R f g n text left e a = let P : LinkFault → Type 0 = λ z. R.answers (Err z) n text left in subst P e a
 
@@ -165,7 +165,7 @@ pub no_cut : (cut failed is : Bool) → (cut ≡ true → (failed ≡ true) ⊎ 
 no_cut false failed is w f i = refl
 no_cut true failed is w f i = absurd (elim (w refl) [ inl e ↦ let z = sym e ∙ f in cc | inr e ↦ let z = sym e ∙ i in cc ])
 
-pub sent_by_end : (R : Reading) (More : List R.One → List Entry → Type 0) (end : End) (h : List Entry) (side : Side) (failed : Bool)
+pub sent_by_end : (R : LinkReading) (More : List R.One → List Entry → Type 0) (end : End) (h : List Entry) (side : Side) (failed : Bool)
     (before left : Option (List ℕ)) (taken : ℕ) (k : LinkBy R More h side failed before left taken) → side.end ≡ end → side.ended ≡ true → failed ≡ false
     → HasSentBy R end k.frames k.extra left (sent h)
 sent_by_end R More ends.Done h side failed before left taken k i e f =
@@ -190,7 +190,7 @@ sent_by_end R More (ends.Bad place kind) h side failed before left taken k i e f
 sent_by_end R More ends.Term h side failed before left taken k i e f = tt
 sent_by_end R More ends.Memory h side failed before left taken k i e f = tt
 
-pub link_sent : (R : Reading) (More : List R.One → List Entry → Type 0) (failed : Bool) (h : List Entry) (side : Side) (before left : Option (List ℕ))
+pub link_sent : (R : LinkReading) (More : List R.One → List Entry → Type 0) (failed : Bool) (h : List Entry) (side : Side) (before left : Option (List ℕ))
     (taken : ℕ) (k : LinkBy R More h side failed before left taken) → side.ended ≡ true → HasSentBy R (end_by failed side.end) k.frames k.extra left (sent h)
 link_sent R More true h side before left taken k e = tt
 link_sent R More false h side before left taken k e = sent_by_end R More side.end h side false before left taken k refl e refl
@@ -221,11 +221,11 @@ answered_lost out (x ∷ xs) = (may_lost out x.actor, answered_lost (asks out x)
 -- ---- the whole
 
 -- nobody has anything left to do
-pub leaves_whole_by : (R : Reading) (More Then : List R.One → List Entry → Type 0) (session : Clients) (racks : List (List ℕ)) (f : Option ℕ)
+pub leaves_whole_by : (R : LinkReading) (More Then : List R.One → List Entry → Type 0) (session : Clients) (racks : List (List ℕ)) (f : Option ℕ)
     (scripts : List Script) (before old : Option (List ℕ)) (m : Moment) → HoldsBy R More (begins session racks f) scripts before old m
     → ((k : ℕ) → k < length session.scripts → ClientStands (begins session racks f) m.entries (k + 1)) → has_ended false (sent m.entries) ≡ true
-    → HaveAllLeft (begun session racks) m.entries session racks
-    → (m.failed ≡ false → is_ready (run (begun session racks) m.entries) actors.Painter events.Paint ≡ false)
+    → HaveAllLeft (session_start session racks) m.entries session racks
+    → (m.failed ≡ false → is_ready (run (session_start session racks) m.entries) actors.Painter events.Paint ≡ false)
     → ((fs : List R.One) → More fs m.entries → Then fs m.entries)
     → LeavesBy R Then session racks m.entries m.replies m.ends (end_by m.failed m.side.end) before m.left old m.written
 leaves_whole_by R More Then session racks f scripts before old m k stands ended left idle then' =
@@ -237,7 +237,7 @@ leaves_whole_by R More Then session racks f scripts before old m k stands ended 
     let count : length m.ends ≡ n = ap (λ (z : List ℕ). length z) k.canvas.ends'
     ∙ (ends_count 0 k.pieces ∙ painted_count b m.entries session.size m.kept k.pieces k.canvas.stands) in
     let F : List Frame → Type 0 = λ z. FollowsLink (is_cut end) z (sent m.entries) in
-    let ss = sights_of (begun session racks) m.entries in
+    let ss = sights_of (session_start session racks) m.entries in
     record {
       legal = k.stands.legal;
       replies = k.stands.replies;
@@ -276,9 +276,9 @@ leaves_whole_by R More Then session racks f scripts before old m k stands ended 
     }
 
 -- there was no memory
-pub leaves_stops_by : (R : Reading) (More : List R.One → List Entry → Type 0) (session : Clients) (racks : List (List ℕ)) (f : Option ℕ)
+pub leaves_stops_by : (R : LinkReading) (More : List R.One → List Entry → Type 0) (session : Clients) (racks : List (List ℕ)) (f : Option ℕ)
     (before old left written : Option (List ℕ)) (h : List Entry) (rs : List Reply) (es : List ℕ)
-    → is_legal (begun session racks) h ≡ true → rs ≡ map listed (replies_of (begun session racks) h) → are_of_session (length session.scripts) h ≡ true
+    → is_legal (session_start session racks) h ≡ true → rs ≡ map listed (replies_of (session_start session racks) h) → are_of_session (length session.scripts) h ≡ true
     → ((k : ℕ) → k < length session.scripts → ClientStands (begins session racks f) h (k + 1)) → LinkEndsBy R More h before left
     → CanvasEnds (begins session racks f) h session.size es old written
     → LeavesBy R More session racks h rs es ends.Memory before left old written
@@ -288,7 +288,7 @@ leaves_stops_by R More session racks f before old left written h rs es legal ans
     let total = last_joined es ps canvas.ends' in
     let count : length es ≡ length ps = ap (λ (z : List ℕ). length z) canvas.ends' ∙ ends_count 0 ps in
     let F : List Frame → Type 0 = λ z. FollowsLink true z (sent h) in
-    let ss = sights_of (begun session racks) h in
+    let ss = sights_of (session_start session racks) h in
     record {
       legal = legal;
       replies = answers;
@@ -321,7 +321,7 @@ leaves_stops_by R More session racks f before old left written h rs es legal ans
     }
 
 -- there was none to begin with
-pub leaves_none_by : (R : Reading) (More : List R.One → List Entry → Type 0) (session : Clients) (racks : List (List ℕ)) (before old : Option (List ℕ))
+pub leaves_none_by : (R : LinkReading) (More : List R.One → List Entry → Type 0) (session : Clients) (racks : List (List ℕ)) (before old : Option (List ℕ))
     → More [] [] → LeavesBy R More session racks [] [] [] ends.Memory before before old old
 leaves_none_by R More session racks before old more = record {
   legal = refl;
@@ -354,15 +354,15 @@ leaves_none_by R More session racks before old more = record {
 pub leaves_whole : (session : Clients) (racks : List (List ℕ)) (f : Option ℕ) (scripts : List Script) (before old : Option (List ℕ)) (m : Moment)
     → Holds (begins session racks f) scripts before old m
     → ((k : ℕ) → k < length session.scripts → ClientStands (begins session racks f) m.entries (k + 1)) → has_ended false (sent m.entries) ≡ true
-    → HaveAllLeft (begun session racks) m.entries session racks
-    → (m.failed ≡ false → is_ready (run (begun session racks) m.entries) actors.Painter events.Paint ≡ false)
+    → HaveAllLeft (session_start session racks) m.entries session racks
+    → (m.failed ≡ false → is_ready (run (session_start session racks) m.entries) actors.Painter events.Paint ≡ false)
     → Leaves session racks m.entries m.replies m.ends (end_by m.failed m.side.end) before m.left old m.written
 leaves_whole session racks f scripts before old m k stands ended left idle =
     leaves_whole_by plainly NoMore NoMore session racks f scripts before old m k stands ended left idle (λ fs x. tt)
 
 pub leaves_stops : (session : Clients) (racks : List (List ℕ)) (f : Option ℕ) (before old left written : Option (List ℕ))
     (h : List Entry) (rs : List Reply) (es : List ℕ)
-    → is_legal (begun session racks) h ≡ true → rs ≡ map listed (replies_of (begun session racks) h) → are_of_session (length session.scripts) h ≡ true
+    → is_legal (session_start session racks) h ≡ true → rs ≡ map listed (replies_of (session_start session racks) h) → are_of_session (length session.scripts) h ≡ true
     → ((k : ℕ) → k < length session.scripts → ClientStands (begins session racks f) h (k + 1)) → LinkEnds h before left
     → CanvasEnds (begins session racks f) h session.size es old written
     → Leaves session racks h rs es ends.Memory before left old written

@@ -11,7 +11,7 @@ use Rattle.con_units.specs.declared.view.Frame.{Frame}
 use Rattle.con_outside.specs.Outside.{then_left}
 use Rattle.con_outside.specs.Laws.{then_left-more}
 use Rattle.con_link.specs.Frames.{ends_link, goes_on}
-use Rattle.con_link.specs.Reading.{Reading}
+use Rattle.con_link.specs.LinkReading.{LinkReading}
 use Rattle.con_link.specs.declared.fault.LinkFault.{LinkFault}
 use Rattle.con_link.specs.declared.fault.LinkFault.TheVariants as faults
 use Rattle.con_events.specs.declared.actor.Actor.TheVariants as actors
@@ -36,7 +36,7 @@ open_side h coming cut ended c e k =
     subst Q e (subst P c k)
 
 -- another's entry
-pub linked_other : (R : Reading) (More : List R.One → List Entry → Type 0) (h g : List Entry) (x : Entry) (side : Side) (failed : Bool)
+pub linked_other : (R : LinkReading) (More : List R.One → List Entry → Type 0) (h g : List Entry) (x : Entry) (side : Side) (failed : Bool)
     (before now : Option (List ℕ)) (taken : ℕ) → g ≡ h ++ x ∷ [] → is_terminal x.actor ≡ false
     → ((fs : List R.One) → More fs h → More fs g) → LinkBy R More h side failed before now taken → LinkBy R More g side failed before now taken
 linked_other R More h g x side failed before now taken e n m k =
@@ -58,7 +58,7 @@ linked_other R More h g x side failed before now taken e n m k =
     }
 
 -- the terminal has failed; and something else is known of the frames
-pub linked_failed : (R : Reading) (More Then : List R.One → List Entry → Type 0) (h : List Entry) (side : Side) (failed later : Bool)
+pub linked_failed : (R : LinkReading) (More Then : List R.One → List Entry → Type 0) (h : List Entry) (side : Side) (failed later : Bool)
     (before now : Option (List ℕ)) (taken : ℕ) → (failed ≡ true → later ≡ true)
     → ((fs : List R.One) → More fs h → Then fs h) → LinkBy R More h side failed before now taken → LinkBy R Then h side later before now taken
 linked_failed R More Then h side failed later before now taken i m k =
@@ -79,7 +79,7 @@ linked_failed R More Then h side failed later before now taken i m k =
     }
 
 -- another's entry, behind which something else is known of the frames
-pub linked_paint : (R : Reading) (More Then : List R.One → List Entry → Type 0) (h g : List Entry) (x : Entry) (side : Side) (failed later : Bool)
+pub linked_paint : (R : LinkReading) (More Then : List R.One → List Entry → Type 0) (h g : List Entry) (x : Entry) (side : Side) (failed later : Bool)
     (before now : Option (List ℕ)) (taken : ℕ) → g ≡ h ++ x ∷ [] → is_terminal x.actor ≡ false → (failed ≡ true → later ≡ true)
     → ((fs : List R.One) → More fs h → Then fs g) → LinkBy R More h side failed before now taken → LinkBy R Then g side later before now taken
 linked_paint R More Then h g x side failed later before now taken e n i m k =
@@ -88,7 +88,7 @@ linked_paint R More Then h g x side failed later before now taken e n i m k =
     linked_failed R Was Then g side failed later before now taken i m (linked_other R Was h g x side failed before now taken e n (λ fs q. q) still)
 
 -- the hangup where the terminal has failed
-pub linked_hung : (R : Reading) (More Then : List R.One → List Entry → Type 0) (h g : List Entry) (side : Side) (failed : Bool)
+pub linked_hung : (R : LinkReading) (More Then : List R.One → List Entry → Type 0) (h g : List Entry) (side : Side) (failed : Bool)
     (before now : Option (List ℕ)) (taken : ℕ) → side.ended ≡ false → failed ≡ true → g ≡ h ++ entry actors.Terminal events.Hangup ∷ []
     → ((fs : List R.One) → More fs h → Then fs g) → LinkBy R More h side failed before now taken
     → LinkBy R Then g (record { ended = true; end = side.end }) failed before now taken
@@ -118,7 +118,7 @@ spelled_more : {A : Type 0} (spell : A → List ℕ) (fs : List A) (f : A) → f
 spelled_more spell fs f = flat_map-append spell fs (f ∷ []) ∙ ap (λ (x : List ℕ). flat_map spell fs ++ x) (append_none (spell f))
 
 -- a frame that was read
-pub linked_frame : (R : Reading) (More Then : List R.One → List Entry → Type 0) (h g : List Entry) (side : Side)
+pub linked_frame : (R : LinkReading) (More Then : List R.One → List Entry → Type 0) (h g : List Entry) (side : Side)
     (failed : Bool) (before old now : Option (List ℕ)) (taken later : ℕ) (f : R.One) (ended : Bool)
     → side.ended ≡ false → g ≡ h ++ entry actors.Terminal (sent_by (R.plain f)) ∷ [] → ended ≡ ends_link (R.plain f)
     → ((text : List ℕ) × (old ≡ then_left text now) × (later ≡ taken + length text) × R.answers (Ok f) taken text now)
@@ -169,7 +169,7 @@ cut_for (faults.Bad place kind) = refl
 cut_for faults.OutOfMemory = refl
 
 -- a fault that showed
-pub linked_fault : (R : Reading) (More Then : List R.One → List Entry → Type 0) (h g : List Entry) (side : Side)
+pub linked_fault : (R : LinkReading) (More Then : List R.One → List Entry → Type 0) (h g : List Entry) (side : Side)
     (failed : Bool) (before old now : Option (List ℕ)) (taken later : ℕ) (f : LinkFault) (end : End)
     → side.ended ≡ false → g ≡ h ++ entry actors.Terminal events.Hangup ∷ [] → end ≡ end_for f
     → ((text : List ℕ) × (old ≡ then_left text now) × (later ≡ taken + length text) × R.answers (Err f) taken text now)
@@ -199,18 +199,18 @@ linked_fault R More Then h g side failed before old now taken later f end n e d 
 
 -- ---- where there is no memory
 
-going_by : (R : Reading) (ended cut : Bool) (frames : List R.One) (now : Option (List ℕ))
+going_by : (R : LinkReading) (ended cut : Bool) (frames : List R.One) (now : Option (List ℕ))
     → (ended ≡ false → all_go_on R frames ≡ true) → (cut ≡ true → all_go_on R frames ≡ true) → (cut ≡ false → ended ≡ true → IsLinkBy R frames now)
     → (all_go_on R frames ≡ true) ⊎ IsLinkBy R frames now
 going_by R false cut frames now o w i = inl (o refl)
 going_by R true true frames now o w i = inl (w refl)
 going_by R true false frames now o w i = inr (i refl refl)
 
-pub linked_going : (R : Reading) (More : List R.One → List Entry → Type 0) (h : List Entry) (side : Side) (failed : Bool) (before now : Option (List ℕ))
+pub linked_going : (R : LinkReading) (More : List R.One → List Entry → Type 0) (h : List Entry) (side : Side) (failed : Bool) (before now : Option (List ℕ))
     (taken : ℕ) (k : LinkBy R More h side failed before now taken) → (all_go_on R k.frames ≡ true) ⊎ IsLinkBy R k.frames now
 linked_going R More h side failed before now taken k = going_by R side.ended k.cut k.frames now k.open' (λ c. (k.why c).0) (λ c e. (k.whole c e).0)
 
-pub linked_stays : (R : Reading) (More Then : List R.One → List Entry → Type 0) (h : List Entry) (side : Side) (failed : Bool)
+pub linked_stays : (R : LinkReading) (More Then : List R.One → List Entry → Type 0) (h : List Entry) (side : Side) (failed : Bool)
     (before now : Option (List ℕ)) (taken : ℕ) → ((fs : List R.One) → More fs h → Then fs h)
     → LinkBy R More h side failed before now taken → LinkEndsBy R Then h before now
 linked_stays R More Then h side failed before now taken m k = record {
@@ -227,7 +227,7 @@ linked_stays R More Then h side failed before now taken m k = record {
 }
 
 -- what was taken behind the frames
-pub linked_stops : (R : Reading) (More Then : List R.One → List Entry → Type 0) (h : List Entry) (side : Side) (failed : Bool)
+pub linked_stops : (R : LinkReading) (More Then : List R.One → List Entry → Type 0) (h : List Entry) (side : Side) (failed : Bool)
     (before old now : Option (List ℕ)) (taken later : ℕ) (r : Result R.One LinkFault) → side.ended ≡ false
     → ((text : List ℕ) × (old ≡ then_left text now) × (later ≡ taken + length text) × R.answers r taken text now)
     → ((fs : List R.One) → More fs h → Then fs h) → LinkBy R More h side failed before old taken → LinkEndsBy R Then h before now
@@ -250,7 +250,7 @@ linked_stops R More Then h side failed before old now taken later r n (text, l, 
     }
 
 -- in the place of an answer that is no value
-pub linked_err : (R : Reading) (More Then : List R.One → List Entry → Type 0) (h g : List Entry) (side : Side) (failed : Bool)
+pub linked_err : (R : LinkReading) (More Then : List R.One → List Entry → Type 0) (h g : List Entry) (side : Side) (failed : Bool)
     (before now : Option (List ℕ)) (taken : ℕ) (result : Result Bool OutOfMemory) → IsErr result → g ≡ h → LinkEndsBy R Then h before now
     → LinkTurnBy R More Then result g side failed before now taken
 linked_err R More Then h g side failed before now taken (Ok x) i e k = absurd (cc)

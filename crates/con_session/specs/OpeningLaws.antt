@@ -6,14 +6,14 @@ use Rattle.std.proofs.lemmas.Bool.Decides.{nat_tests}
 use Rattle.con_handlers.specs.Memory.{Memory}
 use Rattle.con_units.specs.declared.view.Frame.{Frame}
 use Rattle.con_outside.specs.Laws.{then_left-none, then_written-none}
-use Rattle.con_link.specs.Reading.{Reading, plainly}
+use Rattle.con_link.specs.LinkReading.{LinkReading, plainly}
 use Rattle.con_term.specs.Terminal.{Terminal, IsTerminal}
 use Rattle.con_paint.specs.Painter.{Kept}
 use Rattle.con_events.specs.Session.{Clients}
 use Rattle.con_events.specs.declared.end.End.TheVariants as ends
 use Rattle.con_events.specs.declared.entry.Entry.{Entry}
 use Rattle.con_events.specs.declared.script.Script.{Script}
-use Rattle.con_machine.specs.Follows.{begun, kinds_of, steps_of, steps_in}
+use Rattle.con_machine.specs.Follows.{session_start, kinds_of, steps_of, steps_in}
 use Rattle.con_machine.specs.OpeningLaws.{opens}
 use Rattle.con_machine.specs.PresenceLaws.{single_none}
 use Rattle.con_machine.specs.Rounds.{Begun, client_at}
@@ -51,14 +51,14 @@ opens_stands session racks f k l =
       follows = tt;
       here = o.attached (k + 1) ∙ one_of (length session.scripts) k l;
       reading = λ e. o.read (k + 1);
-      single = single_none (begun session racks) (k + 1) refl;
+      single = single_none (session_start session racks) (k + 1) refl;
       pending = λ e. absurd (cc);
     }
 
 pub seated_fresh : (session : Clients) (racks : List (List ℕ)) (f : Option ℕ) (k : ℕ) (script : Script) (w : Worker) (places : List ℕ)
     (ms : List Memory) (slots : List ℕ) → k < length session.scripts → slice_get session.scripts k ≡ Some script → w ≡ fresh
     → ((b : Begun) (p : ℕ) → kinds_of b.racks p ≡ get_or racks (0 + k) [] → HandsStandBy b p [] places ms slots)
-    → Seated (begins session racks f) k (begun session racks) [] script w places ms slots
+    → Seated (begins session racks f) k (session_start session racks) [] script w places ms slots
 seated_fresh session racks f k script w places ms slots l e i hands =
     let b = begins session racks f in
     let n : k + 1 - 1 ≡ k = omega arith in
@@ -78,7 +78,7 @@ get_below [] k x e = absurd (cc)
 get_below (y ∷ ys) zero x e = omega arith
 get_below (y ∷ ys) (suc k) x e = let l = get_below ys k x e in omega arith
 
-pub open_link_by : (R : Reading) (More : List R.One → List Entry → Type 0) (before : Option (List ℕ)) (failed : Bool) → More [] []
+pub open_link_by : (R : LinkReading) (More : List R.One → List Entry → Type 0) (before : Option (List ℕ)) (failed : Bool) → More [] []
     → LinkBy R More [] (record { ended = false; end = ends.Done }) failed before before 0
 open_link_by R More before failed more =
     let P : List Frame → Type 0 = λ z. SideStands [] z false false in
@@ -105,7 +105,7 @@ pub open_canvas : (session : Clients) (racks : List (List ℕ)) (f : Option ℕ)
     → CanvasIs (begins session racks f) [] session.size kept [] [] 0 old old failed
 open_canvas session racks f kept old failed =
     let o = opens session racks in
-    let s = begun session racks in
+    let s = session_start session racks in
     record {
       stands = record {
         matched = tt;

@@ -2,7 +2,7 @@
 use Rattle.std.specs.Prelude.{◌≡◌, ◌⊎◌, ℕ, ◌+◌, ◌≤◌, true, false, List, [], ◌∷◌, ◌++◌, map, flat_map, length, take, Option, Err}
 use Rattle.std.specs.List.{list_all}
 use Rattle.con_outside.specs.Outside.{then_left, then_written, WroteFront}
-use Rattle.con_link.specs.Reading.{Reading, plainly}
+use Rattle.con_link.specs.LinkReading.{LinkReading, plainly}
 use Rattle.con_link.specs.declared.fault.LinkFault.TheVariants as faults
 use Rattle.con_events.specs.Session.{Clients}
 use Rattle.con_events.specs.declared.end.End.{End}
@@ -11,7 +11,7 @@ use Rattle.con_events.specs.declared.entry.Entry.{Entry}
 use Rattle.con_events.specs.declared.event.Event.{Event}
 use Rattle.con_events.specs.declared.event.Event.TheVariants as events
 use Rattle.con_events.specs.declared.reply.Reply.{Reply}
-use Rattle.con_machine.specs.Follows.{Follows, begun, sent_by, is_lost}
+use Rattle.con_machine.specs.Follows.{Follows, session_start, sent_by, is_lost}
 use Rattle.con_machine.specs.History.{is_legal, replies_of}
 use Rattle.con_machine.specs.Rounds.{Rounds, is_memory}
 use Rattle.con_machine.specs.Sights.{sights_of}
@@ -24,13 +24,13 @@ use Rattle.con_session.specs.Sender.{IsLinkBy, NoMore, TakesBehind, all_go_on}
 -- ---- the link
 
 -- the terminal's side sent all frames, and then a hangup that is none of them
-abbrev pub IsCutBy : (R : Reading) → List R.One → List Event → Type 0
+abbrev pub IsCutBy : (R : LinkReading) → List R.One → List Event → Type 0
 IsCutBy R frames sent' = (all_go_on R frames ≡ true) × (sent' ≡ map sent_by (R.plains frames) ++ events.Hangup ∷ [])
 
 -- What the terminal's side made of the link, by the session's end: of these frames, the bytes taken behind them and what is left.
 -- At the end Done the frames are the link, to its end or to its X, and all were sent. Where the link failed, has too many bytes or no frame at a place,
 -- the frames are those before that, and all were sent.
-abbrev pub HasSentBy : (R : Reading) → End → List R.One → List ℕ → Option (List ℕ) → List Event → Type 0
+abbrev pub HasSentBy : (R : LinkReading) → End → List R.One → List ℕ → Option (List ℕ) → List Event → Type 0
 HasSentBy R ends.Done frames text left sent' = IsLinkBy R frames left × (text ≡ []) × (length (flat_map R.spelling frames) ≤ 16777216)
     × (sent' ≡ map sent_by (R.plains frames))
 HasSentBy R ends.Link frames text left sent' = IsCutBy R frames sent' × R.answers (Err faults.Failed) (length (flat_map R.spelling frames)) text left
@@ -55,11 +55,11 @@ last_end es = end_of 0 es
 -- Of a session and the kinds of its racks' handlers (0 for one that was asked before, or that tells nothing): the history, its answers, the ends of the frames
 -- and the session's end, what the link had left before and after, and what was written to the terminal before and after.
 -- Its link is read in this way, and this is known of its frames besides.
-pub record LeavesBy (R : Reading) (More : List R.One → List Entry → Type 0) (session : Clients) (racks : List (List ℕ)) (h : List Entry)
+pub record LeavesBy (R : LinkReading) (More : List R.One → List Entry → Type 0) (session : Clients) (racks : List (List ℕ)) (h : List Entry)
     (rs : List Reply) (es : List ℕ) (end : End) (before left old now : Option (List ℕ)) : Type 0 where
   -- each event is ready where it stands, and was answered as the one console answers it
-  pub legal : is_legal (begun session racks) h ≡ true
-  pub replies : rs ≡ map listed (replies_of (begun session racks) h)
+  pub legal : is_legal (session_start session racks) h ≡ true
+  pub replies : rs ≡ map listed (replies_of (session_start session racks) h)
   -- the frames that were read, and the bytes taken behind them
   pub frames : List R.One
   pub text : List ℕ
@@ -70,7 +70,7 @@ pub record LeavesBy (R : Reading) (More : List R.One → List Entry → Type 0) 
   pub side : HasSentBy R end frames text left (sent h)
   pub more : More frames h
   -- the history follows the session and these frames
-  pub follows : Follows (begun session racks) h session racks (R.plains frames) end
+  pub follows : Follows (session_start session racks) h session racks (R.plains frames) end
   -- the stream that was built, to its last end; the bytes written are a front of it: all of it, unless the terminal failed or there was no memory
   pub built : List ℕ
   pub long : length built ≡ last_end es
@@ -80,14 +80,14 @@ pub record LeavesBy (R : Reading) (More : List R.One → List Entry → Type 0) 
   pub ends' : is_memory end ≡ false → length es ≡ paints h
   pub but_last : (length es ≡ paints h) ⊎ (length es + 1 ≡ paints h)
   -- in every terminal run of what was built, and of each front of it, each Paint shows its view and prints no more than it has to
-  pub shows : (n : ℕ) → EachRun ShowsView session.size (take n built) (sights_of (begun session racks) h) es
-  pub few : (n : ℕ) → EachRun PrintsFew session.size (take n built) (sights_of (begun session racks) h) es
-  pub new_rows : (n : ℕ) → EachRun PrintsNewRows session.size (take n built) (sights_of (begun session racks) h) es
+  pub shows : (n : ℕ) → EachRun ShowsView session.size (take n built) (sights_of (session_start session racks) h) es
+  pub few : (n : ℕ) → EachRun PrintsFew session.size (take n built) (sights_of (session_start session racks) h) es
+  pub new_rows : (n : ℕ) → EachRun PrintsNewRows session.size (take n built) (sights_of (session_start session racks) h) es
   -- every client has left and the terminal's side has ended, unless there was no memory
-  pub left' : is_memory end ≡ false → HaveAllLeft (begun session racks) h session racks
+  pub left' : is_memory end ≡ false → HaveAllLeft (session_start session racks) h session racks
   pub ended : is_memory end ≡ false → has_ended false (sent h) ≡ true
   -- and the terminal was shown all
-  pub whole : is_lost end ≡ false → IsWhole (begun session racks) h session racks
+  pub whole : is_lost end ≡ false → IsWhole (session_start session racks) h session racks
 
 -- of a session with no second terminal
 abbrev pub Leaves : Clients → List (List ℕ) → List Entry → List Reply → List ℕ → End → Option (List ℕ) → Option (List ℕ)
@@ -95,11 +95,11 @@ abbrev pub Leaves : Clients → List (List ℕ) → List Entry → List Reply �
 Leaves session racks h rs es end before left old now = LeavesBy plainly NoMore session racks h rs es end before left old now
 
 -- of a session by turns, besides: its history is rounds of these turns
-pub record IsOutcomeBy (R : Reading) (More : List R.One → List Entry → Type 0) (session : Clients) (racks : List (List ℕ)) (h : List Entry)
+pub record IsOutcomeBy (R : LinkReading) (More : List R.One → List Entry → Type 0) (session : Clients) (racks : List (List ℕ)) (h : List Entry)
     (rs : List Reply) (es : List ℕ) (end : End) (before left old now : Option (List ℕ)) : Type 0 where
   pub leaves : LeavesBy R More session racks h rs es end before left old now
-  pub rounds : Rounds (begun session racks) h session racks end
+  pub rounds : Rounds (session_start session racks) h session racks end
 
-abbrev pub IsOutcome : Clients → List (List ℕ) → List Entry → List Reply → List ℕ → End → Option (List ℕ) → Option (List ℕ)
+abbrev pub IsSoloOutcome : Clients → List (List ℕ) → List Entry → List Reply → List ℕ → End → Option (List ℕ) → Option (List ℕ)
     → Option (List ℕ) → Option (List ℕ) → Type 0
-IsOutcome session racks h rs es end before left old now = IsOutcomeBy plainly NoMore session racks h rs es end before left old now
+IsSoloOutcome session racks h rs es end before left old now = IsOutcomeBy plainly NoMore session racks h rs es end before left old now

@@ -6,7 +6,7 @@ use Rattle.con_events.specs.declared.event.Event.{Event}
 use Rattle.con_events.specs.declared.reply.Reply.{Reply}
 use Rattle.con_events.specs.declared.script.Script.{Script}
 use Rattle.con_handlers.specs.Memory.{Memory}
-use Rattle.con_machine.specs.Rounds.{Begun, AreTurns, clients_from, entries_of, is_nobody}
+use Rattle.con_machine.specs.Rounds.{Begun, AreTurns, clients_from, round_entries, is_nobody}
 use Rattle.con_machine.specs.State.{State}
 use Rattle.con_session.specs.Desk.{Stands}
 use Rattle.con_session.specs.Standing.{ClientStands}
@@ -29,7 +29,7 @@ AllStandBy b s h scripts ws places ms slots = (k : ℕ) (script : Script) (w : W
 pub record HaveTurns (broken : Bool) (b : Begun) (s t : State) (h g : List Entry) (rs qs : List Reply) (n : ℕ) : Type 0 where
   pub turns : List (Option Event)
   pub are : AreTurns broken b h (clients_from 0 n) turns
-  pub entries : g ≡ h ++ entries_of (clients_from 0 n) turns
+  pub entries : g ≡ h ++ round_entries (clients_from 0 n) turns
   pub stands : Stands b.state s h rs → Stands b.state t g qs
 
 -- each of n clients follows its script

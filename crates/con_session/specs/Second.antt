@@ -6,7 +6,7 @@ use Rattle.con_units.specs.declared.place.Size.{Size}
 use Rattle.con_units.specs.declared.view.View.{View}
 use Rattle.con_units.specs.declared.view.Sight.{Sight}
 use Rattle.con_outside.specs.Outside.{then_written, WroteFront}
-use Rattle.con_link.specs.Reading.{mirrored}
+use Rattle.con_link.specs.LinkReading.{mirrored}
 use Rattle.con_link.specs.declared.fault.LinkFault.{LinkFault}
 use Rattle.con_link.specs.declared.mirror.MirrorFrame.{MirrorFrame}
 use Rattle.con_link.specs.declared.mirror.MirrorFrame.TheVariants.{Plain, Attach, Detach}
@@ -20,7 +20,7 @@ use Rattle.con_events.specs.declared.entry.Entry.{Entry}
 use Rattle.con_events.specs.declared.event.Event.TheVariants as events
 use Rattle.con_events.specs.declared.reply.Reply.{Reply}
 use Rattle.con_machine.specs.Along.{after}
-use Rattle.con_machine.specs.Follows.{begun}
+use Rattle.con_machine.specs.Follows.{session_start}
 use Rattle.con_machine.specs.Rounds.{is_memory}
 use Rattle.con_machine.specs.State.{State}
 use Rattle.con_machine.specs.Turns.{paints}
@@ -157,4 +157,4 @@ MirrorLinkIs s kept es end written now lost h side failed before left taken =
 abbrev pub IsMirrorOutcome : Clients → List (List ℕ) → List Entry → List Reply → List ℕ → End → List ℕ → Bool → Option (List ℕ) → Option (List ℕ)
     → Option (List ℕ) → Option (List ℕ) → Option (List ℕ) → Option (List ℕ) → Type 0
 IsMirrorOutcome session racks h rs es end seconds lost before left old now was written = IsOutcomeBy mirrored
-    (λ frames g. Mirrors (begun session racks) frames session.size seconds was written lost (is_memory end) g) session racks h rs es end before left old now
+    (λ frames g. Mirrors (session_start session racks) frames session.size seconds was written lost (is_memory end) g) session racks h rs es end before left old now

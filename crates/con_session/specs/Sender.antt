@@ -5,7 +5,7 @@ use Rattle.con_units.specs.declared.code.OutOfMemory.{OutOfMemory}
 use Rattle.con_units.specs.declared.view.Frame.{Frame}
 use Rattle.con_outside.specs.Outside.{then_left}
 use Rattle.con_link.specs.Frames.{goes_on, ends_link, IsEnd}
-use Rattle.con_link.specs.Reading.{Reading, plainly}
+use Rattle.con_link.specs.LinkReading.{LinkReading, plainly}
 use Rattle.con_link.specs.declared.fault.LinkFault.{LinkFault}
 use Rattle.con_link.specs.declared.fault.LinkFault.TheVariants as faults
 use Rattle.con_events.specs.declared.actor.Actor.TheVariants as actors
@@ -51,22 +51,22 @@ pub record SideStands (h : List Entry) (coming : List Frame) (cut ended : Bool) 
 
 -- ---- the link, in either way of reading it
 
-abbrev pub all_go_on : (R : Reading) → List R.One → Bool
+abbrev pub all_go_on : (R : LinkReading) → List R.One → Bool
 all_go_on R fs = list_all (λ f. goes_on (R.plain f)) fs
 
 -- frames of which the last one, and it alone, ends the link, of which this is left
-abbrev pub IsLinkBy : (R : Reading) → List R.One → Option (List ℕ) → Type 0
+abbrev pub IsLinkBy : (R : LinkReading) → List R.One → Option (List ℕ) → Type 0
 IsLinkBy R frames left = (front : List R.One) × (last : R.One) × (frames ≡ front ++ last ∷ []) × (all_go_on R front ≡ true)
     × (ends_link (R.plain last) ≡ true) × IsEnd (R.plain last) left
 
 -- Behind the frames nothing was taken of the link, or no more than one reading takes: a frame, of which no event came, a front of one, or the bytes to the
 -- one that shows a fault. Behind a frame that ends the link it is nothing.
-abbrev pub TakesBehind : (R : Reading) → List R.One → List ℕ → Option (List ℕ) → Type 0
+abbrev pub TakesBehind : (R : LinkReading) → List R.One → List ℕ → Option (List ℕ) → Type 0
 TakesBehind R frames text left =
     (text ≡ []) ⊎ ((all_go_on R frames ≡ true) × (r : Result R.One LinkFault) × R.answers r (length (flat_map R.spelling frames)) text left)
 
 -- what was read of the link, and why no more is; and what more is known of the frames that were read
-pub record LinkBy (R : Reading) (More : List R.One → List Entry → Type 0) (h : List Entry) (side : Side) (failed : Bool)
+pub record LinkBy (R : LinkReading) (More : List R.One → List Entry → Type 0) (h : List Entry) (side : Side) (failed : Bool)
     (before now : Option (List ℕ)) (taken : ℕ) : Type 0 where
   pub frames : List R.One
   pub extra : List ℕ
@@ -86,7 +86,7 @@ pub record LinkBy (R : Reading) (More : List R.One → List Entry → Type 0) (h
   pub more : More frames h
 
 -- what is known of it where there is no memory
-pub record LinkEndsBy (R : Reading) (More : List R.One → List Entry → Type 0) (h : List Entry) (before now : Option (List ℕ)) : Type 0 where
+pub record LinkEndsBy (R : LinkReading) (More : List R.One → List Entry → Type 0) (h : List Entry) (before now : Option (List ℕ)) : Type 0 where
   pub frames : List R.One
   pub extra : List ℕ
   pub cut : Bool
@@ -109,7 +109,7 @@ abbrev pub LinkEnds : List Entry → Option (List ℕ) → Option (List ℕ) →
 LinkEnds h before now = LinkEndsBy plainly NoMore h before now
 
 -- what a turn of the terminal's side leaves of the link
-abbrev pub LinkTurnBy : (R : Reading) (More Then : List R.One → List Entry → Type 0)
+abbrev pub LinkTurnBy : (R : LinkReading) (More Then : List R.One → List Entry → Type 0)
     → Result Bool OutOfMemory → List Entry → Side → Bool → Option (List ℕ) → Option (List ℕ) → ℕ → Type 0
 LinkTurnBy R More Then (Ok acted) h side failed before now taken = LinkBy R More h side failed before now taken
 LinkTurnBy R More Then (Err e) h side failed before now taken = LinkEndsBy R Then h before now
@@ -118,7 +118,7 @@ abbrev pub LinkTurn : Result Bool OutOfMemory → List Entry → Side → Bool �
 LinkTurn result h side failed before now taken = LinkTurnBy plainly NoMore NoMore result h side failed before now taken
 
 -- what was read, as every link has it
-abbrev pub plain_of : (R : Reading) → Result R.One LinkFault → Result Frame LinkFault
+abbrev pub plain_of : (R : LinkReading) → Result R.One LinkFault → Result Frame LinkFault
 plain_of R (Ok f) = Ok (R.plain f)
 plain_of R (Err e) = Err e
 

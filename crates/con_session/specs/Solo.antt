@@ -2,7 +2,7 @@
 use Rattle.std.specs.Prelude.{◌≡◌, ◌⊎◌, ℕ, ◌+◌, ◌<◌, Bool, true, false, List, [], ◌++◌, length, map, Option, Result, Ok, Err}
 use Rattle.con_handlers.specs.Memory.{Memory}
 use Rattle.con_units.specs.declared.code.OutOfMemory.{OutOfMemory}
-use Rattle.con_link.specs.Reading.{Reading, plainly}
+use Rattle.con_link.specs.LinkReading.{LinkReading, plainly}
 use Rattle.con_paint.specs.Painter.{Kept}
 use Rattle.con_events.specs.Session.{Clients}
 use Rattle.con_events.specs.declared.end.End.{End}
@@ -12,9 +12,9 @@ use Rattle.con_events.specs.declared.event.Event.{Event}
 use Rattle.con_events.specs.declared.reply.Reply.{Reply}
 use Rattle.con_events.specs.declared.script.Script.{Script}
 use Rattle.con_machine.specs.Along.{after}
-use Rattle.con_machine.specs.Follows.{AreAnswered, asks, are_of_session, begun}
+use Rattle.con_machine.specs.Follows.{AreAnswered, asks, are_of_session, session_start}
 use Rattle.con_machine.specs.History.{run, is_legal, replies_of}
-use Rattle.con_machine.specs.Rounds.{Begun, AreTurns, AreRounds, all_entries, all_order, entries_of, is_nobody}
+use Rattle.con_machine.specs.Rounds.{Begun, AreTurns, AreRounds, all_entries, all_order, round_entries, is_nobody}
 use Rattle.con_machine.specs.State.{State}
 use Rattle.con_machine.specs.Turns.{paints}
 use Rattle.con_session.specs.Desk.{Stands, listed}
@@ -49,7 +49,7 @@ pub record AsksStand (b : Begun) (h : List Entry) (lost : Bool) : Type 0 where
   pub asked' : after asks false h ≡ (run b.state h).asked
 
 -- what holds between two turns; of the link this was left at the beginning, and to the terminal this was written
-pub record HoldsBy (R : Reading) (More : List R.One → List Entry → Type 0) (b : Begun) (scripts : List Script)
+pub record HoldsBy (R : LinkReading) (More : List R.One → List Entry → Type 0) (b : Begun) (scripts : List Script)
     (before old : Option (List ℕ)) (m : Moment) : Type 0 where
   pub scripts' : scripts ≡ b.session.scripts
   pub stands : Stands b.state m.state m.entries m.replies
@@ -66,7 +66,7 @@ Holds b scripts before old m = HoldsBy plainly NoMore b scripts before old m
 
 -- a session's beginning
 abbrev pub begins : Clients → List (List ℕ) → Option ℕ → Begun
-begins session racks f = record { state = begun session racks; session = session; racks = racks; failed = f }
+begins session racks f = record { state = session_start session racks; session = session; racks = racks; failed = f }
 
 -- the same beginning, where the terminal counts as failed from this Paint on
 abbrev pub fails_at : Begun → Option ℕ → Begun
@@ -77,7 +77,7 @@ abbrev pub HasRounds : Begun → List Entry → Type 0
 HasRounds b h = (rounds : List (List (Option Event))) × AreRounds b [] rounds × (h ≡ all_entries (all_order b) rounds)
 
 -- what holds between two rounds: besides, no Ask is out
-pub record GoesBy (R : Reading) (More : List R.One → List Entry → Type 0) (b : Begun) (scripts : List Script)
+pub record GoesBy (R : LinkReading) (More : List R.One → List Entry → Type 0) (b : Begun) (scripts : List Script)
     (before old : Option (List ℕ)) (m : Moment) : Type 0 where
   pub holds : HoldsBy R More b scripts before old m
   pub served : (m.state.asked ≡ false) ⊎ (m.failed ≡ true)
@@ -94,10 +94,10 @@ AllIdle b h = (last : List (Option Event)) × AreTurns false b h (all_order b) l
 abbrev pub BreaksOff : Begun → List Entry → Type 0
 BreaksOff b h = (rounds : List (List (Option Event))) × (last : List (Option Event)) × AreRounds b [] rounds
     × AreTurns true b (all_entries (all_order b) rounds) (all_order b) last
-    × (h ≡ all_entries (all_order b) rounds ++ entries_of (all_order b) last)
+    × (h ≡ all_entries (all_order b) rounds ++ round_entries (all_order b) last)
 
 -- what holds where there was no memory
-pub record StopsBy (R : Reading) (More : List R.One → List Entry → Type 0) (b : Begun) (before old : Option (List ℕ)) (h : List Entry) (rs : List Reply)
+pub record StopsBy (R : LinkReading) (More : List R.One → List Entry → Type 0) (b : Begun) (before old : Option (List ℕ)) (h : List Entry) (rs : List Reply)
     (ends : List ℕ) (left written : Option (List ℕ)) (failed : Bool) : Type 0 where
   pub legal : is_legal b.state h ≡ true
   pub replies : rs ≡ map listed (replies_of b.state h)
@@ -109,7 +109,7 @@ pub record StopsBy (R : Reading) (More : List R.One → List Entry → Type 0) (
   pub rounds : BreaksOff b h
 
 -- a round after a history: false where nobody had anything to do
-abbrev pub RoundTurnBy : (R : Reading) (More Then : List R.One → List Entry → Type 0)
+abbrev pub RoundTurnBy : (R : LinkReading) (More Then : List R.One → List Entry → Type 0)
     → Result Bool OutOfMemory → Begun → List Script → Option (List ℕ) → Option (List ℕ) → List Entry → Moment → Type 0
 RoundTurnBy R More Then (Ok true) b scripts before old h m = GoesBy R More b scripts before old m × (length h < length m.entries)
 RoundTurnBy R More Then (Ok false) b scripts before old h m = GoesBy R More b scripts before old m × AllIdle b m.entries
@@ -119,7 +119,7 @@ abbrev pub RoundTurn : Result Bool OutOfMemory → Begun → List Script → Opt
 RoundTurn result b scripts before old h m = RoundTurnBy plainly NoMore NoMore result b scripts before old h m
 
 -- rounds until nobody has anything to do
-abbrev pub RoundsTurnBy : (R : Reading) (More Then : List R.One → List Entry → Type 0)
+abbrev pub RoundsTurnBy : (R : LinkReading) (More Then : List R.One → List Entry → Type 0)
     → Result (Unit {0}) OutOfMemory → Begun → List Script → Option (List ℕ) → Option (List ℕ) → Moment → Type 0
 RoundsTurnBy R More Then (Ok done) b scripts before old m = GoesBy R More b scripts before old m × AllIdle b m.entries
 RoundsTurnBy R More Then (Err e) b scripts before old m = StopsBy R Then b before old m.entries m.replies m.ends m.left m.written m.failed

@@ -1,7 +1,7 @@
 //! A session by turns with a second terminal: rounds until nobody acts.
 ghost use Rattle.std.specs.Prelude.{◌≡◌, ◌⊎◌, ℕ, ◌<◌, ◌≤◌, Bool, true, false, List, [], All, length, map, None, Option, IfOk};
 ghost use Rattle.con_outside.specs.Outside.{Rose};
-ghost use Rattle.con_link.specs.Reading.{mirrored};
+ghost use Rattle.con_link.specs.LinkReading.{mirrored};
 ghost use Rattle.con_events.specs.declared.end.End.{End};
 ghost use Rattle.con_machine.specs.Rounds.{Begun};
 ghost use Rattle.con_machine.specs.Turns.{paints};
@@ -17,7 +17,7 @@ use crate::seat::{Seat, clients_turn};
 use crate::second::{Second, followed, mirrored_turn};
 use crate::solo::{Outcome, any_of, end_of, left_by, nothing_left};
 use crate::stage::{Stage, begun};
-use con_events::{End, Ends, Script, Session};
+use con_events::{End, PieceEnds, Script, Session};
 use con_handlers::CtrlHandler;
 use con_mirror::Mirror;
 use con_outside::{Sink, Source};
@@ -29,7 +29,7 @@ use std::alloc::Global;
 #[derive(Drop)]
 pub struct Mirrored {
     pub outcome: Outcome,
-    pub ends: Ends,
+    pub ends: PieceEnds,
     pub failed: bool,
 }
 
@@ -158,7 +158,7 @@ fn left_with(outcome: Outcome, second: Second) -> Mirrored
 {
     Mirrored {
         outcome,
-        ends: Ends(second.ends),
+        ends: PieceEnds(second.ends),
         failed: second.failed,
     }
 }

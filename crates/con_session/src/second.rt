@@ -4,7 +4,7 @@ ghost use Rattle.con_units.specs.View.{IsWhole};
 ghost use Rattle.con_units.specs.declared.place.Size.{Size};
 ghost use Rattle.con_outside.specs.Outside.{Rose};
 ghost use Rattle.con_link.specs.Mirrored.{is_mirror_frame};
-ghost use Rattle.con_link.specs.Reading.{mirrored};
+ghost use Rattle.con_link.specs.LinkReading.{mirrored};
 ghost use Rattle.con_link.specs.declared.mirror.MirrorFrame.{MirrorFrame};
 ghost use Rattle.con_mirror.specs.Mirror.{AreSince};
 ghost use Rattle.con_events.specs.declared.actor.Actor.TheVariants as actors;

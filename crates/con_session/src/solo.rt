@@ -5,7 +5,7 @@ ghost use Rattle.con_events.specs.declared.end.End.{End};
 ghost use Rattle.con_machine.specs.Rounds.{Begun};
 ghost use Rattle.con_machine.specs.Turns.{paints};
 ghost use Rattle.con_session.specs.Held.{moment};
-ghost use Rattle.con_session.specs.Outcome.{IsOutcome};
+ghost use Rattle.con_session.specs.Outcome.{IsSoloOutcome};
 ghost use Rattle.con_session.specs.Painting.{IsTied};
 ghost use Rattle.con_session.specs.Sender.{FailsBy};
 ghost use Rattle.con_session.specs.Solo.{Goes, RoundTurn, RoundsTurn, end_by, fails_at};
@@ -16,7 +16,7 @@ use crate::painting::painter_turn;
 use crate::seat::{Seat, clients_turn};
 use crate::stage::{Stage, begun};
 use crate::terminal::terminal_turn;
-use con_events::{End, Ends, Entries, Replies, Script, Session};
+use con_events::{End, Entries, PieceEnds, Replies, Script, Session};
 use con_handlers::CtrlHandler;
 use con_outside::{Sink, Source};
 use con_units::OutOfMemory;
@@ -28,7 +28,7 @@ use std::alloc::Global;
 pub struct Outcome {
     pub entries: Entries,
     pub replies: Replies,
-    pub ends: Ends,
+    pub ends: PieceEnds,
     pub end: End,
 }
 
@@ -141,7 +141,7 @@ pub(crate) fn left_by(stage: Stage, end: End) -> Outcome
     Outcome {
         entries: Entries(entries),
         replies: Replies(replies),
-        ends: Ends(canvas.ends),
+        ends: PieceEnds(canvas.ends),
         end,
     }
 }
@@ -156,7 +156,7 @@ pub fn nothing_left(alloc: Global) -> Outcome
     Outcome {
         entries: Entries(Vec::new(alloc)),
         replies: Replies(Vec::new(alloc)),
-        ends: Ends(Vec::new(alloc)),
+        ends: PieceEnds(Vec::new(alloc)),
         end: End::Memory,
     }
 }
@@ -171,7 +171,7 @@ pub fn run_solo<I: Source, O: Sink>(
     racks: Vec<Vec<Box<dyn CtrlHandler + Send>>>,
 ) -> Outcome
     requires few { All (λ rack. length rack.items ≤ 255) racks.items }
-    ensures outcome { IsOutcome session.now (map (λ rack. map (λ b. told_kind (memory b)) rack.items) racks.items)
+    ensures outcome { IsSoloOutcome session.now (map (λ rack. map (λ b. told_kind (memory b)) rack.items) racks.items)
         result.entries result.replies result.ends result.end (I.left link.old) (I.left link.new) (O.written term.old) (O.written term.new) }
     ensures link { result.end ≡ End.Link → Rose (I.faults link.old) (I.faults link.new) }
     ensures term { result.end ≡ End.Term → Rose (O.faults term.old) (O.faults term.new) }

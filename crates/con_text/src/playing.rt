@@ -4,7 +4,7 @@ ghost use Rattle.std.specs.Prelude.{◌≡◌, ℕ, ◌+◌, ◌<◌, ◌≤◌,
 ghost use Rattle.con_outside.specs.Outside.{Rose, then_left, then_written};
 ghost use Rattle.con_text.specs.Playing.{Played};
 
-use crate::reading::{Listener, Reading, read_link};
+use crate::reading::{Listener, ReadEnd, read_link};
 use crate::text::encoded;
 use con_ending::{DONE, LINK, MEMORY, REPORT, TOO_LONG, finish};
 use con_outside::{Fault, Sink, Source, write_whole};
@@ -55,10 +55,10 @@ pub fn host_play<I: Source, R: Sink>(alloc: Global, size: Size, link: &mut I, re
         return MEMORY;
     };
     match read_link(link, &mut terminal) {
-        Reading::Failed => return finish(alloc, report, LINK),
-        Reading::TooLong => return finish(alloc, report, TOO_LONG),
-        Reading::Memory => return MEMORY,
-        Reading::End => {}
+        ReadEnd::Failed => return finish(alloc, report, LINK),
+        ReadEnd::TooLong => return finish(alloc, report, TOO_LONG),
+        ReadEnd::Memory => return MEMORY,
+        ReadEnd::End => {}
     }
     let Ok(bytes) = dumped(alloc, &terminal) else {
         return MEMORY;

@@ -1,4 +1,4 @@
-//! Reading a link to its end.
+//! ReadEnd a link to its end.
 
 ghost use Rattle.std.specs.Prelude.{◌≡◌, ◌≢◌, ℕ, ◌+◌, ◌<◌, ◌≤◌, List, [], ◌++◌, length, Option, Some, None, IfSome, OnOk};
 ghost use Rattle.con_outside.specs.Outside.{Rose, then_left};
@@ -15,7 +15,7 @@ const PIECE: usize = 4096;
 
 /// How the reading of a link ended.
 #[derive(Clone, Copy, Debug, PartialEq, Eq, Drop)]
-pub enum Reading {
+pub enum ReadEnd {
     /// The link was read to its end.
     End,
     /// The link failed.
@@ -42,23 +42,23 @@ pub trait Listener {
 }
 
 /// Reads a link to its end, to a fault, or past the most bytes that it may have, and hands them to a listener.
-pub fn read_link<I: Source, L: Listener>(link: &mut I, listener: &mut L) -> Reading
+pub fn read_link<I: Source, L: Listener>(link: &mut I, listener: &mut L) -> ReadEnd
     ensures taken { (text : List ℕ) × (I.left link.old ≡ then_left text (I.left link.new)) × IsRead result text (I.left link.new)
-        × (result ≢ Reading.Memory → L.became listener.old text listener.new) }
-    ensures failed { result ≡ Reading.Failed → Rose (I.faults link.old) (I.faults link.new) }
+        × (result ≢ ReadEnd.Memory → L.became listener.old text listener.new) }
+    ensures failed { result ≡ ReadEnd.Failed → Rose (I.faults link.old) (I.faults link.new) }
     ensures never_falls { I.faults link.old ≤ I.faults link.new }
 {
     let mut piece = [0u8; PIECE];
     let mut total: u64 = 0;
     while total <= MOST {
         match link.read(&mut piece) {
-            Ok(0) => return Reading::End,
+            Ok(0) => return ReadEnd::End,
             Ok(n) => match listener.hear(&piece[..n]) {
                 Ok(()) => total += n as u64,
-                Err(_) => return Reading::Memory,
+                Err(_) => return ReadEnd::Memory,
             },
-            Err(_) => return Reading::Failed,
+            Err(_) => return ReadEnd::Failed,
         }
     }
-    Reading::TooLong
+    ReadEnd::TooLong
 }

@@ -9,7 +9,7 @@ ghost use Rattle.con_screen.specs.Told.{nothing_told};
 ghost use Rattle.con_text.specs.Typing.{Typing, opening, ended, ShowsBuffers, PrintsAtMost, Typed};
 
 use crate::framing::frame;
-use crate::reading::{Listener, Reading, read_link};
+use crate::reading::{Listener, ReadEnd, read_link};
 use con_ending::{DONE, LINK, MEMORY, TERMINAL, TOO_LONG, finish};
 use con_outside::{Fault, Sink, Source, write_whole};
 use con_screen::Answers;
@@ -151,10 +151,10 @@ pub fn host_type<I: Source, O: Sink, R: Sink>(
         return MEMORY;
     };
     match read_link(link, &mut typist) {
-        Reading::Failed => return finish(alloc, report, LINK),
-        Reading::TooLong => return finish(alloc, report, TOO_LONG),
-        Reading::Memory => return MEMORY,
-        Reading::End => {}
+        ReadEnd::Failed => return finish(alloc, report, LINK),
+        ReadEnd::TooLong => return finish(alloc, report, TOO_LONG),
+        ReadEnd::Memory => return MEMORY,
+        ReadEnd::End => {}
     }
     let Ok(bytes) = typist.end(alloc) else {
         return MEMORY;

@@ -13,7 +13,7 @@ use Rattle.con_session.specs.OpeningLaws.{open_canvas, open_link, side_first}
 use Rattle.con_session.specs.Painting.{IsTied, Written}
 use Rattle.con_session.specs.Solo.{begins}
 use Rattle.con_session.specs.declared.terminal.Side.{Side}
-use Rattle.con_pipe.specs.Ends.{pieces_put, pieces_taken}
+use Rattle.con_pipe.specs.PipeEnds.{pieces_put, pieces_taken}
 use Rattle.con_pipe.specs.declared.put.PipeIn.{PipeIn}
 use Rattle.con_threads.specs.Crews.{down_from}
 use Rattle.con_threads.specs.Painters.{PainterGoes}

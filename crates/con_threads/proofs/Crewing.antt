@@ -27,7 +27,7 @@ use Rattle.con_book.specs.declared.pass.Pass.{Pass}
 use Rattle.con_threads.specs.Clients.{ClientGoes, ClientView, HasServedBy, IsClientThreadBy, ViewGoes}
 use Rattle.con_threads.specs.Crews.{AllServed, AreNew, Begins, Belongs, CrewGoes, IsAt, IsCrew, IsOpening, down_from}
 use Rattle.con_threads.specs.Scribe.{IsSameScribe, IsScribe, history}
-use Rattle.con_threads.specs.declared.ledger.Page.{Page}
+use Rattle.con_threads.specs.declared.ledger.LedgerView.{LedgerView}
 use Rattle.con_threads.specs.declared.scribe.Scribe.{Scribe}
 
 pub down_below : (n m : ℕ) → n < m → All (λ a. a < m) (down_from n)
@@ -60,7 +60,7 @@ module _ {X : Type 0} where
   get_push (z ∷ zs) x y (suc k) h = ⊎_elim inl (λ e. inr (ap suc e.0, e.1)) (get_push zs x y k h)
 
 -- the same scribe
-pub served_at : (id : BookId) (start : Page) (n : ℕ) (s t : Scribe) → IsAt id start n s → IsSameScribe s t → IsAt id start n t
+pub served_at : (id : BookId) (start : LedgerView) (n : ℕ) (s t : Scribe) → IsAt id start n s → IsSameScribe s t → IsAt id start n t
 served_at id start n s t a same = record {
   book = same.pass.0 ∙ a.book;
   actor' = same.pass.1.1 ∙ a.actor';
@@ -69,10 +69,10 @@ served_at id start n s t a same = record {
 }
 
 -- a new client, at its place
-abbrev pub IsNew : BookId → Page → List Script → ℕ → ClientView → Type 0
+abbrev pub IsNew : BookId → LedgerView → List Script → ℕ → ClientView → Type 0
 IsNew id start scripts k v = (script : Script) × (slice_get scripts k ≡ Some script) × Begins id start script (k + 1) v
 
-module _ {C : Type 0} (view : C → ClientView) (id : BookId) (start : Page) where
+module _ {C : Type 0} (view : C → ClientView) (id : BookId) (start : LedgerView) where
   pub new_none : (scripts : List Script) → AreNew view id start scripts []
   new_none scripts k c e = absurd (cc)
 
@@ -103,7 +103,7 @@ module _ {C : Type 0} (view : C → ClientView) (id : BookId) (start : Page) whe
   pub served_goes : (b : Begun) (os cs : List C) → start.state ≡ b.state → AllServed view os cs → IsCrew view id start os → CrewGoes view b os
       → CrewGoes view b cs
   served_goes b os cs e all crew goes =
-      λ k c is. let (o, at, h) = served_one os cs k c all is in h.goes b (ap (λ (p : Page). p.state) (crew k o at).at.begins ∙ e) (goes k o at)
+      λ k c is. let (o, at, h) = served_one os cs k c all is in h.goes b (ap (λ (p : LedgerView). p.state) (crew k o at).at.begins ∙ e) (goes k o at)
 
   -- they may work
   pub crew_works : (cs : List C) → IsCrew view id start cs → All (λ c. (pass_id (view c).scribe.pass ≡ id) × IsClientThreadBy (view c)) cs
@@ -156,7 +156,7 @@ new_goes session racks k script v is number steps none worker hands =
     subst (λ (z : ℕ × List Entry × List Step × Worker). ClientGoes b z.0 z.1 z.2 v.broken z.3 v.places v.memories v.slots)
     (λ i. (sym number i, sym none i, sym steps i, sym worker i)) first
 
-pub all_new_go : {C : Type 0} (view : C → ClientView) (id : BookId) (start : Page) (session : Clients) (racks : List (List ℕ)) (scripts : List Script)
+pub all_new_go : {C : Type 0} (view : C → ClientView) (id : BookId) (start : LedgerView) (session : Clients) (racks : List (List ℕ)) (scripts : List Script)
     (cs : List C)
     → scripts ≡ session.scripts → AreNew view id start scripts cs
     → AreFreshBy (λ c. (view c).worker) (λ c. (view c).places) (λ c. (view c).memories) (λ c. (view c).slots) racks 0 cs
@@ -178,16 +178,16 @@ seats_on : {C T : Type 0} (seat : C → T) (cs : List C) (c : C) (rest : List T)
 seats_on seat [] c rest = refl
 seats_on {C} {T} seat (d ∷ ds) c rest = ap (λ (l : List T). seat d ∷ l) (seats_on seat ds c rest)
 
-module _ {C T M R A Room : Type 0} {g : Ghosts M Page Event R A Room} (view : C → ClientView) (seat : C → T) (id : BookId) (start : Page)
+module _ {C T M R A Room : Type 0} {g : Ghosts M LedgerView Event R A Room} (view : C → ClientView) (seat : C → T) (id : BookId) (start : LedgerView)
     (scripts : List Script)
     (seats : List T) where
   -- the clients of the first seats were made
-  pub record AreSeated (opening : Pass M Page Event R A Room g) (crew : List C) (rest : List T) : Type 0 where
+  pub record AreSeated (opening : Pass M LedgerView Event R A Room g) (crew : List C) (rest : List T) : Type 0 where
     pub opening' : IsOpening id start (down_from (length crew)) opening
     pub seats' : map seat crew ++ rest ≡ seats
     pub crew' : AreNew view id start scripts crew
 
-  pub seated_first : (opening : Pass M Page Event R A Room g) (crew : List C) (rest : List T) → crew ≡ [] → rest ≡ seats → IsOpening id start [] opening
+  pub seated_first : (opening : Pass M LedgerView Event R A Room g) (crew : List C) (rest : List T) → crew ≡ [] → rest ≡ seats → IsOpening id start [] opening
       → AreSeated opening crew rest
   seated_first opening crew rest none is h = record {
     opening' = subst (λ (l : List C). IsOpening id start (down_from (length l)) opening) (sym none) h;
@@ -195,7 +195,7 @@ module _ {C T M R A Room : Type 0} {g : Ghosts M Page Event R A Room} (view : C 
     crew' = subst (λ (l : List C). AreNew view id start scripts l) (sym none) (new_none view id start scripts);
   }
 
-  pub seated_next : (opening new : Pass M Page Event R A Room g) (crew more : List C) (rest rest' : List T) (c : C) (x : T) (n m : ℕ) (script : Script)
+  pub seated_next : (opening new : Pass M LedgerView Event R A Room g) (crew more : List C) (rest rest' : List T) (c : C) (x : T) (n m : ℕ) (script : Script)
       → rest ≡ x ∷ rest' → seat c ≡ x → n ≡ length crew → m ≡ n + 1 → slice_get scripts n ≡ Some script → more ≡ crew ++ c ∷ []
       → pass_id new ≡ pass_id opening → view_of new ≡ gave m (view_of opening) → Begins (pass_id opening) (view_of opening).start script m (view c)
       → AreSeated opening crew rest → AreSeated new more rest'
@@ -207,14 +207,14 @@ module _ {C T M R A Room : Type 0} {g : Ghosts M Page Event R A Room} (view : C 
         ∙ (seats_on seat crew c rest' ∙ (ap (λ (z : T). map seat crew ++ z ∷ rest') same ∙ (ap (λ (l : List T). map seat crew ++ l) (sym is) ∙ h.seats')));
     crew' =
         new_more view id start scripts crew more c n script push len at
-        (subst (λ (z : BookId × Page × ℕ). Begins z.0 z.1 script z.2 (view c)) (λ i. (h.opening'.book i, h.opening'.start' i, next i)) begins) h.crew';
+        (subst (λ (z : BookId × LedgerView × ℕ). Begins z.0 z.1 script z.2 (view c)) (λ i. (h.opening'.book i, h.opening'.start' i, next i)) begins) h.crew';
   }
 
-  pub seated_last : (opening : Pass M Page Event R A Room g) (crew : List C) (rest : List T) → length crew ≡ length seats → AreSeated opening crew rest
+  pub seated_last : (opening : Pass M LedgerView Event R A Room g) (crew : List C) (rest : List T) → length crew ≡ length seats → AreSeated opening crew rest
       → map seat crew ≡ seats
   seated_last opening crew rest len h = front_whole (map seat crew) rest seats h.seats' (length-map crew seat ∙ len)
 
-  pub seated_as : (opening : Pass M Page Event R A Room g) (crew : List C) (rest : List T) (n : ℕ) → length crew ≡ n → AreSeated opening crew rest
+  pub seated_as : (opening : Pass M LedgerView Event R A Room g) (crew : List C) (rest : List T) (n : ℕ) → length crew ≡ n → AreSeated opening crew rest
       → IsOpening id start (down_from n) opening
   seated_as opening crew rest n e h = subst (λ (z : ℕ). IsOpening id start (down_from z) opening) e h.opening'
 
@@ -226,9 +226,9 @@ client_named n a b =
     let named : (nat_lt 0 n && nat_lt n 256) ≡ true = grind (arith, nat_tests) in
     ap (λ (z : Bool). if z then Some (actors.Client n) else if n == 1000 then Some actors.Terminal else if n == 1001 then Some actors.Painter else None) named
 
-module _ {M R A Room : Type 0} {g : Ghosts M Page Event R A Room} where
+module _ {M R A Room : Type 0} {g : Ghosts M LedgerView Event R A Room} where
   -- a scribe with a pass of its own
-  pub scribe_at : (id : BookId) (start : Page) (n : ℕ) (opening : Pass M Page Event R A Room g) (s : Scribe) → pass_id opening ≡ id
+  pub scribe_at : (id : BookId) (start : LedgerView) (n : ℕ) (opening : Pass M LedgerView Event R A Room g) (s : Scribe) → pass_id opening ≡ id
       → (view_of opening).start ≡ start → pass_id s.pass ≡ pass_id opening → view_of s.pass ≡ newcomer n (view_of opening) → IsAt id start n s
   scribe_at id start n opening s there begun' book view = record {
     book = book ∙ there;
@@ -237,7 +237,7 @@ module _ {M R A Room : Type 0} {g : Ghosts M Page Event R A Room} where
     none_kept = λ i. (view i).kept;
   }
 
-  pub client_begins : (n : ℕ) (opening : Pass M Page Event R A Room g) (script : Script) (v : ClientView) → 0 < n → pass_id v.scribe.pass ≡ pass_id opening
+  pub client_begins : (n : ℕ) (opening : Pass M LedgerView Event R A Room g) (script : Script) (v : ClientView) → 0 < n → pass_id v.scribe.pass ≡ pass_id opening
       → view_of v.scribe.pass ≡ newcomer n (view_of opening) → IsScribe v.scribe → v.scribe.actor ≡ actors.Client n
       → history v.scribe ≡ [] → v.number ≡ n → v.steps ≡ script.steps → v.broken ≡ false → Begins (pass_id opening) (view_of opening).start script n v
   client_begins n opening script v real book view is actor none number steps whole = record {

@@ -64,7 +64,7 @@ use Rattle.con_session.specs.contracts.seat.Seat as seat
 use Rattle.con_session.specs.contracts.terminal.Side as side
 use Rattle.con_session.specs.contracts.worker.Worker as worker
 use Rattle.con_threads.specs.contracts.ledger.LedgerMachine.TheImpl as machine
-use Rattle.con_threads.specs.contracts.ledger.Page as ledger_page
+use Rattle.con_threads.specs.contracts.ledger.LedgerView as ledger_page
 use Rattle.con_threads.specs.contracts.ledger.Told as told
 use Rattle.con_threads.specs.contracts.painter.PainterThread as painter_thread
 use Rattle.con_threads.specs.contracts.side.SideThread as side_thread

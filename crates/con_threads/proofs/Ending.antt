@@ -7,7 +7,7 @@ use Rattle.con_events.specs.declared.end.End.TheVariants as ends
 use Rattle.con_events.specs.declared.entry.Entry.{Entry}
 use Rattle.con_events.specs.declared.reply.Reply.{Reply}
 use Rattle.con_machine.specs.Client.{Gone}
-use Rattle.con_machine.specs.Follows.{begun}
+use Rattle.con_machine.specs.Follows.{session_start}
 use Rattle.con_machine.specs.History.{run}
 use Rattle.con_machine.specs.Rounds.{client_at}
 use Rattle.con_machine.specs.Turns.{paints}
@@ -24,7 +24,7 @@ use Rattle.con_threads.proofs.SideLaws.{asks_lost}
 
 all_gone : (session : Clients) (racks : List (List ℕ)) (h : List Entry)
     → ((k : ℕ) → k < length session.scripts → (client_at (begins session racks None) h (k + 1)).stance ≡ Gone)
-    → HaveAllLeft (begun session racks) h session racks
+    → HaveAllLeft (session_start session racks) h session racks
 all_gone session racks h f = λ p l m. by_number (λ q. (client_at (begins session racks None) h q).stance ≡ Gone) (length session.scripts) f p l m
 
 -- nothing was lost
@@ -36,7 +36,7 @@ done_whole session racks h rs es side hung failed before left old now f k =
     let b = begins session racks None in
     let m : Moment =
     record {
-      state = run (begun session racks) h;
+      state = run (session_start session racks) h;
       entries = h;
       replies = rs;
       workers = [];

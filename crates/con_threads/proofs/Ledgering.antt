@@ -17,10 +17,10 @@ use Rattle.con_machine.specs.Step.{step, is_ready}
 use Rattle.con_session.specs.Desk.{brief_of, listed}
 use Rattle.con_session.specs.PaintTurns.{picture_of, whole_of, window_of}
 use Rattle.con_session.specs.Replying.{listed_by, brief_by, view_is}
-use Rattle.con_threads.specs.Ledger.{front_of, paged, brief_told, told_of, TellsPicture}
+use Rattle.con_threads.specs.Ledger.{logged_front, paged, brief_told, told_of, TellsPicture}
 use Rattle.con_threads.specs.Ledger as ledger
 use Rattle.con_threads.specs.LedgerLaws.{front_whole}
-use Rattle.con_threads.specs.declared.ledger.Page.{Page}
+use Rattle.con_threads.specs.declared.ledger.LedgerView.{LedgerView}
 
 pub no_items : {A : Type 0} (xs : List A) → length xs ≡ 0 → xs ≡ []
 no_items [] e = refl
@@ -35,7 +35,7 @@ brief_is r q e = brief_by false r q (λ k. absurd (let j : false ≡ true = k in
 -- the console's next state, and one reply more
 pub page_on : (s t : State) (rs qs : List Reply) (o : Option Actor) (e : Event) (r : Reply) → ready_of s o e ≡ true → t ≡ next_of s o e
     → told r ≡ answer_of s o e → qs ≡ rs ++ listed r ∷ []
-    → (let p : Page = record { state = t; replies = qs } in p) ≡ paged (record { state = s; replies = rs }) (front_of s o e)
+    → (let p : LedgerView = record { state = t; replies = qs } in p) ≡ paged (record { state = s; replies = rs }) (logged_front s o e)
 page_on s t rs qs None e r ready next answer put = absurd (let k : false ≡ true = ready in cc)
 page_on s t rs qs (Some a) e r ready next answer put =
     let replied : qs ≡ rs ++ listed (step s a e).reply ∷ [] = put ∙ ap (λ (q : Reply). rs ++ q ∷ []) (listed_is r (step s a e).reply answer) in

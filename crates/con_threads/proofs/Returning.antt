@@ -14,7 +14,7 @@ use Rattle.con_events.specs.declared.event.Event.{Event}
 use Rattle.con_events.specs.declared.event.Event.TheVariants as events
 use Rattle.con_events.specs.declared.reply.Reply.{Reply}
 use Rattle.con_machine.specs.Client.{Stance, GoesOn, MayLeave, MustLeave, Gone}
-use Rattle.con_machine.specs.Follows.{are_of_session, begun}
+use Rattle.con_machine.specs.Follows.{are_of_session, session_start}
 use Rattle.con_machine.specs.History.{is_legal, replies_of, run}
 use Rattle.con_machine.specs.Numbered as numbers
 use Rattle.con_machine.specs.Rounds.{Begun, client_at}
@@ -39,20 +39,20 @@ use Rattle.con_book.specs.Passes.{BookId, pass_id, view_of, actor_of, seen}
 use Rattle.con_book.specs.declared.machine.Machine.{Ghosts}
 use Rattle.con_book.specs.declared.pass.Pass.{Pass}
 use Rattle.con_book.specs.declared.view.Joined.{Joined}
-use Rattle.con_book.specs.declared.view.View.{View}
-use Rattle.con_pipe.specs.Ends.{pieces_put, pieces_taken, IsPipe, IsSameIn, IsSameOut}
+use Rattle.con_book.specs.declared.view.PassView.{PassView}
+use Rattle.con_pipe.specs.PipeEnds.{pieces_put, pieces_taken, IsPipe, IsSameIn, IsSameOut}
 use Rattle.con_pipe.specs.declared.put.PipeIn.{PipeIn}
 use Rattle.con_pipe.specs.declared.take.PipeOut.{PipeOut}
 use Rattle.con_threads.specs.Clients.{ClientGoes, ClientView}
 use Rattle.con_threads.specs.Crews.{AllServed, CrewGoes, IsAt, IsCrew, IsOpening, down_from}
-use Rattle.con_threads.specs.Ledger.{entries_of}
+use Rattle.con_threads.specs.Ledger.{logged_entries}
 use Rattle.con_threads.specs.Painters.{HasDrawn, HasFinished, IsPainterThread}
 use Rattle.con_threads.specs.Scribe.{IsScribe, IsSameScribe, SeesMore, history, opened}
 use Rattle.con_threads.specs.Session.{AreBack, AreMade, EdgesGo, IsBroken, IsDone, clients_in}
 use Rattle.con_threads.specs.Sides.{HasSentOn, SideGoes}
 use Rattle.con_threads.specs.Taking.{AreOf, Covers, HasTaken, IsGathered, IsHistory, IsOf, MayClose, kept_all}
 use Rattle.con_threads.specs.Writers.{HasWritten}
-use Rattle.con_threads.specs.declared.ledger.Page.{Page}
+use Rattle.con_threads.specs.declared.ledger.LedgerView.{LedgerView}
 use Rattle.con_threads.specs.declared.painter.PainterThread.{PainterThread}
 use Rattle.con_threads.specs.declared.scribe.Scribe.{Scribe}
 use Rattle.con_threads.specs.declared.side.SideThread.{SideThread}
@@ -73,8 +73,8 @@ taken_sees : (s t : Scribe) (ks : List (Joined Event)) → IsScribe s → s.acto
     → SeesMore (opened s) actors.Painter (history s) (history t)
 taken_sees s t ks is e h =
     let n = actor_of s.pass in
-    let P : State → Type 0 = λ z. SeesMore (opened s) actors.Painter (history s) (entries_of z (seen t.pass)) in
-    subst P (ap (λ (p : Page). p.state) (sym h.start))
+    let P : State → Type 0 = λ z. SeesMore (opened s) actors.Painter (history s) (logged_entries z (seen t.pass)) in
+    subst P (ap (λ (p : LedgerView). p.state) (sym h.start))
     (sees_raw n actors.Painter (opened s) (seen s.pass) (seen t.pass) (view_of s.pass).mine (is.named ∙ ap Some e) h.seen (ap (λ (z : ℕ). own z (seen t.pass)) (sym h.actor) ∙ (h.own_mine ∙ h.mine)) is.own_mine)
 
 taken_scribe : (s t : Scribe) (ks : List (Joined Event)) → IsScribe s → t.actor ≡ s.actor → HasTaken ks s.pass t.pass → IsScribe t
@@ -82,7 +82,7 @@ taken_scribe s t ks is e h = record {
   named = ap numbers.actor_of h.actor ∙ (is.named ∙ ap Some (sym e));
   single = h.opens ∙ is.single;
   own_mine = h.own_mine;
-  none_before = ap (λ (p : Page). p.replies) h.start ∙ is.none_before;
+  none_before = ap (λ (p : LedgerView). p.replies) h.start ∙ is.none_before;
 }
 
 pub taken_painter : (old new : PainterThread) (ks : List (Joined Event)) → IsPainterThread old → HasTaken ks old.scribe.pass new.scribe.pass
@@ -93,7 +93,7 @@ taken_painter old new ks is h actor kept broken = record {
   tied = λ e.
       let P : State → Type 0 = λ z. IsTied (run z (history new.scribe)) old.painter in
       let K : Kept → Type 0 = λ z. IsTied (run (opened new.scribe) (history new.scribe)) z in
-      subst K (sym kept) (subst P (ap (λ (p : Page). p.state) (sym h.start))
+      subst K (sym kept) (subst P (ap (λ (p : LedgerView). p.state) (sym h.start))
       (tied_sees (opened old.scribe) (history old.scribe) (history new.scribe) old.painter (taken_sees old.scribe new.scribe ks is.is_scribe is.actor h) (is.tied (sym broken ∙ e))));
 }
 
@@ -104,7 +104,7 @@ mapped_get f [] k y e = absurd (cc)
 mapped_get f (x ∷ xs) zero y e = (x, refl, (let q : f x ≡ y = cc in q))
 mapped_get f (x ∷ xs) (suc k) y e = mapped_get f xs k y e
 
-at_of : (id : BookId) (start : Page) (n : ℕ) (s : Scribe) → IsAt id start n s → IsScribe s → IsOf start n (view_of s.pass)
+at_of : (id : BookId) (start : LedgerView) (n : ℕ) (s : Scribe) → IsAt id start n s → IsScribe s → IsOf start n (view_of s.pass)
 at_of id start n s a is = record { start' = a.begins; actor = a.actor'; own_mine = is.own_mine }
 
 is_gone : (s : Stance) (leaving gone : Bool) → IsStance s leaving gone → gone ≡ true → s ≡ Gone
@@ -120,18 +120,18 @@ or_none false broken e = e
 module _ {C : Type 0} (view : C → ClientView) (id : BookId) (n : ℕ) (opener : Scribe) (side : SideThread) (painter : PainterThread) (put : PipeIn)
     (writer : WriterThread) (cs : List C)
     (back : AreBack view id n opener.pass side painter put writer cs) where
-  abbrev pub start : Page
+  abbrev pub start : LedgerView
   start = (view_of opener.pass).start
 
-  abbrev pub sv : View Page Event
+  abbrev pub sv : PassView LedgerView Event
   sv = view_of side.scribe.pass
 
-  abbrev pub vs : List (View Page Event)
+  abbrev pub vs : List (PassView LedgerView Event)
   vs = map (λ c. view_of (view c).scribe.pass) cs
 
   vs_are : AreOf start vs
   vs_are = λ k w e. let (c, at, same) = mapped_get (λ (x : C). view_of (view x).scribe.pass) cs k w e in
-      let b = back.clients k c at in subst (λ (z : View Page Event). IsOf start (k + 1) z) same (at_of id start (k + 1) (view c).scribe b.at b.is.scribe)
+      let b = back.clients k c at in subst (λ (z : PassView LedgerView Event). IsOf start (k + 1) z) same (at_of id start (k + 1) (view c).scribe b.at b.is.scribe)
 
   client_there : (k : ℕ) → k < n → (c : C) × (slice_get cs k ≡ Some c)
   client_there k lt = some_at cs k (let e = back.len in omega arith)
@@ -179,7 +179,7 @@ module _ {C : Type 0} (view : C → ClientView) (id : BookId) (n : ℕ) (opener 
       none_before = back.none_before;
     }
 
-    module _ (session : Clients) (racks : List (List ℕ)) (before left old was now : Option (List ℕ)) (begins_so : start.state ≡ begun session racks)
+    module _ (session : Clients) (racks : List (List ℕ)) (before left old was now : Option (List ℕ)) (begins_so : start.state ≡ session_start session racks)
         (count : length session.scripts ≡ n)
         (edges : EdgesGo (begins session racks None) before left old was side painter put writer) (crew : CrewGoes view (begins session racks None) cs)
         (all : pieces_taken writer.take ≡ pieces_put put)
@@ -190,16 +190,16 @@ module _ {C : Type 0} (view : C → ClientView) (id : BookId) (n : ℕ) (opener 
       b = begins session racks None
 
       opened_is : opened p2.scribe ≡ b.state
-      opened_is = ap (λ (p : Page). p.state) start_is ∙ begins_so
+      opened_is = ap (λ (p : LedgerView). p.state) start_is ∙ begins_so
 
       pub opened_then : opened p1.scribe ≡ b.state
-      opened_then = ap (λ (p : Page). p.state) (taken.start ∙ back.edges.painter_at.begins) ∙ begins_so
+      opened_then = ap (λ (p : LedgerView). p.state) (taken.start ∙ back.edges.painter_at.begins) ∙ begins_so
 
       opened_first : opened painter.scribe ≡ b.state
-      opened_first = ap (λ (p : Page). p.state) back.edges.painter_at.begins ∙ begins_so
+      opened_first = ap (λ (p : LedgerView). p.state) back.edges.painter_at.begins ∙ begins_so
 
       history_is : history p2.scribe ≡ h
-      history_is = ap (λ (s : State). entries_of s (seen p2.scribe.pass)) (ap (λ (p : Page). p.state) start_is) ∙ sym hist.whole
+      history_is = ap (λ (s : State). logged_entries s (seen p2.scribe.pass)) (ap (λ (p : LedgerView). p.state) start_is) ∙ sym hist.whole
 
       legal_is : is_legal b.state h ≡ true
       legal_is = ap (λ (s : State). is_legal s h) (sym begins_so) ∙ hist.legal
@@ -211,10 +211,10 @@ module _ {C : Type 0} (view : C → ClientView) (id : BookId) (n : ℕ) (opener 
       numbered_are = ap (λ (z : ℕ). are_of_session z h) count ∙ hist.numbered
 
       -- what a scribe had seen, and the whole
-      sees_whole : (m : ℕ) (a : Actor) (s : Scribe) → IsAt id start m s → SeesMore start.state a (entries_of start.state (seen s.pass)) h
+      sees_whole : (m : ℕ) (a : Actor) (s : Scribe) → IsAt id start m s → SeesMore start.state a (logged_entries start.state (seen s.pass)) h
           → SeesMore b.state a (history s) h
       sees_whole m a s at k =
-          subst (λ (z : State × State). SeesMore z.0 a (entries_of z.1 (seen s.pass)) h) (λ i. (begins_so i, (ap (λ (p : Page). p.state) (sym at.begins)) i)) k
+          subst (λ (z : State × State). SeesMore z.0 a (logged_entries z.1 (seen s.pass)) h) (λ i. (begins_so i, (ap (λ (p : LedgerView). p.state) (sym at.begins)) i)) k
 
       client_goes : (k : ℕ) → k < n
           → (c : C) × (slice_get cs k ≡ Some c)
@@ -348,7 +348,7 @@ module _ {C : Type 0} (view : C → ClientView) (id : BookId) (n : ℕ) (opener 
 pub pipe_then : (put put' : PipeIn) (take take' : PipeOut) → IsPipe put take → IsSameIn put put' → IsSameOut take take' → IsPipe put' take'
 pipe_then put put' take take' p i o = (o.0.0 ∙ (p.0 ∙ sym i.0.0), o.0.1 ∙ (p.1 ∙ sym i.0.1), o.0.2 ∙ (p.2 ∙ sym i.0.2), o.0.3 ∙ (p.3 ∙ sym i.0.3))
 
-pub edges_made : (id : BookId) (start : Page) (side side' : SideThread) (painter painter' : PainterThread) (put put' : PipeIn) (writer writer' : WriterThread)
+pub edges_made : (id : BookId) (start : LedgerView) (side side' : SideThread) (painter painter' : PainterThread) (put put' : PipeIn) (writer writer' : WriterThread)
     (left left' was now : Option (List ℕ)) (c d : ℕ)
     → AreMade id start side painter put writer
     → HasSentOn side side' left left' → HasDrawn painter painter' put put' → HasWritten writer writer' was now c d
@@ -361,14 +361,14 @@ edges_made id start side side' painter painter' put put' writer writer' left lef
   pipe = pipe_then put put' writer.take writer'.take m.pipe hp.pipe hw.pipe;
 }
 
-pub edges_go_on : (bg : Begun) (id : BookId) (start : Page) (side side' : SideThread) (painter painter' : PainterThread) (put put' : PipeIn)
+pub edges_go_on : (bg : Begun) (id : BookId) (start : LedgerView) (side side' : SideThread) (painter painter' : PainterThread) (put put' : PipeIn)
     (writer writer' : WriterThread) (before left left' old was now : Option (List ℕ)) (c d : ℕ)
     → start.state ≡ bg.state → AreMade id start side painter put writer
     → HasSentOn side side' left left' → HasDrawn painter painter' put put' → HasWritten writer writer' was now c d
     → EdgesGo bg before left old was side painter put writer → EdgesGo bg before left' old now side' painter' put' writer'
 edges_go_on bg id start side side' painter painter' put put' writer writer' before left left' old was now c d e m hs hp hw k = record {
-  side' = hs.goes bg before (ap (λ (p : Page). p.state) m.side_at.begins ∙ e) k.side';
-  painter' = hp.drawn bg bg.session.size (ap (λ (p : Page). p.state) m.painter_at.begins ∙ e) k.painter';
+  side' = hs.goes bg before (ap (λ (p : LedgerView). p.state) m.side_at.begins ∙ e) k.side';
+  painter' = hp.drawn bg bg.session.size (ap (λ (p : LedgerView). p.state) m.painter_at.begins ∙ e) k.painter';
   writer' = hw.wrote old k.writer';
 }
 
@@ -384,8 +384,8 @@ pub side_not_term : (b : Begun) (h : List Entry) (side : Side) (hung broken : Bo
     → SideGoes b h side hung broken before left taken → side.end ≡ ends.Term → broken ≡ false → ⊥
 side_not_term b h side hung broken before left taken k t e = let q = (k.link e).fault (ap is_cut t) in not_term q.0 (sym t ∙ q.2)
 
-pub all_back : {M R A Room : Type 0} {g : Ghosts M Page Event R A Room} {C : Type 0} (view : C → ClientView) (id : BookId) (n : ℕ)
-    (opening : Pass M Page Event R A Room g) (side side' : SideThread) (painter painter' : PainterThread) (put put' : PipeIn) (writer writer' : WriterThread)
+pub all_back : {M R A Room : Type 0} {g : Ghosts M LedgerView Event R A Room} {C : Type 0} (view : C → ClientView) (id : BookId) (n : ℕ)
+    (opening : Pass M LedgerView Event R A Room g) (side side' : SideThread) (painter painter' : PainterThread) (put put' : PipeIn) (writer writer' : WriterThread)
     (os cs : List C)
     (left left' was now : Option (List ℕ)) (c d : ℕ) → IsOpening id (view_of opening).start (1001 ∷ 1000 ∷ down_from n) opening
     → (view_of opening).start.replies ≡ [] → AreMade id (view_of opening).start side painter put writer

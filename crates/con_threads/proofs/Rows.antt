@@ -40,13 +40,13 @@ use Rattle.con_book.specs.History.{StartsWith, after, own}
 use Rattle.con_book.specs.Lock.{joined, newcomer, opener}
 use Rattle.con_book.specs.declared.history.Logged.{Logged}
 use Rattle.con_book.specs.declared.view.Joined.{Joined}
-use Rattle.con_book.specs.declared.view.View as known
+use Rattle.con_book.specs.declared.view.PassView as known
 use Rattle.con_threads.specs.Crews.{AllServed, down_from}
 use Rattle.con_threads.specs.Clients.{ClientView}
-use Rattle.con_threads.specs.Ledger.{IsLogOf, entries_of, entry_by, next_page, page_brief, page_ready, told_of}
+use Rattle.con_threads.specs.Ledger.{IsLogOf, logged_entries, entry_by, next_page, page_brief, page_ready, told_of}
 use Rattle.con_threads.specs.Scribe.{HasEntered, SeesMore, is_same}
 use Rattle.con_threads.specs.Taking.{Covers, IsOf, kept_all}
-use Rattle.con_threads.specs.declared.ledger.Page.{Page}
+use Rattle.con_threads.specs.declared.ledger.LedgerView.{LedgerView}
 use Rattle.con_threads.specs.declared.ledger.Told.TheVariants as tolds
 
 abbrev script : List ℕ → ℕ → Script
@@ -56,7 +56,7 @@ script program group = record { program = program; group = group; steps = [] }
 abbrev one : State
 one = opening (record { size = record { w = 10; h = 3 }; scripts = script (codes "a") 1 ∷ [] }) (0 ∷ [])
 
-abbrev start : Page
+abbrev start : LedgerView
 start = record { state = one; replies = [] }
 
 abbrev logged : {E : Type 0} → ℕ → E → Logged E
@@ -92,13 +92,13 @@ taken = logged 1 count ∷ logged 1001 events.Paint ∷ logged 1000 events.Ask �
 abbrev entered : List Entry
 entered = by 1 count ∷ paints ∷ side events.Ask ∷ paints ∷ by 1 (events.Exit 0) ∷ by 1 events.Collect ∷ []
 
-tried_entries : entries_of one tried ≡ entered
+tried_entries : logged_entries one tried ≡ entered
 unfolding step effect called settled_state closing began collected took_ctrl left fed quiet resized painted is_due is_ready line_front settled served units_of
     rest_of is_front whole broken next split_after drawn_by changed ended down shown part_lifted lifted written_on unit_written written heard split_in switches
     refitted filled free_from ids_from same_view
 tried_entries = refl
 
-taken_entries : entries_of one taken ≡ entered
+taken_entries : logged_entries one taken ≡ entered
 unfolding step effect called settled_state closing began collected took_ctrl left fed quiet resized painted is_due is_ready line_front settled served units_of
     rest_of is_front whole broken next split_after drawn_by changed ended down shown part_lifted lifted written_on unit_written written heard split_in switches
     refitted filled free_from ids_from same_view
@@ -121,7 +121,7 @@ unfolding step effect called settled_state closing began collected took_ctrl lef
     refitted filled free_from ids_from same_view
 taken_is_log = record { none_before = refl; page' = refl; legal = refl }
 
-tried_is_none : (page : Page) → IsLogOf start tried page → ⊥
+tried_is_none : (page : LedgerView) → IsLogOf start tried page → ⊥
 unfolding step effect called settled_state closing began collected took_ctrl left fed quiet resized painted is_due is_ready line_front settled served units_of
     rest_of is_front whole broken next split_after drawn_by changed ended down shown part_lifted lifted written_on unit_written written heard split_in switches
     refitted filled free_from ids_from same_view
@@ -222,7 +222,7 @@ one_lost : (view : ℕ → ClientView) → AllServed view (1 ∷ 2 ∷ []) (1 �
 one_lost view x = let wrong : 1 ≡ 2 = x.len in omega (arith, wrong)
 
 -- a pass that has seen this
-abbrev knows : ℕ → List (Logged ℕ) → known.View ℕ ℕ
+abbrev knows : ℕ → List (Logged ℕ) → known.PassView ℕ ℕ
 knows n seen = record (newcomer n (opener 0)) { seen = seen; mine = own n seen }
 
 last_first : kept_all (knows 1 (logged 1 7 ∷ []) ∷ knows 2 [] ∷ []) [] ≡ joined (knows 2 []) ∷ joined (knows 1 (logged 1 7 ∷ [])) ∷ []
@@ -232,7 +232,7 @@ joined_one : joined (knows 1 (logged 1 7 ∷ logged 3 8 ∷ [])) ≡ record { ac
 joined_one = refl
 
 -- what a pass that was taken in had seen begins what is seen
-abbrev took_in : List (Logged ℕ) → known.View ℕ ℕ
+abbrev took_in : List (Logged ℕ) → known.PassView ℕ ℕ
 took_in seen = record (knows 3 seen) { kept = joined (knows 1 (logged 1 7 ∷ [])) ∷ [] }
 
 covers_front : Covers (took_in (logged 1 7 ∷ logged 3 8 ∷ []))
@@ -247,7 +247,7 @@ covers_other : Covers (took_in (logged 3 8 ∷ [])) → ⊥
 covers_other c = let (rest, e) = c (joined (knows 1 (logged 1 7 ∷ []))) (inl refl) in let wrong : 3 ≡ 1 = ap actor_first e in omega (arith, wrong)
 
 -- each event of its own is one that the pass entered
-abbrev client_knows : List Event → known.View Page Event
+abbrev client_knows : List Event → known.PassView LedgerView Event
 client_knows mine = record (newcomer 1 (opener start)) { seen = logged 1 count ∷ logged 1001 events.Paint ∷ []; mine = mine }
 
 client_of : IsOf start 1 (client_knows (count ∷ []))

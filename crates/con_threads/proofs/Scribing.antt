@@ -18,10 +18,10 @@ use Rattle.con_machine.specs.State.{State}
 use Rattle.con_machine.specs.Step.{step, is_ready}
 use Rattle.con_session.specs.Desk.{brief_of}
 use Rattle.con_session.specs.Desk as desk
-use Rattle.con_threads.specs.Ledger.{entries_of, front_of, next_page, page_ready, page_brief, page_tells, brief_by, brief_told, TellsPicture}
-use Rattle.con_threads.specs.LedgerLaws.{entries_of-append, after_state, history_legal, others_entered, front_whole}
+use Rattle.con_threads.specs.Ledger.{logged_entries, logged_front, next_page, page_ready, page_brief, page_tells, brief_by, brief_told, TellsPicture}
+use Rattle.con_threads.specs.LedgerLaws.{logged_entries-append, after_state, history_legal, others_entered, front_whole}
 use Rattle.con_threads.specs.Scribe.{opened, history, IsScribe, IsSameScribe, SeesMore, HasEntered}
-use Rattle.con_threads.specs.declared.ledger.Page.{Page}
+use Rattle.con_threads.specs.declared.ledger.LedgerView.{LedgerView}
 use Rattle.con_threads.specs.declared.ledger.Told.{Told}
 use Rattle.con_threads.specs.declared.scribe.Scribe.{Scribe}
 
@@ -29,42 +29,42 @@ use Rattle.con_threads.specs.declared.scribe.Scribe.{Scribe}
 
 module _ (start : State) (n : ℕ) (a : Actor) (named : numbers.actor_of n ≡ Some a) (seen : List (Logged Event)) where
   -- entries of others
-  pub more_seen : (xs : List (Logged Event)) → own n xs ≡ [] → SeesMore start a (entries_of start seen) (entries_of start (seen ++ xs))
+  pub more_seen : (xs : List (Logged Event)) → own n xs ≡ [] → SeesMore start a (logged_entries start seen) (logged_entries start (seen ++ xs))
   more_seen xs none = record {
-    between = entries_of (run start (entries_of start seen)) xs;
-    others = others_entered n a (run start (entries_of start seen)) xs named none;
-    legal = history_legal (run start (entries_of start seen)) xs;
-    entries' = entries_of-append start seen xs;
+    between = logged_entries (run start (logged_entries start seen)) xs;
+    others = others_entered n a (run start (logged_entries start seen)) xs named none;
+    legal = history_legal (run start (logged_entries start seen)) xs;
+    entries' = logged_entries-append start seen xs;
   }
 
 -- its own event, which was ready
 one_entered : (s : State) (n : ℕ) (a : Actor) (e : Event) → numbers.actor_of n ≡ Some a → is_ready s a e ≡ true
-    → entries_of s (entry n e ∷ []) ≡ desk.entry a e ∷ []
+    → logged_entries s (entry n e ∷ []) ≡ desk.entry a e ∷ []
 one_entered s n a e named ready =
-    append-nil (front_of s (numbers.actor_of n) e)
-    ∙ (ap (λ (o : Option Actor). front_of s o e) named ∙ front_whole s (Some a) e ready)
+    append-nil (logged_front s (numbers.actor_of n) e)
+    ∙ (ap (λ (o : Option Actor). logged_front s o e) named ∙ front_whole s (Some a) e ready)
 
 -- ---- what a view tells of its state, whose history is that of its entries
 
-module _ (p : Page) (n : ℕ) (a : Actor) (named : numbers.actor_of n ≡ Some a) (log : List (Logged Event)) where
-  pub ready_there : (e : Event) → page_ready (after next_page p log) n e ≡ is_ready (run p.state (entries_of p.state log)) a e
+module _ (p : LedgerView) (n : ℕ) (a : Actor) (named : numbers.actor_of n ≡ Some a) (log : List (Logged Event)) where
+  pub ready_there : (e : Event) → page_ready (after next_page p log) n e ≡ is_ready (run p.state (logged_entries p.state log)) a e
   ready_there e = λ i. ready_of (after_state p log i) (named i) e
 
-  brief_there : (e : Event) → page_brief (after next_page p log) n e ≡ brief_of (step (run p.state (entries_of p.state log)) a e).reply
+  brief_there : (e : Event) → page_brief (after next_page p log) n e ≡ brief_of (step (run p.state (logged_entries p.state log)) a e).reply
   brief_there e = λ i. brief_by (after_state p log i) (named i) e
 
-  tells_there : (e : Event) (t : Told) → page_tells t (after next_page p log) n e → TellsPicture t (run p.state (entries_of p.state log)) (Some a) e
+  tells_there : (e : Event) (t : Told) → page_tells t (after next_page p log) n e → TellsPicture t (run p.state (logged_entries p.state log)) (Some a) e
   tells_there e t told = let P : State × Option Actor → Type 0 = λ z. TellsPicture t z.0 z.1 e in subst P (λ i. (after_state p log i, named i)) told
 
 -- an event that is ready in every state is so for its number
-pub always_ready : (old : Scribe) → IsScribe old → (e : Event) → ((s : State) → is_ready s old.actor e ≡ true) → (p : Page)
+pub always_ready : (old : Scribe) → IsScribe old → (e : Event) → ((s : State) → is_ready s old.actor e ≡ true) → (p : LedgerView)
     → page_ready p (actor_of old.pass) e ≡ true
 always_ready old is e always p = ap (λ (o : Option Actor). ready_of p.state o e) is.named ∙ always p.state
 
 -- ---- of a scribe before and after
 
 module _ (old new : Scribe) (is : IsScribe old) (same : IsSamePass old.pass new.pass) where
-  abbrev start : Page
+  abbrev start : LedgerView
   start = (view_of old.pass).start
 
   abbrev n : ℕ
@@ -74,8 +74,8 @@ module _ (old new : Scribe) (is : IsScribe old) (same : IsSamePass old.pass new.
   seen = (view_of old.pass).seen
 
   -- what it has seen now, from where the console began
-  new_history : (log : List (Logged Event)) → (view_of new.pass).seen ≡ log → history new ≡ entries_of start.state log
-  new_history log e = λ i. entries_of (same.1.0 i).state (e i)
+  new_history : (log : List (Logged Event)) → (view_of new.pass).seen ≡ log → history new ≡ logged_entries start.state log
+  new_history log e = λ i. logged_entries (same.1.0 i).state (e i)
 
   pub saw : SeesOthers (view_of old.pass) (view_of new.pass) → SeesMore (opened old) old.actor (history old) (history new)
   saw s =
@@ -90,7 +90,7 @@ module _ (old new : Scribe) (is : IsScribe old) (same : IsSamePass old.pass new.
     named = still_named e;
     single = same.1.2 ∙ is.single;
     own_mine = mine;
-    none_before = ap (λ (q : Page). q.replies) same.1.0 ∙ is.none_before;
+    none_before = ap (λ (q : LedgerView). q.replies) same.1.0 ∙ is.none_before;
   }
 
   pub saw_is : new.actor ≡ old.actor → SeesOthers (view_of old.pass) (view_of new.pass) → IsScribe new
@@ -106,11 +106,11 @@ module _ (old new : Scribe) (is : IsScribe old) (same : IsSamePass old.pass new.
       → HasEntered (opened old) old.actor event told (history old) (history new)
   entered event told x =
       let all : List (Logged Event) = seen ++ x.between in
-      let m : SeesMore (opened old) old.actor (history old) (entries_of start.state all) = more_seen start.state n old.actor is.named seen x.between x.others in
-      let there : entries_of start.state all ≡ history old ++ m.between = m.entries' in
-      let ready : is_ready (run start.state (entries_of start.state all)) old.actor event ≡ true = sym (ready_there start n old.actor is.named all event)
+      let m : SeesMore (opened old) old.actor (history old) (logged_entries start.state all) = more_seen start.state n old.actor is.named seen x.between x.others in
+      let there : logged_entries start.state all ≡ history old ++ m.between = m.entries' in
+      let ready : is_ready (run start.state (logged_entries start.state all)) old.actor event ≡ true = sym (ready_there start n old.actor is.named all event)
       ∙ x.was_ready in
-      let brief : brief_told told ≡ brief_of (step (run start.state (entries_of start.state all)) old.actor event).reply = x.reply_is
+      let brief : brief_told told ≡ brief_of (step (run start.state (logged_entries start.state all)) old.actor event).reply = x.reply_is
       ∙ brief_there start n old.actor is.named all event in
       let R : List Entry → Type 0 = λ z. is_ready (run start.state z) old.actor event ≡ true in
       let B : List Entry → Type 0 = λ z. brief_told told ≡ brief_of (step (run start.state z) old.actor event).reply in
@@ -120,8 +120,8 @@ module _ (old new : Scribe) (is : IsScribe old) (same : IsSamePass old.pass new.
         others = m.others;
         legal = m.legal;
         entries' = new_history (all ++ entry n event ∷ []) x.seen
-            ∙ (entries_of-append start.state all (entry n event ∷ [])
-            ∙ ((λ i. there i ++ one_entered (run start.state (entries_of start.state all)) n old.actor event is.named ready i)));
+            ∙ (logged_entries-append start.state all (entry n event ∷ [])
+            ∙ ((λ i. there i ++ one_entered (run start.state (logged_entries start.state all)) n old.actor event is.named ready i)));
         ready = subst R there ready;
         brief = subst B there brief;
         tells = subst T there (tells_there start n old.actor is.named all event told x.told);

@@ -19,7 +19,7 @@ use Rattle.con_session.specs.Sender.{end_for}
 use Rattle.con_session.specs.SenderLaws.{frame_ready}
 use Rattle.con_threads.specs.Scribe.{IsScribe, IsSameScribe, SeesMore, history, opened}
 use Rattle.con_threads.specs.ScribeLaws.{same_opened, same_then}
-use Rattle.con_threads.specs.Sides.{HasSent, HasSentOn, IsSideThread, SideGoes, ThreadGoes}
+use Rattle.con_threads.specs.Sides.{IsSending, HasSentOn, IsSideThread, SideGoes, ThreadGoes}
 use Rattle.con_threads.specs.declared.scribe.Scribe.{Scribe}
 use Rattle.con_threads.specs.declared.side.SideThread.{SideThread}
 use Rattle.con_threads.proofs.SideLaws.{fault_goes, frame_goes, goes_on, goes_seen, hung_goes, served_then, stops_goes}
@@ -54,7 +54,7 @@ saw t s left i m k more = record {
 
 -- it hung up, since the terminal has failed
 pub hung_up : (t : SideThread) (s : Scribe) (left : Option (List ℕ)) → t.side.ended ≡ false → t.broken ≡ false → IsSideThread t → IsSameScribe t.scribe s
-    → IsScribe s → HasSent (opened t.scribe) events.Hangup (history t.scribe) (history s)
+    → IsScribe s → IsSending (opened t.scribe) events.Hangup (history t.scribe) (history s)
     → HasSentOn t (record { scribe = s; reader = t.reader; side = record { ended = true; end = t.side.end }; hung = true; broken = t.broken }) left left
 hung_up t s left open' whole i m k r = record {
   same = m;
@@ -113,7 +113,7 @@ looked_start t s b k e = same_opened t.scribe s k.same ∙ e
 
 -- nothing was asked for when its own event was entered
 still_served : (s : Scribe) (b : Begun) (event : Event) (g : List Entry) → opened s ≡ b.state → (run (opened s) (history s)).asked ≡ false
-    → (r : HasSent (opened s) event (history s) g) → (run b.state (history s ++ r.between)).asked ≡ false
+    → (r : IsSending (opened s) event (history s) g) → (run b.state (history s ++ r.between)).asked ≡ false
 still_served s b event g e n r =
     let P : State → Type 0 = λ z. (run z (history s ++ r.between)).asked ≡ false in
     subst P e (served_then (opened s) (history s) r.between r.others r.legal n)
@@ -133,7 +133,7 @@ never_blocked s u event f was left taken later same n more e (text, l, c, a) blo
 
 -- it entered the event of a frame
 pub passed_on : (t : SideThread) (s u : Scribe) (was left : Option (List ℕ)) (later : ℕ) (f : Frame) (event : Event) (ended : Bool) → Looked t s
-    → IsSameScribe s u → IsScribe u → event ≡ sent_by f → HasSent (opened s) event (history s) (history u)
+    → IsSameScribe s u → IsScribe u → event ≡ sent_by f → IsSending (opened s) event (history s) (history u)
     → ended ≡ ends_link f → Took (Ok f) was left t.reader later
     → HasSentOn t (record { scribe = u; reader = later; side = record { ended = ended; end = t.side.end }; hung = t.hung; broken = false }) was left
 passed_on t s u was left later f event ended k same is e r d took = record {
@@ -141,7 +141,7 @@ passed_on t s u was left later f event ended k same is e r d took = record {
   is = record { scribe = is; actor = same.actor ∙ (k.same.actor ∙ k.was.actor); few = λ x y. few_behind f was left t.reader later took };
   goes = λ b before start g.
       let R : List Entry → Type 0 = λ z. SideGoes b z (record { ended = ended; end = t.side.end }) t.hung false before left later in
-      let E : Event → Type 0 = λ z. HasSent (opened s) z (history s) (history u) in
+      let E : Event → Type 0 = λ z. IsSending (opened s) z (history s) (history u) in
       let sent = subst E e r in
       let on = goes_on b (history s) sent.between t.side t.hung false before was t.reader sent.others (looked_goes t s b before was k start g) in
       subst R (sym sent.entries')
@@ -150,7 +150,7 @@ passed_on t s u was left later f event ended k same is e r d took = record {
 
 -- it hung up where no frame was read
 pub gave_up : (t : SideThread) (s u : Scribe) (was left : Option (List ℕ)) (later : ℕ) (f : LinkFault) (end : End) → Looked t s → IsSameScribe s u → IsScribe u
-    → HasSent (opened s) events.Hangup (history s) (history u)
+    → IsSending (opened s) events.Hangup (history s) (history u)
     → end ≡ end_for f → Took (Err f) was left t.reader later
     → HasSentOn t (record { scribe = u; reader = later; side = record { ended = true; end = end }; hung = t.hung; broken = false }) was left
 gave_up t s u was left later f end k same is r d took = record {

@@ -31,7 +31,7 @@ use Rattle.con_session.specs.SenderLaws.{side_other}
 use Rattle.con_session.specs.Solo.{AsksStand}
 use Rattle.con_session.specs.declared.terminal.Side.{Side}
 use Rattle.con_threads.specs.Scribe.{HasEntered, SeesMore, is_same}
-use Rattle.con_threads.specs.Sides.{HasSent, SideGoes}
+use Rattle.con_threads.specs.Sides.{IsSending, SideGoes}
 use Rattle.con_threads.specs.declared.ledger.Told.{Told}
 
 -- ---- entries of others
@@ -158,14 +158,14 @@ asked_by s a served r e = r ∙ (ap (λ (z : Actor). is_ready s z events.Quiet) 
 -- ---- its own entry, by what was told of it
 
 told_sent : (start : State) (a : Actor) (event : Event) (told : Told) (h g : List Entry) → HasEntered start a event told h g → a ≡ actors.Terminal
-    → HasSent start event h g
+    → IsSending start event h g
 told_sent start a event told h g k e =
     let P : Actor → Type 0 = λ z. HasEntered start z event told h g in
     let m = subst P e k in
     record { between = m.between; others = m.others; legal = m.legal; entries' = m.entries' }
 
 pub entered_sent : (start : State) (a : Actor) (event : Event) (answer : Option Told) (h g : List Entry)
-    → IfSome answer (λ told. HasEntered start a event told h g) → a ≡ actors.Terminal → is_some answer ≡ true → HasSent start event h g
+    → IfSome answer (λ told. HasEntered start a event told h g) → a ≡ actors.Terminal → is_some answer ≡ true → IsSending start event h g
 entered_sent start a event None h g k e i = absurd (let both : false ≡ true = i in cc)
 entered_sent start a event (Some told) h g k e i = told_sent start a event told h g k e
 

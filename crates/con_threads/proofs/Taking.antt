@@ -9,7 +9,7 @@ use Rattle.con_book.specs.Turn.{OwnIsMine, IsLonger}
 use Rattle.con_book.specs.declared.machine.Machine.{Ghosts}
 use Rattle.con_book.specs.declared.pass.Pass.{Pass}
 use Rattle.con_book.specs.declared.view.Joined.{Joined}
-use Rattle.con_book.specs.declared.view.View.{View}
+use Rattle.con_book.specs.declared.view.PassView.{PassView}
 use Rattle.con_threads.specs.Taking.{HasTaken, Covers, kept_all}
 
 module _ {M S E R A Room : Type 0} {g : Ghosts M S E R A Room} where
@@ -74,13 +74,13 @@ in_split k (x ∷ xs) ys h = ⊎_elim (λ e. inl (inl e)) (λ t. ⊎_elim (λ p.
 
 module _ {S E : Type 0} where
   -- a pass that had taken in none
-  pub kept_step : (w : View S E) (ks : List (Joined E)) → w.kept ≡ [] → joined w ∷ w.kept ++ ks ≡ joined w ∷ ks
+  pub kept_step : (w : PassView S E) (ks : List (Joined E)) → w.kept ≡ [] → joined w ∷ w.kept ++ ks ≡ joined w ∷ ks
   kept_step w ks none = ap (λ (l : List (Joined E)). joined w ∷ l ++ ks) none
 
-  pub covers_none : (v : View S E) → v.kept ≡ [] → Covers v
+  pub covers_none : (v : PassView S E) → v.kept ≡ [] → Covers v
   covers_none v none k h = absurd (subst (λ (l : List (Joined E)). In k l) none h)
 
-  pub covers_both : (v w z : View S E) → Covers w → Covers v → z.kept ≡ joined w ∷ w.kept ++ v.kept → IsLonger v w z → Covers z
+  pub covers_both : (v w z : PassView S E) → Covers w → Covers v → z.kept ≡ joined w ∷ w.kept ++ v.kept → IsLonger v w z → Covers z
   covers_both v w z cw cv kept longer = λ k h.
       ⊎_elim
       (λ e. subst (λ (j : Joined E). StartsWith z.seen j.seen) (sym e) longer.2)
@@ -88,7 +88,7 @@ module _ {S E : Type 0} where
       (subst (λ (l : List (Joined E)). In k l) kept h)
 
   -- it has seen more
-  pub covers_more : (v w : View S E) → Covers v → w.kept ≡ v.kept → StartsWith w.seen v.seen → Covers w
+  pub covers_more : (v w : PassView S E) → Covers v → w.kept ≡ v.kept → StartsWith w.seen v.seen → Covers w
   covers_more v w cv kept more = λ k h. begins_further w.seen v.seen k.seen more (cv k (subst (λ (l : List (Joined E)). In k l) kept h))
 
 -- ---- of workers in a row, one after another
@@ -166,7 +166,7 @@ module _ {C M S E R A Room : Type 0} {g : Ghosts M S E R A Room} (pass : C → P
 
 module _ {M S E R A Room : Type 0} {g : Ghosts M S E R A Room} where
   -- these, and one more
-  pub all_taken : (into mid new : Pass M S E R A Room g) (ws : List (View S E)) (w : View S E) → HasTaken (kept_all ws (view_of into).kept) into mid
+  pub all_taken : (into mid new : Pass M S E R A Room g) (ws : List (PassView S E)) (w : PassView S E) → HasTaken (kept_all ws (view_of into).kept) into mid
       → HasTaken (joined w ∷ w.kept ++ (view_of mid).kept) mid new
       → (view_of into).kept ≡ [] → w.kept ≡ [] → HasTaken (joined w ∷ kept_all ws []) into new
   all_taken into mid new ws w a b none one = taken_as into new (joined w ∷ w.kept ++ (view_of mid).kept) (joined w ∷ kept_all ws [])

@@ -46,7 +46,7 @@ use Rattle.con_threads.specs.Clients.{ClientGoes}
 use Rattle.con_threads.specs.Painters.{Draws, DrawsLess}
 use Rattle.con_threads.specs.Post.{AreOthers}
 use Rattle.con_threads.specs.Session.{clients_in}
-use Rattle.con_threads.specs.Sides.{HasSent, SideGoes}
+use Rattle.con_threads.specs.Sides.{IsSending, SideGoes}
 use Rattle.con_threads.specs.Writers.{Writes}
 
 abbrev by : Event → Entry
@@ -149,7 +149,7 @@ handlers_kept slot x = let wrong : slot ∷ [] ≡ [] = (x.dropped refl).1 in ab
 
 -- ---- the terminal's side
 
-sent_behind : HasSent counting.state (events.Feed (codes "x")) [] (by count ∷ side (events.Feed (codes "x")) ∷ [])
+sent_behind : IsSending counting.state (events.Feed (codes "x")) [] (by count ∷ side (events.Feed (codes "x")) ∷ [])
 unfolding step effect called settled_state closing began collected took_ctrl left fed quiet resized painted is_due is_ready line_front settled served units_of
     rest_of is_front whole broken next split_after drawn_by changed ended down shown part_lifted lifted written_on unit_written written heard split_in switches
     refitted filled free_from ids_from same_view

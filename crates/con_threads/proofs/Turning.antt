@@ -7,7 +7,7 @@ use Rattle.con_outside.specs.Outside.{then_written, WroteFront}
 use Rattle.con_machine.specs.Rounds.{Begun}
 use Rattle.con_session.specs.CanvasLaws.{canvas_ends}
 use Rattle.con_session.specs.Painting.{CanvasIs}
-use Rattle.con_pipe.specs.Ends.{pieces_put, IsSameIn}
+use Rattle.con_pipe.specs.PipeEnds.{pieces_put, IsSameIn}
 use Rattle.con_pipe.specs.declared.put.PipeIn.{PipeIn}
 use Rattle.con_threads.specs.Painters.{PainterGoes, PainterTurn, IsPainterThread, HasDrawn, PaintsTo, HasFinished}
 use Rattle.con_threads.specs.Scribe.{opened, history, IsSameScribe}

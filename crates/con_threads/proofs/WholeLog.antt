@@ -25,13 +25,13 @@ use Rattle.con_book.specs.declared.machine.Machine.{Ghosts}
 use Rattle.con_book.specs.declared.pass.Pass.{Pass}
 use Rattle.con_book.specs.declared.history.Logged.{Logged}
 use Rattle.con_book.specs.declared.view.Joined.{Joined}
-use Rattle.con_book.specs.declared.view.View.{View}
+use Rattle.con_book.specs.declared.view.PassView.{PassView}
 use Rattle.con_threads.specs.Crews.{down_from}
-use Rattle.con_threads.specs.Ledger.{IsLogOf, entries_of, front_of, next_page, page_ready}
-use Rattle.con_threads.specs.LedgerLaws.{entries_of-append, history_legal, others_entered}
+use Rattle.con_threads.specs.Ledger.{IsLogOf, logged_entries, logged_front, next_page, page_ready}
+use Rattle.con_threads.specs.LedgerLaws.{logged_entries-append, history_legal, others_entered}
 use Rattle.con_threads.specs.Scribe.{SeesMore}
 use Rattle.con_threads.specs.Taking.{HasTaken, IsGathered, IsHistory, IsOf, MayClose, kept_all}
-use Rattle.con_threads.specs.declared.ledger.Page.{Page}
+use Rattle.con_threads.specs.declared.ledger.LedgerView.{LedgerView}
 
 module _ {E : Type 0} where
   nil_right : (xs ys : List E) → xs ++ ys ≡ [] → ys ≡ []
@@ -59,24 +59,24 @@ module _ {E : Type 0} where
 
 -- what a scribe sees more of, by its pass
 pub sees_raw : (n : ℕ) (a : Actor) (s : State) (seen log : List (Logged Event)) (mine : List Event) → numbers.actor_of n ≡ Some a → StartsWith log seen
-    → own n log ≡ mine → own n seen ≡ mine → SeesMore s a (entries_of s seen) (entries_of s log)
+    → own n log ≡ mine → own n seen ≡ mine → SeesMore s a (logged_entries s seen) (logged_entries s log)
 sees_raw n a s seen log mine is more all some =
     let none = no_rest n log seen more.0 mine more.1 all some in
-    let t = run s (entries_of s seen) in
+    let t = run s (logged_entries s seen) in
     record {
-      between = entries_of t more.0;
+      between = logged_entries t more.0;
       others = others_entered n a t more.0 is none;
       legal = history_legal t more.0;
-      entries' = ap (entries_of s) more.1 ∙ entries_of-append s seen more.0;
+      entries' = ap (logged_entries s) more.1 ∙ logged_entries-append s seen more.0;
     }
 
-in_later : (k : Joined Event) (ws : List (View Page Event)) (ks : List (Joined Event)) → In k ks → In k (kept_all ws ks)
+in_later : (k : Joined Event) (ws : List (PassView LedgerView Event)) (ks : List (Joined Event)) → In k ks → In k (kept_all ws ks)
 in_later k [] ks h = h
 in_later k (w ∷ ws) ks h = in_later k ws (joined w ∷ ks) (inr h)
 
-in_crew : (ws : List (View Page Event)) (ks : List (Joined Event)) (k : ℕ) (w : View Page Event) → slice_get ws k ≡ Some w → In (joined w) (kept_all ws ks)
+in_crew : (ws : List (PassView LedgerView Event)) (ks : List (Joined Event)) (k : ℕ) (w : PassView LedgerView Event) → slice_get ws k ≡ Some w → In (joined w) (kept_all ws ks)
 in_crew [] ks k w h = cc
-in_crew (d ∷ ds) ks zero w h = let same : w ≡ d = cc in in_later (joined w) ds (joined d ∷ ks) (inl (ap (λ (z : View Page Event). joined z) same))
+in_crew (d ∷ ds) ks zero w h = let same : w ≡ d = cc in in_later (joined w) ds (joined d ∷ ks) (inl (ap (λ (z : PassView LedgerView Event). joined z) same))
 in_crew (d ∷ ds) ks (suc k) w h = in_crew ds (joined d ∷ ks) k w h
 
 -- who is among n, .. 1
@@ -100,7 +100,7 @@ or_cases false b h = inr h
 test_is : (a n : ℕ) → eqb a n ≡ true → a ≡ n
 test_is a n h = grind (arith, nat_tests)
 
-pub kept_length : (ws : List (View Page Event)) (ks : List (Joined Event)) → length (kept_all ws ks) ≡ length ws + length ks
+pub kept_length : (ws : List (PassView LedgerView Event)) (ks : List (Joined Event)) → length (kept_all ws ks) ≡ length ws + length ks
 kept_length [] ks = omega arith
 kept_length (w ∷ ws) ks = let e = kept_length ws (joined w ∷ ks) in omega (arith, e)
 
@@ -132,15 +132,15 @@ front_by n a e rest true one k = both_true (is_one_of n a) (are_of_session n res
 front_by n a e rest false one k = k
 
 front_ours : (n : ℕ) (s : State) (o : Option Actor) (e : Event) → ((a : Actor) → o ≡ Some a → is_one_of n a ≡ true) → (rest : List Entry)
-    → are_of_session n rest ≡ true → are_of_session n (front_of s o e ++ rest) ≡ true
+    → are_of_session n rest ≡ true → are_of_session n (logged_front s o e ++ rest) ≡ true
 front_ours n s None e f rest k = k
 front_ours n s (Some a) e f rest k = front_by n a e rest (is_ready s a e) (f a refl) k
 
-all_ours : (n : ℕ) (s : State) (log : List (Logged Event)) → AreOurs n log → are_of_session n (entries_of s log) ≡ true
+all_ours : (n : ℕ) (s : State) (log : List (Logged Event)) → AreOurs n log → are_of_session n (logged_entries s log) ≡ true
 all_ours n s [] f = refl
 all_ours n s (x ∷ xs) f =
-    let front = front_of s (numbers.actor_of x.actor) x.event in
-    front_ours n s (numbers.actor_of x.actor) x.event (f x (inl refl)) (entries_of (run s front) xs) (all_ours n (run s front) xs (λ y i. f y (inr i)))
+    let front = logged_front s (numbers.actor_of x.actor) x.event in
+    front_ours n s (numbers.actor_of x.actor) x.event (f x (inl refl)) (logged_entries (run s front) xs) (all_ours n (run s front) xs (λ y i. f y (inr i)))
 
 own_later : (a : ℕ) (y : Logged Event) (ys : List (Logged Event)) (b : Bool) → (own a ys ≡ [] → ⊥) → cond b (y.event ∷ own a ys) (own a ys) ≡ [] → ⊥
 own_later a y ys true some h = cc
@@ -159,14 +159,14 @@ own_in x (y ∷ ys) i h = ⊎_elim (λ e. own_first x y ys e h) (λ t. own_later
 some_is : (a b : Actor) (o : Option Actor) → o ≡ Some a → o ≡ Some b → b ≡ a
 some_is a b o p q = let e : Some b ≡ Some a = sym q ∙ p in cc
 
-module _ {M R A Room : Type 0} {g : Ghosts M Page Event R A Room} (state : M → Page) (id : BookId) (n : ℕ) (opening new last : Pass M Page Event R A Room g)
-    (side : View Page Event) (clients : List (View Page Event))
+module _ {M R A Room : Type 0} {g : Ghosts M LedgerView Event R A Room} (state : M → LedgerView) (id : BookId) (n : ℕ) (opening new last : Pass M LedgerView Event R A Room g)
+    (side : PassView LedgerView Event) (clients : List (PassView LedgerView Event))
     (h : IsGathered id (view_of opening).start n opening last side clients) (taken : HasTaken (joined (view_of last) ∷ (view_of last).kept ++ (view_of opening).kept) opening new)
     (log : List (Logged Event)) (machine : M) (ends : Ends state next_page page_ready (view_of new) log machine) where
-  abbrev start : Page
+  abbrev start : LedgerView
   start = (view_of opening).start
 
-  abbrev pv : View Page Event
+  abbrev pv : PassView LedgerView Event
   pv = view_of last
 
   kept_is : (view_of new).kept ≡ joined pv ∷ pv.kept
@@ -184,10 +184,10 @@ module _ {M R A Room : Type 0} {g : Ghosts M Page Event R A Room} (state : M →
   in_side : In (joined side) pv.kept
   in_side = subst (λ (l : List (Joined Event)). In (joined side) l) (sym h.kept) (inl refl)
 
-  in_client : (k : ℕ) (w : View Page Event) → slice_get clients k ≡ Some w → In (joined w) pv.kept
+  in_client : (k : ℕ) (w : PassView LedgerView Event) → slice_get clients k ≡ Some w → In (joined w) pv.kept
   in_client k w is = subst (λ (l : List (Joined Event)). In (joined w) l) (sym h.kept) (inr (in_crew clients [] k w is))
 
-  client_there : (k : ℕ) → k < n → (w : View Page Event) × (slice_get clients k ≡ Some w)
+  client_there : (k : ℕ) → k < n → (w : PassView LedgerView Event) × (slice_get clients k ≡ Some w)
   client_there k lt = ⊎_elim (λ e. (e.0, e.2)) (λ e. let le : length clients ≤ k = e.0 in let m = h.len in absurd (omega arith)) (slice_get_cases clients k).1
 
   seen_is : StartsWith log pv.seen
@@ -254,22 +254,22 @@ module _ {M R A Room : Type 0} {g : Ghosts M Page Event R A Room} (state : M →
       (λ m. ours_made x.actor b is (ap (is_among x.actor) (sym made_is) ∙ m))
       (or_cases (eqb x.actor 0) (is_among x.actor (view_of new).made) e)
 
-  numbered : are_of_session n (entries_of start.state log) ≡ true
+  numbered : are_of_session n (logged_entries start.state log) ≡ true
   numbered = all_ours n start.state log (λ x i b is. ours_by x i b is (has_pass x.actor (view_of new)) refl)
 
-  sees : (m : ℕ) (a : Actor) (w : View Page Event) → In (joined w) pv.kept → IsOf start m w → numbers.actor_of m ≡ Some a
-      → SeesMore start.state a (entries_of start.state w.seen) (entries_of start.state log)
+  sees : (m : ℕ) (a : Actor) (w : PassView LedgerView Event) → In (joined w) pv.kept → IsOf start m w → numbers.actor_of m ≡ Some a
+      → SeesMore start.state a (logged_entries start.state w.seen) (logged_entries start.state log)
   sees m a w i k is =
       sees_raw m a start.state w.seen log w.mine is (seen_log (joined w) (inr i)) (ap (λ (z : ℕ). own z log) (sym k.actor) ∙ own_log (joined w) (inr i))
       (ap (λ (z : ℕ). own z w.seen) (sym k.actor) ∙ k.own_mine)
 
   -- all that is said of it
-  pub history : (es : List Entry) (rs : List Reply) → es ≡ entries_of start.state log → rs ≡ map listed (replies_of start.state (entries_of start.state log))
+  pub history : (es : List Entry) (rs : List Reply) → es ≡ logged_entries start.state log → rs ≡ map listed (replies_of start.state (logged_entries start.state log))
       → IsHistory start n pv side clients es rs
   history es rs e r =
       let P : List Entry → Type 0 = λ z. IsHistory start n pv side clients z rs in
       subst P (sym e) (record {
-        whole = ap (entries_of start.state) all_seen;
+        whole = ap (logged_entries start.state) all_seen;
         legal = history_legal start.state log;
         replies = r;
         numbered = numbered;
@@ -281,7 +281,7 @@ module _ {M R A Room : Type 0} {g : Ghosts M Page Event R A Room} (state : M →
       })
 
 -- as many passes were taken in as were given
-pub may_close : {M R A Room : Type 0} {g : Ghosts M Page Event R A Room} (id : BookId) (opening new last : Pass M Page Event R A Room g)
+pub may_close : {M R A Room : Type 0} {g : Ghosts M LedgerView Event R A Room} (id : BookId) (opening new last : Pass M LedgerView Event R A Room g)
     → MayClose id opening last → HasTaken (joined (view_of last) ∷ (view_of last).kept ++ (view_of opening).kept) opening new
     → length (view_of new).kept ≡ length (view_of new).made
 may_close id opening new last h taken =
@@ -294,12 +294,12 @@ may_close id opening new last h taken =
     omega (arith, a, b, m, n)
 
 -- the log of the ledger that a closed book leaves
-pub log_is : {M R A Room : Type 0} {g : Ghosts M Page Event R A Room} (state : M → Page) (ks : List (Joined Event))
-    (opening new : Pass M Page Event R A Room g) (log : List (Logged Event)) (machine : M)
+pub log_is : {M R A Room : Type 0} {g : Ghosts M LedgerView Event R A Room} (state : M → LedgerView) (ks : List (Joined Event))
+    (opening new : Pass M LedgerView Event R A Room g) (log : List (Logged Event)) (machine : M)
     → HasTaken ks opening new → (view_of opening).start.replies ≡ []
     → Ends state next_page page_ready (view_of new) log machine → IsLogOf (view_of opening).start log (state machine)
 log_is state ks opening new log machine taken none ends = record {
   none_before = none;
-  page' = ends.machine_is ∙ ap (λ (s : Page). book.after next_page s log) taken.start;
-  legal = ap (λ (s : Page). book.is_legal next_page page_ready s log) (sym taken.start) ∙ ends.legal;
+  page' = ends.machine_is ∙ ap (λ (s : LedgerView). book.after next_page s log) taken.start;
+  legal = ap (λ (s : LedgerView). book.is_legal next_page page_ready s log) (sym taken.start) ∙ ends.legal;
 }

@@ -7,18 +7,18 @@ use Rattle.con_book.specs.declared.machine.Machine.{Ghosts}
 use Rattle.con_book.specs.declared.pass.Pass.{Pass}
 use Rattle.con_threads.specs.Clients.{ClientView, ViewGoes, IsClientThreadBy, HasServedBy}
 use Rattle.con_threads.specs.Scribe.{history}
-use Rattle.con_threads.specs.declared.ledger.Page.{Page}
+use Rattle.con_threads.specs.declared.ledger.LedgerView.{LedgerView}
 use Rattle.con_threads.specs.declared.scribe.Scribe.{Scribe}
 
 -- the scribe of this actor at this book, which began so; its pass has taken in none
-pub record IsAt (id : BookId) (start : Page) (number : ℕ) (s : Scribe) : Type 0 where
+pub record IsAt (id : BookId) (start : LedgerView) (number : ℕ) (s : Scribe) : Type 0 where
   pub book : pass_id s.pass ≡ id
   pub actor' : actor_of s.pass ≡ number
   pub begins : (view_of s.pass).start ≡ start
   pub none_kept : (view_of s.pass).kept ≡ []
 
 -- the client of this number and script, which has done nothing
-pub record Begins (id : BookId) (start : Page) (script : Script) (number : ℕ) (v : ClientView) : Type 0 where
+pub record Begins (id : BookId) (start : LedgerView) (script : Script) (number : ℕ) (v : ClientView) : Type 0 where
   pub at : IsAt id start number v.scribe
   pub number' : v.number ≡ number
   pub is : IsClientThreadBy v
@@ -27,18 +27,18 @@ pub record Begins (id : BookId) (start : Page) (script : Script) (number : ℕ) 
   pub none : history v.scribe ≡ []
 
 -- client k + 1 at this book
-pub record Belongs (id : BookId) (start : Page) (k : ℕ) (v : ClientView) : Type 0 where
+pub record Belongs (id : BookId) (start : LedgerView) (k : ℕ) (v : ClientView) : Type 0 where
   pub at : IsAt id start (k + 1) v.scribe
   pub number' : v.number ≡ k + 1
   pub is : IsClientThreadBy v
 
 module _ {C : Type 0} (view : C → ClientView) where
   -- each is the client of its place, and has done nothing
-  abbrev pub AreNew : BookId → Page → List Script → List C → Type 0
+  abbrev pub AreNew : BookId → LedgerView → List Script → List C → Type 0
   AreNew id start scripts cs = (k : ℕ) (c : C) → slice_get cs k ≡ Some c → (script : Script) × (slice_get scripts k ≡ Some script)
       × Begins id start script (k + 1) (view c)
 
-  abbrev pub IsCrew : BookId → Page → List C → Type 0
+  abbrev pub IsCrew : BookId → LedgerView → List C → Type 0
   IsCrew id start cs = (k : ℕ) (c : C) → slice_get cs k ≡ Some c → Belongs id start k (view c)
 
   -- each goes as its script and the session's beginning say

@@ -22,26 +22,26 @@ use Rattle.con_session.specs.Painting.{Pictures}
 use Rattle.con_session.specs.declared.desk.Brief.{Brief}
 use Rattle.con_session.specs.declared.desk.Brief.TheVariants as briefs
 use Rattle.con_threads.specs.declared.ledger.Ledger.{Ledger}
-use Rattle.con_threads.specs.declared.ledger.Page.{Page}
+use Rattle.con_threads.specs.declared.ledger.LedgerView.{LedgerView}
 use Rattle.con_threads.specs.declared.ledger.Told.{Told}
 use Rattle.con_threads.specs.declared.ledger.Told.TheVariants as tolds
 
 -- the entry of an event, where it is ready
-abbrev pub front_of : State → Option Actor → Event → List Entry
-front_of s None e = []
-front_of s (Some a) e = if is_ready s a e then entry a e ∷ [] else []
+abbrev pub logged_front : State → Option Actor → Event → List Entry
+logged_front s None e = []
+logged_front s (Some a) e = if is_ready s a e then entry a e ∷ [] else []
 
 -- the entries of a log
-abbrev pub entries_of : State → List (Logged Event) → List Entry
-entries_of s [] = []
-entries_of s (x ∷ xs) = front_of s (actor_of x.actor) x.event ++ entries_of (run s (front_of s (actor_of x.actor) x.event)) xs
+abbrev pub logged_entries : State → List (Logged Event) → List Entry
+logged_entries s [] = []
+logged_entries s (x ∷ xs) = logged_front s (actor_of x.actor) x.event ++ logged_entries (run s (logged_front s (actor_of x.actor) x.event)) xs
 
 -- a console and what it answered, after more entries
-abbrev pub paged : Page → List Entry → Page
+abbrev pub paged : LedgerView → List Entry → LedgerView
 paged p h = record { state = run p.state h; replies = p.replies ++ map listed (replies_of p.state h) }
 
-abbrev pub next_page : Page → ℕ → Event → Page
-next_page p n e = paged p (front_of p.state (actor_of n) e)
+abbrev pub next_page : LedgerView → ℕ → Event → LedgerView
+next_page p n e = paged p (logged_front p.state (actor_of n) e)
 
 -- what a client looks at in what it was told
 abbrev pub brief_told : Told → Brief
@@ -64,19 +64,19 @@ TellsPicture t s (Some a) e = Unit {0}
 
 -- ---- the same by an actor's number, as a book reads them
 
-abbrev pub page_of : Ledger → Page
+abbrev pub page_of : Ledger → LedgerView
 page_of l = record { state = l.console.state; replies = l.replies.items }
 
-abbrev pub blank_page : Page
+abbrev pub blank_page : LedgerView
 blank_page = record { state = blank_state; replies = [] }
 
-abbrev pub page_ready : Page → ℕ → Event → Bool
+abbrev pub page_ready : LedgerView → ℕ → Event → Bool
 page_ready p n e = ready_of p.state (actor_of n) e
 
-abbrev pub page_brief : Page → ℕ → Event → Brief
+abbrev pub page_brief : LedgerView → ℕ → Event → Brief
 page_brief p n e = brief_by p.state (actor_of n) e
 
-abbrev pub page_tells : Told → Page → ℕ → Event → Type 0
+abbrev pub page_tells : Told → LedgerView → ℕ → Event → Type 0
 page_tells t p n e = TellsPicture t p.state (actor_of n) e
 
 -- room for an event: the console's, a place for its reply, and one for its entry
@@ -101,7 +101,7 @@ abbrev pub entry_by : ℕ → Event → Entry
 entry_by n e = entry (actor_or (actor_of n)) e
 
 -- a ledger that had no reply and now stands behind this log, in which each event was ready where it stands
-pub record IsLogOf (start : Page) (log : List (Logged Event)) (page : Page) : Type 0 where
+pub record IsLogOf (start : LedgerView) (log : List (Logged Event)) (page : LedgerView) : Type 0 where
   pub none_before : start.replies ≡ []
   pub page' : page ≡ after next_page start log
   pub legal : is_legal next_page page_ready start log ≡ true

@@ -19,23 +19,23 @@ use Rattle.con_machine.specs.Numbered.{actor_of, ready_of}
 use Rattle.con_machine.specs.State.{State}
 use Rattle.con_machine.specs.Step.{step, is_ready}
 use Rattle.con_session.specs.Desk.{entry, listed}
-use Rattle.con_threads.specs.Ledger.{front_of, entries_of, paged, next_page, page_ready, entry_by, actor_or, IsLogOf}
+use Rattle.con_threads.specs.Ledger.{logged_front, logged_entries, paged, next_page, page_ready, entry_by, actor_or, IsLogOf}
 use Rattle.con_threads.specs.Scribe.{is_same}
-use Rattle.con_threads.specs.declared.ledger.Page.{Page}
+use Rattle.con_threads.specs.declared.ledger.LedgerView.{LedgerView}
 
 -- ---- one log behind another
 
-pub entries_of-append : (s : State) (xs ys : List (Logged Event)) → entries_of s (xs ++ ys) ≡ entries_of s xs ++ entries_of (run s (entries_of s xs)) ys
-entries_of-append s [] ys = refl
-entries_of-append s (x ∷ xs) ys =
-    let f : List Entry = front_of s (actor_of x.actor) x.event in
+pub logged_entries-append : (s : State) (xs ys : List (Logged Event)) → logged_entries s (xs ++ ys) ≡ logged_entries s xs ++ logged_entries (run s (logged_entries s xs)) ys
+logged_entries-append s [] ys = refl
+logged_entries-append s (x ∷ xs) ys =
+    let f : List Entry = logged_front s (actor_of x.actor) x.event in
     let t : State = run s f in
-    ap (λ (es : List Entry). f ++ es) (entries_of-append t xs ys)
-    ∙ (sym (append_assoc f (entries_of t xs) (entries_of (run t (entries_of t xs)) ys))
-    ∙ ap (λ (u : State). (f ++ entries_of t xs) ++ entries_of u ys) (sym (run-append s f (entries_of t xs))))
+    ap (λ (es : List Entry). f ++ es) (logged_entries-append t xs ys)
+    ∙ (sym (append_assoc f (logged_entries t xs) (logged_entries (run t (logged_entries t xs)) ys))
+    ∙ ap (λ (u : State). (f ++ logged_entries t xs) ++ logged_entries u ys) (sym (run-append s f (logged_entries t xs))))
 
 -- a console and what it answered, after some entries and then more
-pub paged_paged : (p : Page) (h g : List Entry) → paged (paged p h) g ≡ paged p (h ++ g)
+pub paged_paged : (p : LedgerView) (h g : List Entry) → paged (paged p h) g ≡ paged p (h ++ g)
 paged_paged p h g =
     let answered : (p.replies ++ map listed (replies_of p.state h)) ++ map listed (replies_of (run p.state h) g) ≡ p.replies
     ++ map listed (replies_of p.state (h ++ g)) =
@@ -44,22 +44,22 @@ paged_paged p h g =
     ∙ ap (λ (rs : List Reply). map listed rs) (sym (replies-append p.state h g))) in
     λ i. record { state = sym (run-append p.state h g) i; replies = answered i }
 
-pub paged_none : (p : Page) → p ≡ paged p []
+pub paged_none : (p : LedgerView) → p ≡ paged p []
 paged_none p = λ i. record { state = p.state; replies = sym (append-nil p.replies) i }
 
 -- a book's log leads where its entries lead
-pub after_paged : (p : Page) (log : List (Logged Event)) → after next_page p log ≡ paged p (entries_of p.state log)
+pub after_paged : (p : LedgerView) (log : List (Logged Event)) → after next_page p log ≡ paged p (logged_entries p.state log)
 after_paged p [] = paged_none p
 after_paged p (x ∷ xs) =
-    let f : List Entry = front_of p.state (actor_of x.actor) x.event in
-    after_paged (paged p f) xs ∙ paged_paged p f (entries_of (run p.state f) xs)
+    let f : List Entry = logged_front p.state (actor_of x.actor) x.event in
+    after_paged (paged p f) xs ∙ paged_paged p f (logged_entries (run p.state f) xs)
 
-pub after_state : (p : Page) (log : List (Logged Event)) → (after next_page p log).state ≡ run p.state (entries_of p.state log)
-after_state p log = ap (λ (q : Page). q.state) (after_paged p log)
+pub after_state : (p : LedgerView) (log : List (Logged Event)) → (after next_page p log).state ≡ run p.state (logged_entries p.state log)
+after_state p log = ap (λ (q : LedgerView). q.state) (after_paged p log)
 
-pub after_replies : (p : Page) (log : List (Logged Event))
-    → (after next_page p log).replies ≡ p.replies ++ map listed (replies_of p.state (entries_of p.state log))
-after_replies p log = ap (λ (q : Page). q.replies) (after_paged p log)
+pub after_replies : (p : LedgerView) (log : List (Logged Event))
+    → (after next_page p log).replies ≡ p.replies ++ map listed (replies_of p.state (logged_entries p.state log))
+after_replies p log = ap (λ (q : LedgerView). q.replies) (after_paged p log)
 
 -- ---- each entry was ready where it stands
 
@@ -70,16 +70,16 @@ front_legal_by : (s : State) (a : Actor) (e : Event) (b : Bool) → is_ready s a
 front_legal_by s a e true i = ap (λ (c : Bool). c && true) i
 front_legal_by s a e false i = refl
 
-front_legal : (s : State) (o : Option Actor) (e : Event) → is_legal s (front_of s o e) ≡ true
+front_legal : (s : State) (o : Option Actor) (e : Event) → is_legal s (logged_front s o e) ≡ true
 front_legal s None e = refl
 front_legal s (Some a) e = front_legal_by s a e (is_ready s a e) refl
 
-pub history_legal : (s : State) (log : List (Logged Event)) → is_legal s (entries_of s log) ≡ true
+pub history_legal : (s : State) (log : List (Logged Event)) → is_legal s (logged_entries s log) ≡ true
 history_legal s [] = refl
 history_legal s (x ∷ xs) =
-    let f : List Entry = front_of s (actor_of x.actor) x.event in
-    legal-append s f (entries_of (run s f) xs)
-    ∙ both_true (is_legal s f) (is_legal (run s f) (entries_of (run s f) xs)) (front_legal s (actor_of x.actor) x.event) (history_legal (run s f) xs)
+    let f : List Entry = logged_front s (actor_of x.actor) x.event in
+    legal-append s f (logged_entries (run s f) xs)
+    ∙ both_true (is_legal s f) (is_legal (run s f) (logged_entries (run s f) xs)) (front_legal s (actor_of x.actor) x.event) (history_legal (run s f) xs)
 
 -- ---- a log in which each event was ready
 
@@ -92,20 +92,20 @@ and_right true b e = e
 and_right false b e = absurd (let k : false ≡ true = e in cc)
 
 -- an event that is ready has its entry
-pub front_whole : (s : State) (o : Option Actor) (e : Event) → ready_of s o e ≡ true → front_of s o e ≡ entry (actor_or o) e ∷ []
+pub front_whole : (s : State) (o : Option Actor) (e : Event) → ready_of s o e ≡ true → logged_front s o e ≡ entry (actor_or o) e ∷ []
 front_whole s None e r = absurd (let k : false ≡ true = r in cc)
 front_whole s (Some a) e r = ap (λ (b : Bool). if b then entry a e ∷ [] else []) r
 
 -- so each event of it has one
-pub each_entered : (p : Page) (log : List (Logged Event)) → book.is_legal next_page page_ready p log ≡ true
-    → entries_of p.state log ≡ map (λ x. entry_by x.actor x.event) log
+pub each_entered : (p : LedgerView) (log : List (Logged Event)) → book.is_legal next_page page_ready p log ≡ true
+    → logged_entries p.state log ≡ map (λ x. entry_by x.actor x.event) log
 each_entered p [] l = refl
 each_entered p (x ∷ xs) l =
-    let f : List Entry = front_of p.state (actor_of x.actor) x.event in
-    let q : Page = next_page p x.actor x.event in
+    let f : List Entry = logged_front p.state (actor_of x.actor) x.event in
+    let q : LedgerView = next_page p x.actor x.event in
     let one : f ≡ entry_by x.actor x.event
     ∷ [] = front_whole p.state (actor_of x.actor) x.event (and_left (page_ready p x.actor x.event) (book.is_legal next_page page_ready q xs) l) in
-    ap (λ (es : List Entry). es ++ entries_of (run p.state f) xs) one
+    ap (λ (es : List Entry). es ++ logged_entries (run p.state f) xs) one
     ∙ ap (λ (es : List Entry). entry_by x.actor x.event
     ∷ es) (each_entered q xs (and_right (page_ready p x.actor x.event) (book.is_legal next_page page_ready q xs) l))
 
@@ -113,20 +113,20 @@ length_replies : (s : State) (h : List Entry) → length (replies_of s h) ≡ le
 length_replies s [] = refl
 length_replies s (x ∷ xs) = let e = length_replies (step s x.actor x.event).after xs in omega (arith, e)
 
-pub log_entries : (start : Page) (log : List (Logged Event)) (page : Page) → IsLogOf start log page
-    → map (λ x. entry_by x.actor x.event) log ≡ entries_of start.state log
+pub log_entries : (start : LedgerView) (log : List (Logged Event)) (page : LedgerView) → IsLogOf start log page
+    → map (λ x. entry_by x.actor x.event) log ≡ logged_entries start.state log
 log_entries start log page is = sym (each_entered start log is.legal)
 
-pub log_replies : (start : Page) (log : List (Logged Event)) (page : Page) → IsLogOf start log page
-    → page.replies ≡ map listed (replies_of start.state (entries_of start.state log))
+pub log_replies : (start : LedgerView) (log : List (Logged Event)) (page : LedgerView) → IsLogOf start log page
+    → page.replies ≡ map listed (replies_of start.state (logged_entries start.state log))
 log_replies start log page is =
-    ap (λ (q : Page). q.replies) is.page' ∙ (after_replies start log
-    ∙ ap (λ (rs : List Reply). rs ++ map listed (replies_of start.state (entries_of start.state log))) is.none_before)
+    ap (λ (q : LedgerView). q.replies) is.page' ∙ (after_replies start log
+    ∙ ap (λ (rs : List Reply). rs ++ map listed (replies_of start.state (logged_entries start.state log))) is.none_before)
 
 -- a reply for each event of it
-pub log_counted : (start : Page) (log : List (Logged Event)) (page : Page) → IsLogOf start log page → length log ≡ length page.replies
+pub log_counted : (start : LedgerView) (log : List (Logged Event)) (page : LedgerView) → IsLogOf start log page → length log ≡ length page.replies
 log_counted start log page is =
-    let h : List Entry = entries_of start.state log in
+    let h : List Entry = logged_entries start.state log in
     let a : length page.replies ≡ length (map listed (replies_of start.state h)) = ap length (log_replies start log page is) in
     let b : length (map listed (replies_of start.state h)) ≡ length (replies_of start.state h) = length-map (replies_of start.state h) listed in
     let c : length (replies_of start.state h) ≡ length h = length_replies start.state h in
@@ -175,7 +175,7 @@ front_others_by s a b e true n = ap (λ (c : Bool). not c && true) n
 front_others_by s a b e false n = refl
 
 front_others : (s : State) (n m : ℕ) (a : Actor) (o : Option Actor) (e : Event) → actor_of n ≡ Some a → actor_of m ≡ o → (m == n) ≡ false
-    → list_all (λ x. not (is_same a x.actor)) (front_of s o e) ≡ true
+    → list_all (λ x. not (is_same a x.actor)) (logged_front s o e) ≡ true
 front_others s n m a None e i j ne = refl
 front_others s n m a (Some b) e i j ne = front_others_by s a b e (is_ready s b e) (not_same n m a b i j ne)
 
@@ -189,11 +189,11 @@ own_tail false e es h = h
 
 -- events of other numbers are entries of other actors
 pub others_entered : (n : ℕ) (a : Actor) (s : State) (log : List (Logged Event)) → actor_of n ≡ Some a → own n log ≡ []
-    → list_all (λ x. not (is_same a x.actor)) (entries_of s log) ≡ true
+    → list_all (λ x. not (is_same a x.actor)) (logged_entries s log) ≡ true
 others_entered n a s [] i none = refl
 others_entered n a s (x ∷ xs) i none =
-    let f : List Entry = front_of s (actor_of x.actor) x.event in
-    let g : List Entry = entries_of (run s f) xs in
+    let f : List Entry = logged_front s (actor_of x.actor) x.event in
+    let g : List Entry = logged_entries (run s f) xs in
     list_all-append (λ z. not (is_same a z.actor)) f g
     ∙ both_true (list_all (λ z. not (is_same a z.actor)) f) (list_all (λ z. not (is_same a z.actor)) g)
     (front_others s n x.actor a (actor_of x.actor) x.event i refl (not_own (x.actor == n) x.event (own n xs) none))

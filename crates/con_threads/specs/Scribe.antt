@@ -12,7 +12,7 @@ use Rattle.con_machine.specs.Numbered as numbers
 use Rattle.con_machine.specs.State.{State}
 use Rattle.con_machine.specs.Step.{step, is_ready}
 use Rattle.con_session.specs.Desk.{brief_of, entry}
-use Rattle.con_threads.specs.Ledger.{entries_of, brief_told, TellsPicture}
+use Rattle.con_threads.specs.Ledger.{logged_entries, brief_told, TellsPicture}
 use Rattle.con_threads.specs.declared.ledger.Told.{Told}
 use Rattle.con_threads.specs.declared.scribe.Scribe.{Scribe}
 
@@ -28,7 +28,7 @@ opened s = (view_of s.pass).start.state
 
 -- the entries that it has seen, oldest first; each was ready where it stands
 abbrev pub history : Scribe → List Entry
-history s = entries_of (opened s) (seen s.pass)
+history s = logged_entries (opened s) (seen s.pass)
 
 -- what a scribe always is
 pub record IsScribe (s : Scribe) : Type 0 where

@@ -18,7 +18,7 @@ use Rattle.con_machine.specs.Turns.{is_client, is_terminal}
 use Rattle.con_session.specs.Desk.{brief_of, entry, is_painter, Ran}
 use Rattle.con_threads.specs.Ledger.{brief_told, TellsPicture}
 use Rattle.con_threads.specs.Scribe.{opened, is_same, IsSameScribe, SeesMore, HasEntered}
-use Rattle.con_threads.specs.declared.ledger.Page.{Page}
+use Rattle.con_threads.specs.declared.ledger.LedgerView.{LedgerView}
 use Rattle.con_threads.specs.declared.ledger.Told.{Told}
 use Rattle.con_threads.specs.declared.scribe.Scribe.{Scribe}
 
@@ -50,7 +50,7 @@ same_then s t u x y = record {
 
 -- the console began as it did
 pub same_opened : (s t : Scribe) → IsSameScribe s t → opened t ≡ opened s
-same_opened s t x = ap (λ (p : Page). p.state) x.pass.1.0
+same_opened s t x = ap (λ (p : LedgerView). p.state) x.pass.1.0
 
 -- ---- more was seen, and then more
 

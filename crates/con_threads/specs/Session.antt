@@ -17,7 +17,7 @@ use Rattle.con_session.specs.Sender.{LinkIs, LinkEnds}
 use Rattle.con_session.specs.Solo.{AsksStand}
 use Rattle.con_session.specs.Standing.{ClientStands}
 use Rattle.con_session.specs.declared.terminal.Side.{Side}
-use Rattle.con_pipe.specs.Ends.{pieces_put, pieces_taken, has_ended, IsPipe}
+use Rattle.con_pipe.specs.PipeEnds.{pieces_put, pieces_taken, has_ended, IsPipe}
 use Rattle.con_pipe.specs.declared.put.PipeIn.{PipeIn}
 use Rattle.con_book.specs.Passes.{BookId, view_of}
 use Rattle.con_book.specs.declared.machine.Machine.{Ghosts}
@@ -28,7 +28,7 @@ use Rattle.con_threads.specs.Painters.{IsPainterThread, PainterGoes}
 use Rattle.con_threads.specs.Scribe.{history}
 use Rattle.con_threads.specs.Sides.{IsSideThread, SideGoes}
 use Rattle.con_threads.specs.Writers.{Writes}
-use Rattle.con_threads.specs.declared.ledger.Page.{Page}
+use Rattle.con_threads.specs.declared.ledger.LedgerView.{LedgerView}
 use Rattle.con_threads.specs.declared.painter.PainterThread.{PainterThread}
 use Rattle.con_threads.specs.declared.side.SideThread.{SideThread}
 use Rattle.con_threads.specs.declared.writer.WriterThread.{WriterThread}
@@ -38,7 +38,7 @@ abbrev pub clients_in : Begun → ℕ
 clients_in b = length b.session.scripts
 
 -- All but the clients, at a book that began so. Side and painter have passes of their own, and the two ends are of one pipe.
-pub record AreMade (id : BookId) (start : Page) (side : SideThread) (painter : PainterThread) (put : PipeIn) (writer : WriterThread) : Type 0 where
+pub record AreMade (id : BookId) (start : LedgerView) (side : SideThread) (painter : PainterThread) (put : PipeIn) (writer : WriterThread) : Type 0 where
   pub side_at : IsAt id start 1000 side.scribe
   pub side_is : IsSideThread side
   pub painter_at : IsAt id start 1001 painter.scribe
@@ -52,10 +52,10 @@ pub record EdgesGo (b : Begun) (before left old now : Option (List ℕ)) (side :
   pub painter' : PainterGoes b (history painter.scribe) b.session.size painter.painter (pieces_put put) painter.ends.items painter.end painter.broken
   pub writer' : Writes old now (pieces_taken writer.take) writer.failed writer.broken
 
-module _ {M R A Room : Type 0} {g : Ghosts M Page Event R A Room} where
+module _ {M R A Room : Type 0} {g : Ghosts M LedgerView Event R A Room} where
   -- all threads of n clients have returned
   pub record AreBack {C : Type 0} (view : C
-      → ClientView) (id : BookId) (n : ℕ) (opening : Pass M Page Event R A Room g) (side : SideThread) (painter : PainterThread)
+      → ClientView) (id : BookId) (n : ℕ) (opening : Pass M LedgerView Event R A Room g) (side : SideThread) (painter : PainterThread)
       (put : PipeIn) (writer : WriterThread) (cs : List C) : Type 0 where
     pub opening' : IsOpening id (view_of opening).start (1001 ∷ 1000 ∷ down_from n) opening
     pub none_before : (view_of opening).start.replies ≡ []

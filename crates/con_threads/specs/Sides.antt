@@ -32,7 +32,7 @@ pub record IsSideThread (t : SideThread) : Type 0 where
   pub few : t.side.ended ≡ false → t.broken ≡ false → t.reader ≤ 16777216
 
 -- More was seen, nothing of the terminal's side, and then its own event was entered.
-pub record HasSent (start : State) (event : Event) (h g : List Entry) : Type 0 where
+pub record IsSending (start : State) (event : Event) (h g : List Entry) : Type 0 where
   pub between : List Entry
   pub others : list_all (λ x. not (is_same actors.Terminal x.actor)) between ≡ true
   pub legal : is_legal (run start h) between ≡ true

@@ -2,7 +2,7 @@
 use Rattle.std.specs.Prelude.{◌≡◌, ◌⊎◌, ◌≤◌, ℕ, Bool, true, ◌||◌, List, Option}
 use Rattle.con_outside.specs.Outside.{Rose}
 use Rattle.con_session.specs.Painting.{Written}
-use Rattle.con_pipe.specs.Ends.{pieces_taken, has_ended, IsSameOut}
+use Rattle.con_pipe.specs.PipeEnds.{pieces_taken, has_ended, IsSameOut}
 use Rattle.con_threads.specs.declared.writer.WriterThread.{WriterThread}
 
 -- a front of the pieces that it took, all of them while the sink did not fail and there was memory

@@ -2,15 +2,15 @@
 ghost use Rattle.std.specs.Prelude.{◌≡◌, ◌≢◌, ◌⊎◌, ◌≤◌, ℕ, ◌∷◌, true, false, [], List, Option, None, length, map, All};
 ghost use Rattle.con_outside.specs.Outside.{Rose};
 ghost use Rattle.con_events.specs.Session.{Clients};
-ghost use Rattle.con_machine.specs.Follows.{begun};
+ghost use Rattle.con_machine.specs.Follows.{session_start};
 ghost use Rattle.con_session.specs.Outcome.{Leaves};
 ghost use Rattle.con_session.specs.Solo.{begins, end_by};
 ghost use Rattle.con_book.specs.Lock.{joined};
 ghost use Rattle.con_book.specs.Passes.{book_id, pass_id, view_of};
 ghost use Rattle.con_book.specs.Turn.{OwnIsMine};
-ghost use Rattle.con_book.specs.declared.view.View.{View};
+ghost use Rattle.con_book.specs.declared.view.PassView.{PassView};
 ghost use Rattle.con_events.specs.declared.event.Event.{Event};
-ghost use Rattle.con_threads.specs.declared.ledger.Page.{Page};
+ghost use Rattle.con_threads.specs.declared.ledger.LedgerView.{LedgerView};
 ghost use Rattle.con_threads.specs.Clients.{seen_of};
 ghost use Rattle.con_threads.specs.Crews.{CrewGoes};
 ghost use Rattle.con_threads.specs.Session.{AreBack, EdgesGo};
@@ -25,7 +25,7 @@ use crate::painter::PainterThread;
 use crate::scribe::Scribe;
 use crate::side::SideThread;
 use con_book::{Book, Pass};
-use con_events::{End, Ends, Entries, Replies};
+use con_events::{End, Entries, PieceEnds, Replies};
 use con_outside::Sink;
 use con_pipe::meet;
 use con_session::Outcome;
@@ -78,7 +78,7 @@ fn end_for(failed: bool, end: End) -> End
 // What a closed book leaves, with the ends of the frames.
 fn left(book: Book<Ledger>, opening: Pass<Ledger>, painter: PainterThread, end: End) -> Outcome
     requires { MayClose (book_id book) opening painter.scribe.pass }
-    ensures history { (n : ℕ) (side : View Page Event) (clients : List (View Page Event))
+    ensures history { (n : ℕ) (side : PassView LedgerView Event) (clients : List (PassView LedgerView Event))
         → IsGathered (book_id book) (view_of opening).start n opening painter.scribe.pass side clients
         → IsHistory (view_of opening).start n (view_of painter.scribe.pass) side clients result.entries result.replies }
     ensures ends { result.ends ≡ painter.ends.items }
@@ -96,7 +96,7 @@ fn left(book: Book<Ledger>, opening: Pass<Ledger>, painter: PainterThread, end: 
     Outcome {
         entries: Entries(entries),
         replies: Replies(replies),
-        ends: Ends(ends),
+        ends: PieceEnds(ends),
         end,
     }
 }
@@ -114,7 +114,7 @@ pub fn finished<R: Wait, O: Sink>(
 ) -> Outcome
     requires back { AreBack (seen_of memory) (book_id book) clients opening edges.side edges.painter edges.put edges.writer crew.items }
     ensures outcome { (session : Clients) (racks : List (List ℕ)) (before left old : Option (List ℕ))
-        → (view_of opening).start.state ≡ begun session racks → length session.scripts ≡ clients
+        → (view_of opening).start.state ≡ session_start session racks → length session.scripts ≡ clients
         → EdgesGo (begins session racks None) before left old (O.written term.old) edges.side edges.painter edges.put edges.writer
         → CrewGoes (seen_of memory) (begins session racks None) crew.entry.items
         → Leaves session racks result.entries result.replies result.ends result.end before left old (O.written term.new) }

@@ -3,9 +3,9 @@ ghost use Rattle.std.specs.Prelude.{◌≡◌, ℕ, ◌∷◌, ◌++◌, false, 
 ghost use Rattle.con_events.specs.declared.event.Event.{Event};
 ghost use Rattle.con_book.specs.Lock.{joined};
 ghost use Rattle.con_book.specs.Passes.{book_id, pass_id, view_of};
-ghost use Rattle.con_book.specs.declared.view.View.{View};
+ghost use Rattle.con_book.specs.declared.view.PassView.{PassView};
 ghost use Rattle.con_threads.specs.Taking.{Covers, HasTaken, IsGathered, IsHistory, MayClose};
-ghost use Rattle.con_threads.specs.declared.ledger.Page.{Page};
+ghost use Rattle.con_threads.specs.declared.ledger.LedgerView.{LedgerView};
 
 use crate::ledger::Ledger;
 use con_book::{Book, Closed, Pass};
@@ -28,7 +28,7 @@ pub fn closed(
     last: Pass<Ledger>,
 ) -> (Vec<Entry>, Vec<Reply>)
     requires { MayClose (book_id book) opening last }
-    ensures { (n : ℕ) (side : View Page Event) (clients : List (View Page Event))
+    ensures { (n : ℕ) (side : PassView LedgerView Event) (clients : List (PassView LedgerView Event))
         → IsGathered (book_id book) (view_of opening).start n opening last side clients
         → IsHistory (view_of opening).start n (view_of last) side clients result.0.items result.1.items }
 {

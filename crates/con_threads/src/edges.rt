@@ -3,11 +3,11 @@ ghost use Rattle.std.specs.Prelude.{◌≡◌, ℕ, ◌≤◌, ◌∷◌, true, 
 ghost use Rattle.con_events.specs.declared.end.End.{End};
 ghost use Rattle.con_machine.specs.Painting.{is_fresh};
 ghost use Rattle.con_events.specs.Session.{Clients};
-ghost use Rattle.con_machine.specs.Follows.{begun};
+ghost use Rattle.con_machine.specs.Follows.{session_start};
 ghost use Rattle.con_book.specs.Passes.{book_id, view_of};
 ghost use Rattle.con_session.specs.Solo.{begins};
 ghost use Rattle.con_threads.specs.Crews.{IsOpening, down_from};
-ghost use Rattle.con_pipe.specs.Ends.{is_finished};
+ghost use Rattle.con_pipe.specs.PipeEnds.{is_finished};
 ghost use Rattle.con_threads.specs.Session.{AreMade, EdgesGo};
 
 use crate::ledger::Ledger;
@@ -19,7 +19,7 @@ use con_book::{Book, Opened, Pass};
 use con_events::{Actor, End};
 use con_link::LinkReader;
 use con_paint::Painter;
-use con_pipe::{Ends, PipeIn, pipe};
+use con_pipe::{PipeEnds, PipeIn, pipe};
 use con_session::{Canvas, Desk, Side, Stage};
 use con_units::OutOfMemory;
 use std::alloc::Global;
@@ -102,9 +102,9 @@ pub fn make_edges(
     ensures open { IfOk result (λ e. is_finished e.put ≡ false) }
     ensures fine { IfOk result (λ e. (e.side.side.end ≡ End.Done) × (e.writer.failed ≡ false)) }
     ensures go { IfOk result (λ e. (session : Clients) (racks : List (List ℕ)) (before old : Option (List ℕ))
-        → (view_of opening.old).start.state ≡ begun session racks → EdgesGo (begins session racks None) before before old old e.side e.painter e.put e.writer) }
+        → (view_of opening.old).start.state ≡ session_start session racks → EdgesGo (begins session racks None) before before old old e.side e.painter e.put e.writer) }
 {
-    let Ends { put, take } = pipe(alloc, FRAMES)?;
+    let PipeEnds { put, take } = pipe(alloc, FRAMES)?;
     let side = SideThread {
         scribe: Scribe::new(book, opening, 1000, Actor::Terminal),
         reader,

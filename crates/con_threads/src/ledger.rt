@@ -23,7 +23,7 @@ pub struct Ledger {
 }
 
 /// What a ledger is to a contract. No value of it is made.
-pub struct Page {
+pub struct LedgerView {
     pub state: Shown,
     pub replies: LinkedList<Reply>,
 }
@@ -60,8 +60,8 @@ impl Ledger {
     ghost use Rattle.std.specs.Prelude.{◌≡◌, [], map};
     ghost use Rattle.con_machine.specs.History.{replies_of};
     ghost use Rattle.con_session.specs.Desk.{listed};
-    ghost use Rattle.con_threads.specs.Ledger.{entries_of, page_of, IsLogOf};
-    ghost use Rattle.con_threads.specs.declared.ledger.Page.{Page};
+    ghost use Rattle.con_threads.specs.Ledger.{logged_entries, page_of, IsLogOf};
+    ghost use Rattle.con_threads.specs.declared.ledger.LedgerView.{LedgerView};
 
     /// The ledger of a console that gave no reply yet.
     pub fn new(alloc: Global, console: Console) -> Ledger
@@ -76,10 +76,10 @@ impl Ledger {
 
     /// The entries of a closed book's log and their replies, in order. It takes no memory.
     pub fn left(self, log: Vec<Logged<Event>>) -> (Vec<Entry>, Vec<Reply>)
-        requires { (start : Page) × IsLogOf start log.items (page_of self) }
-        ensures entries { (start : Page) → IsLogOf start log.items (page_of self) → result.0.items ≡ entries_of start.state log.items }
-        ensures replies { (start : Page) → IsLogOf start log.items (page_of self)
-            → result.1.items ≡ map listed (replies_of start.state (entries_of start.state log.items)) }
+        requires { (start : LedgerView) × IsLogOf start log.items (page_of self) }
+        ensures entries { (start : LedgerView) → IsLogOf start log.items (page_of self) → result.0.items ≡ logged_entries start.state log.items }
+        ensures replies { (start : LedgerView) → IsLogOf start log.items (page_of self)
+            → result.1.items ≡ map listed (replies_of start.state (logged_entries start.state log.items)) }
     {
         let Ledger {
             console: _,
@@ -94,7 +94,7 @@ impl Ledger {
 impl Machine for Ledger {
     ghost use Rattle.con_threads.specs.Ledger.{page_of, blank_page, next_page, page_ready, page_brief, page_tells, brief_told, HasRoom};
 
-    type State = Page;
+    type State = LedgerView;
 
     type Event = Event;
 

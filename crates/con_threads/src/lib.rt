@@ -34,7 +34,7 @@ mod signals;
 mod writer;
 
 pub use client::{ClientThread, Moved};
-pub use ledger::{Ledger, Page, Told};
+pub use ledger::{Ledger, LedgerView, Told};
 pub use painter::PainterThread;
 pub use scribe::Scribe;
 pub use session::run_session;

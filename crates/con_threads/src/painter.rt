@@ -7,7 +7,7 @@ ghost use Rattle.con_events.specs.declared.event.Event.TheVariants as events;
 ghost use Rattle.con_machine.specs.History.{run};
 ghost use Rattle.con_machine.specs.Step.{is_ready};
 ghost use Rattle.con_session.specs.Painting.{IsTied};
-ghost use Rattle.con_pipe.specs.Ends.{is_finished};
+ghost use Rattle.con_pipe.specs.PipeEnds.{is_finished};
 ghost use Rattle.con_book.specs.Passes.{book_id, pass_id};
 ghost use Rattle.con_threads.specs.Scribe.{IsScribe, IsSameScribe, opened, history};
 ghost use Rattle.con_threads.specs.Painters.{IsPainterThread, PainterTurn, HasDrawn, PaintsTo, HasFinished};

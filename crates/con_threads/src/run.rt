@@ -2,7 +2,7 @@
 ghost use Rattle.std.specs.Prelude.{◌≡◌, ◌⊎◌, ◌≤◌, false, map, All};
 ghost use Rattle.con_outside.specs.Outside.{Rose};
 ghost use Rattle.con_events.specs.declared.end.End.{End};
-ghost use Rattle.con_pipe.specs.Ends.{is_finished};
+ghost use Rattle.con_pipe.specs.PipeEnds.{is_finished};
 ghost use Rattle.con_book.specs.Passes.{book_id, pass_id};
 ghost use Rattle.con_threads.specs.Clients.{IsClientThread, HasServed, seen_of};
 ghost use Rattle.con_threads.specs.Crews.{AllServed};

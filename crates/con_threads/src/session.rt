@@ -2,14 +2,14 @@
 ghost use Rattle.std.specs.Prelude.{◌≡◌, ◌⊎◌, ℕ, ◌≤◌, ◌∷◌, true, false, [], List, Option, None, IfOk, length, map, All};
 ghost use Rattle.con_outside.specs.Outside.{Rose};
 ghost use Rattle.con_events.specs.Session.{Clients};
-ghost use Rattle.con_machine.specs.Follows.{begun};
+ghost use Rattle.con_machine.specs.Follows.{session_start};
 ghost use Rattle.con_machine.specs.Painting.{is_fresh};
 ghost use Rattle.con_handlers.specs.Boxes.{boxed};
 ghost use Rattle.con_session.specs.Held.{AreFresh};
 ghost use Rattle.con_session.specs.Outcome.{Leaves};
 ghost use Rattle.con_session.specs.Solo.{begins};
 ghost use Rattle.con_session.specs.Worker.{told_kind};
-ghost use Rattle.con_pipe.specs.Ends.{is_finished};
+ghost use Rattle.con_pipe.specs.PipeEnds.{is_finished};
 ghost use Rattle.con_book.specs.Passes.{book_id, view_of};
 ghost use Rattle.con_threads.specs.Clients.{seen_of};
 ghost use Rattle.con_threads.specs.Crews.{CrewGoes, IsCrew, IsOpening, down_from};
@@ -25,7 +25,7 @@ use con_book::{Book, Pass};
 use con_events::{End, Script, Session};
 use con_handlers::CtrlHandler;
 use con_outside::{Gate, Sink, Source};
-use con_session::{Outcome, Seat, Side, Stage, begun, nothing_left};
+use con_session::{Outcome, Seat, Side, Stage, nothing_left, session_start};
 use con_units::OutOfMemory;
 use std::alloc::Global;
 use std::sync::Wait;
@@ -59,10 +59,10 @@ fn made<'a>(
     ensures len { IfOk result (λ t. length t.clients.items ≡ length scripts.now) }
     ensures crew { IfOk result (λ t. IsCrew (seen_of memory) (book_id t.book) (view_of t.opening).start t.clients.items) }
     ensures go { IfOk result (λ t. (session : Clients) (racks : List (List ℕ)) (before old : Option (List ℕ))
-        → stage.desk.console.state ≡ begun session racks
+        → stage.desk.console.state ≡ session_start session racks
         → EdgesGo (begins session racks None) before before old old t.edges.side t.edges.painter t.edges.put t.edges.writer) }
     ensures crew_goes { IfOk result (λ t. (session : Clients) (racks : List (List ℕ))
-        → stage.desk.console.state ≡ begun session racks → scripts.now ≡ session.scripts
+        → stage.desk.console.state ≡ session_start session racks → scripts.now ≡ session.scripts
         → AreFresh (boxed memory) racks 0 seats.items → CrewGoes (seen_of memory) (begins session racks None) t.clients.items) }
 {
     let Setting {
@@ -108,14 +108,14 @@ fn play<T: Threads + Wait + Sync, I: Source + Send, O: Sink + Send, G: Gate>(
     requires len { length made.clients.items ≡ clients }
     requires crew { IsCrew (seen_of memory) (book_id made.book) (view_of made.opening).start made.clients.items }
     ensures outcome { (session : Clients) (racks : List (List ℕ))
-        → (view_of made.entry.opening).start.state ≡ begun session racks → length session.scripts ≡ clients
+        → (view_of made.entry.opening).start.state ≡ session_start session racks → length session.scripts ≡ clients
         → EdgesGo (begins session racks None) (I.left link.old) (I.left link.old) (O.written term.old) (O.written term.old)
         made.entry.edges.side made.entry.edges.painter made.entry.edges.put made.entry.edges.writer
         → CrewGoes (seen_of memory) (begins session racks None) made.entry.clients.items
         → Leaves session racks result.entries result.replies result.ends result.end
         (I.left link.old) (I.left link.new) (O.written term.old) (O.written term.new) }
     ensures link { result.end ≡ End.Link → (made.entry.edges.side.side.end ≡ End.Link) ⊎ Rose (I.faults link.old) (I.faults link.new) }
-    ensures term { (session : Clients) (racks : List (List ℕ)) → (view_of made.entry.opening).start.state ≡ begun session racks
+    ensures term { (session : Clients) (racks : List (List ℕ)) → (view_of made.entry.opening).start.state ≡ session_start session racks
         → EdgesGo (begins session racks None) (I.left link.old) (I.left link.old) (O.written term.old) (O.written term.old)
         made.entry.edges.side made.entry.edges.painter made.entry.edges.put made.entry.edges.writer
         → result.end ≡ End.Term → (made.entry.edges.writer.failed ≡ true) ⊎ Rose (O.faults term.old) (O.faults term.new) }
@@ -164,7 +164,7 @@ pub fn run_session<T: Threads + Wait + Sync, I: Source + Send, O: Sink + Send, G
     ensures link_never_falls { I.faults link.old ≤ I.faults link.new }
     ensures term_never_falls { O.faults term.old ≤ O.faults term.new }
 {
-    let Ok((stage, seats)) = begun(alloc, session, racks) else {
+    let Ok((stage, seats)) = session_start(alloc, session, racks) else {
         return nothing_left(alloc);
     };
     let scripts = session.scripts();

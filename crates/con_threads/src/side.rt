@@ -8,7 +8,7 @@ ghost use Rattle.con_events.specs.declared.end.End.TheVariants as ends;
 ghost use Rattle.con_machine.specs.History.{run};
 ghost use Rattle.con_machine.specs.Step.{is_ready};
 ghost use Rattle.con_threads.specs.Scribe.{IsScribe, IsSameScribe, SeesMore, history, opened};
-ghost use Rattle.con_threads.specs.Sides.{HasSent, HasSentOn, IsSideThread};
+ghost use Rattle.con_threads.specs.Sides.{IsSending, HasSentOn, IsSideThread};
 
 use crate::client::Moved;
 use crate::ledger::{Ledger, Told};
@@ -65,7 +65,7 @@ fn pass_on<R: Wait>(
     requires actor { scribe.old.actor ≡ actors.Terminal }
     ensures same { IsSameScribe scribe.old scribe.new }
     ensures scribe { IsScribe scribe.new }
-    ensures sent { IfOk result (λ entered. entered ≡ true → HasSent (opened scribe.old) event (history scribe.old) (history scribe.new)) }
+    ensures sent { IfOk result (λ entered. entered ≡ true → IsSending (opened scribe.old) event (history scribe.old) (history scribe.new)) }
     ensures blocked { IfOk result (λ entered. entered ≡ false
         → SeesMore (opened scribe.old) actors.Terminal (history scribe.old) (history scribe.new)
         × (is_ready (run (opened scribe.new) (history scribe.new)) actors.Terminal event ≡ false)) }
@@ -82,7 +82,7 @@ fn hang_up<R: Wait>(scribe: &mut Scribe, rt: &R, book: &Book<Ledger>) -> Result<
     requires actor { scribe.old.actor ≡ actors.Terminal }
     ensures same { IsSameScribe scribe.old scribe.new }
     ensures scribe { IsScribe scribe.new }
-    ensures sent { IfOk result (λ _. HasSent (opened scribe.old) events.Hangup (history scribe.old) (history scribe.new)) }
+    ensures sent { IfOk result (λ _. IsSending (opened scribe.old) events.Hangup (history scribe.old) (history scribe.new)) }
     ensures refused { IfErr result (λ _. SeesMore (opened scribe.old) actors.Terminal (history scribe.old) (history scribe.new)) }
 {
     scribe.enter(rt, book, Event::Hangup)?;

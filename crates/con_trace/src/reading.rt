@@ -7,7 +7,7 @@ ghost use Rattle.con_trace.specs.Cut.{cut_line as line_cut, IsFault, with_said, 
 use crate::lines::line_read;
 use crate::said::{LineRead, Said};
 use crate::trace::{Trace, TraceFault};
-use con_events::{Ends, Entries, Entry, Event, Replies, Reply};
+use con_events::{Entries, Entry, Event, PieceEnds, Replies, Reply};
 use con_units::OutOfMemory;
 use std::alloc::Global;
 use std::marker::Model;
@@ -104,7 +104,7 @@ impl Gathered {
         Trace {
             entries: Entries(self.entries),
             replies: Replies(self.replies),
-            ends: Ends(self.ends),
+            ends: PieceEnds(self.ends),
             status,
         }
     }

@@ -1,6 +1,6 @@
 //! What a report says.
 
-use con_events::{Ends, Entries, Replies};
+use con_events::{Entries, PieceEnds, Replies};
 
 /// What a whole report determines: the history, a reply for each entry, the length of the terminal's stream after each picture, and
 /// the status.
@@ -8,7 +8,7 @@ use con_events::{Ends, Entries, Replies};
 pub struct Trace {
     pub entries: Entries,
     pub replies: Replies,
-    pub ends: Ends,
+    pub ends: PieceEnds,
     pub status: u8,
 }
 

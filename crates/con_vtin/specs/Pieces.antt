@@ -24,7 +24,7 @@ abbrev pub ended_by : List ℕ → ℕ → Option (List ℕ)
 ended_by held byte = if not (is_front (held ++ byte ∷ [])) && is_keyless (held ++ byte ∷ []) then Some (held ++ byte ∷ []) else None
 
 -- what a reader has: the bytes that are no key yet, and the control sequence that the last byte ended and that gave no key
-pub record Reading : Type 0 where
+pub record KeyReading : Type 0 where
   pub held : List ℕ
   pub ended : Option (List ℕ)
 

@@ -3,7 +3,7 @@ ghost use Rattle.std.specs.Prelude.{◌≡◌, ◌≢◌, ℕ, ◌+◌, ◌≤�
 ghost use Rattle.con_units.specs.Split.{next};
 ghost use Rattle.con_vtin.specs.Keys.{grammar, quieted};
 ghost use Rattle.con_vtin.specs.Holding.{held_of, IsApart, is_text};
-ghost use Rattle.con_vtin.specs.Pieces.{Reading, ended_by};
+ghost use Rattle.con_vtin.specs.Pieces.{KeyReading, ended_by};
 ghost use Rattle.con_vtin.specs.Sequences.{sent};
 
 use crate::character::{push_byte, push_replacements};
@@ -26,9 +26,9 @@ pub struct KeyReader {
 impl Model for KeyReader {
     ghost use Rattle.std.specs.Prelude.{ℕ, List};
     ghost use Rattle.con_vtin.specs.Holding.{held_of, IsApart};
-    ghost use Rattle.con_vtin.specs.Pieces.{Reading};
+    ghost use Rattle.con_vtin.specs.Pieces.{KeyReading};
 
-    ghost Value = { Reading };
+    ghost Value = { KeyReading };
 
     ghost view = { λ r. record { held = held_of r.sequence r.text; ended = r.ended } };
 

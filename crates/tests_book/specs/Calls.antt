@@ -5,10 +5,10 @@ use Rattle.con_book.specs.Passes.{BookId, pass_id}
 use Rattle.con_book.specs.declared.machine.Machine.{Ghosts}
 use Rattle.con_book.specs.declared.history.Logged.{Logged}
 use Rattle.con_book.specs.declared.pass.Pass.{Pass}
-use Rattle.con_book.specs.declared.view.View.{View}
+use Rattle.con_book.specs.declared.view.PassView.{PassView}
 
 -- the last entry that was seen is this event, which was ready after those before it
-pub record WasReady {S E : Type 0} (next : S → ℕ → E → S) (is_ready : S → ℕ → E → Bool) (v : View S E) (event : E) : Type 0 where
+pub record WasReady {S E : Type 0} (next : S → ℕ → E → S) (is_ready : S → ℕ → E → Bool) (v : PassView S E) (event : E) : Type 0 where
   pub before : List (Logged E)
   pub seen : v.seen ≡ before ++ entry v.actor event ∷ []
   pub was_ready : is_ready (after next v.start before) v.actor event ≡ true

@@ -1,7 +1,7 @@
 ghost use Rattle.std.specs.Prelude.{◌≡◌, ◌<◌, ◌≤◌, true, false, IfOk};
-ghost use Rattle.con_pipe.specs.Ends.{is_finished, put_room, IsSameIn, IsSameOut};
+ghost use Rattle.con_pipe.specs.PipeEnds.{is_finished, put_room, IsSameIn, IsSameOut};
 
-use con_pipe::{Ends, PipeIn, PipeOut, meet, pipe};
+use con_pipe::{PipeEnds, PipeIn, PipeOut, meet, pipe};
 use con_units::Bytes;
 use std::alloc::{AllocError, Global};
 use std::sync::Wait;
@@ -46,7 +46,7 @@ fn take_four<R: Wait>(rt: &R, mut take: PipeOut) -> (PipeOut, [usize; 4])
 
 // The lengths of what came out of a pipe of one, between two threads.
 fn passed<R: Threads + Wait + Sync>(rt: &R, alloc: Global) -> Option<[usize; 4]> {
-    let Ends { put, take } = pipe(alloc, 1).ok()?;
+    let PipeEnds { put, take } = pipe(alloc, 1).ok()?;
     let (put, taken) = join(
         rt,
         || -> Result<PipeIn, AllocError>
@@ -67,7 +67,7 @@ fn passed<R: Threads + Wait + Sync>(rt: &R, alloc: Global) -> Option<[usize; 4]>
 fn put_and_then_taken<R: Wait>(rt: &R, alloc: Global, pieces: usize) -> Option<[usize; 4]>
     requires { (0 < pieces) × (pieces ≤ 1024) }
 {
-    let Ends { put, take } = pipe(alloc, pieces).ok()?;
+    let PipeEnds { put, take } = pipe(alloc, pieces).ok()?;
     let mut put = put_three(rt, alloc, put).ok()?;
     let (mut take, lengths) = take_four(rt, take);
     meet(&mut put, &mut take);

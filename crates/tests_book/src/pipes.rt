@@ -1,9 +1,9 @@
 //! A pipe's room, as one that makes it sees it.
 
 ghost use Rattle.std.specs.Prelude.{◌≡◌, ◌<◌, ◌≤◌, [], ◌∷◌, false, IfOk};
-ghost use Rattle.con_pipe.specs.Ends.{pieces_put, is_finished, put_room, take_room, IsPipe};
+ghost use Rattle.con_pipe.specs.PipeEnds.{pieces_put, is_finished, put_room, take_room, IsPipe};
 
-use con_pipe::{Ends, pipe};
+use con_pipe::{PipeEnds, pipe};
 use con_units::{Bytes, OutOfMemory};
 use std::alloc::Global;
 use std::sync::Wait;
@@ -14,13 +14,13 @@ pub fn pipe_with<R: Wait>(
     alloc: Global,
     pieces: usize,
     first: Bytes,
-) -> Result<Ends, OutOfMemory>
+) -> Result<PipeEnds, OutOfMemory>
     requires { (0 < pieces) × (pieces ≤ 1024) }
     ensures room { IfOk result (λ ends. (put_room ends.put ≡ pieces) × (take_room ends.take ≡ pieces)) }
     ensures put { IfOk result (λ ends. (pieces_put ends.put ≡ first ∷ []) × (is_finished ends.put ≡ false)) }
     ensures pipe { IfOk result (λ ends. IsPipe ends.put ends.take) }
 {
-    let Ends { mut put, take } = pipe(alloc, pieces)?;
+    let PipeEnds { mut put, take } = pipe(alloc, pieces)?;
     put.push(rt, first);
-    Ok(Ends { put, take })
+    Ok(PipeEnds { put, take })
 }

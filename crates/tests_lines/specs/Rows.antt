@@ -12,7 +12,7 @@ use Rattle.con_readers.specs.Reads.{pumped, begun, place_of, answered_in}
 use Rattle.con_readers.specs.declared.answer.Answer.{Answer}
 use Rattle.con_readers.specs.declared.open.Open.{Open}
 use Rattle.con_readers.specs.declared.open.OpenRead.TheVariants as reads
-use Rattle.con_readers.specs.declared.step.Step.{Step}
+use Rattle.con_readers.specs.declared.step.ReadStep.{ReadStep}
 
 -- what a key changes, by the insert flag, the units, the caret, and the line of the history that it brings in
 abbrev pub change : Bool → List ℕ → ℕ → Press → List ℕ → Edit
@@ -24,7 +24,7 @@ abbrev pub from : ℕ → ℕ → Edit
 from first before = record { first = first; before = before }
 
 -- what a caller is told of the first n steps
-abbrev pub steps : ℕ → List AliasList → List Open → List Record → Histories → List Step
+abbrev pub steps : ℕ → List AliasList → List Open → List Record → Histories → List ReadStep
 steps zero al os rs hs = []
 steps (suc n) al os rs hs = let p = pumped al os rs hs in told p.act ∷ steps n al p.reads p.records p.histories
 

@@ -18,7 +18,7 @@ use con_history::Histories;
 use con_readers::laws::{
     a_read_answers_its_piece, distinct_reads_stay_distinct, units_answer_their_piece,
 };
-use con_readers::{Answer, OpenRead, Readers, Step, WantsRecords};
+use con_readers::{Answer, OpenRead, ReadStep, Readers, WantsRecords};
 use con_records::Records;
 use con_units::{Code, OutOfMemory, Units};
 use std::alloc::Global;
@@ -43,7 +43,7 @@ pub fn serve_and_close(
     records: &mut Records,
     histories: &mut Histories,
     aliases: &Aliases,
-) -> Step
+) -> ReadStep
     requires { AreDistinct readers.old.reads }
     ensures { AreDistinct readers.new.reads }
 {
@@ -97,7 +97,7 @@ pub fn shown(
     ensures { result ≤ 1024 }
 {
     match readers.pump(records, histories, aliases) {
-        Step::Echo(_, echo) => readers.head_text()[echo.offset as usize..echo.end as usize].len(),
+        ReadStep::Echo(_, echo) => readers.head_text()[echo.offset as usize..echo.end as usize].len(),
         _ => 0,
     }
 }
@@ -112,7 +112,7 @@ pub fn echoed(
     ensures { IfSome result (λ e. (old : CookedValue) × (new : CookedValue) × (e ≡ echo_between (line_of old).line (line_of new).line)) }
 {
     match readers.pump(records, histories, aliases) {
-        Step::Echo(_, echo) => Some(echo),
+        ReadStep::Echo(_, echo) => Some(echo),
         _ => None,
     }
 }
@@ -128,7 +128,7 @@ pub fn finished(
         × ((pumped aliases.now.programs readers.old.reads records.old.items histories.old).act ≡ Some (ended p read len))) }
 {
     match readers.pump(records, histories, aliases) {
-        Step::Finished(process, _) => Some(process),
+        ReadStep::Finished(process, _) => Some(process),
         _ => None,
     }
 }
@@ -144,7 +144,7 @@ pub fn woken(
         × ((pumped aliases.now.programs readers.old.reads records.old.items histories.old).act ≡ Some (woke p line))) }
 {
     match readers.pump(records, histories, aliases) {
-        Step::Woken(process) => Some(process),
+        ReadStep::Woken(process) => Some(process),
         _ => None,
     }
 }

@@ -6,7 +6,7 @@ ghost use Rattle.con_readers.specs.Reads.{all_closed, is_open, without};
 ghost use Rattle.tests_lines.specs.Rows.{change, from, steps, reads_after, two_reads, one_record, answered_by};
 
 use con_line::Press;
-use con_readers::{Answer, Step};
+use con_readers::{Answer, ReadStep};
 use con_units::Code;
 
 /// A change begins where the texts differ: behind equal units that a typed one joins, and at the end of what two lines begin with.
@@ -22,7 +22,7 @@ pub fn a_change_begins_where_the_texts_differ()
 /// Of two reads of a record, with one record, the first is served first. Then the console closes, and the first read is cancelled.
 pub fn the_first_read_is_served_first()
     ensures steps { (al : List AliasList) (hs : HistoriesValue) →
-        steps 5 al two_reads one_record hs ≡ Step.Started 1 ∷ Step.Finished 1 0 ∷ Step.Started 2 ∷ Step.Idle ∷ Step.Idle ∷ [] }
+        steps 5 al two_reads one_record hs ≡ ReadStep.Started 1 ∷ ReadStep.Finished 1 0 ∷ ReadStep.Started 2 ∷ ReadStep.Idle ∷ ReadStep.Idle ∷ [] }
     ensures closed { (al : List AliasList) (hs : HistoriesValue) →
         answered_by (all_closed (reads_after 5 al two_reads one_record hs)) 2 ≡ Some (Answer.Fail Code.Closed) }
     ensures cancelled { (al : List AliasList) (hs : HistoriesValue) →

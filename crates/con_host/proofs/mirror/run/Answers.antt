@@ -1,5 +1,5 @@
 use Rattle.std.proofs.Common.{◌≡◌, arith, sym, ◌∙◌}
-use Rattle.con_link.specs.Reading.{mirrored}
+use Rattle.con_link.specs.LinkReading.{mirrored}
 use Rattle.con_host.proofs.Certain.{mirror_certain}
 use Rattle.con_host.proofs.Foretelling.{left_foretold, left_no_frame, left_too_much}
 use Rattle.con_host.proofs.Mirrors.{apart, lost_by, plain_status, shown_all, told_cut, told_done, told_failed, told_status}

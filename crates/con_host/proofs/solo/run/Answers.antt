@@ -1,5 +1,5 @@
 use Rattle.std.proofs.Common.{◌≡◌, arith, sym, ◌∙◌}
-use Rattle.con_link.specs.Reading.{plainly}
+use Rattle.con_link.specs.LinkReading.{plainly}
 use Rattle.con_session.specs.Sender.{NoMore}
 use Rattle.con_host.proofs.Certain.{plain_certain}
 use Rattle.con_host.proofs.Foretelling.{left_foretold, left_no_frame, left_too_much}

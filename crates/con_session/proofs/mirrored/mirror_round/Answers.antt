@@ -1,5 +1,5 @@
 use Rattle.std.proofs.Common.{sym, ◌∙◌, [], true}
-use Rattle.con_link.specs.Reading.{mirrored}
+use Rattle.con_link.specs.LinkReading.{mirrored}
 use Rattle.con_session.specs.Second.{Seconded}
 use Rattle.con_session.proofs.Beginning.{all_follow}
 use Rattle.con_session.specs.TiedLaws.{tied_ran}

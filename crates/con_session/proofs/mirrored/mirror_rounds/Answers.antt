@@ -1,6 +1,6 @@
 use Rattle.std.proofs.Common.{◌∙◌, arith}
 use Rattle.con_machine.specs.Turns.{paints}
-use Rattle.con_link.specs.Reading.{mirrored}
+use Rattle.con_link.specs.LinkReading.{mirrored}
 use Rattle.con_session.proofs.Going.{cause_more, failing, fails_now, goes_idle, goes_longer, goes_on, rounds_err}
 use Rattle.con_session.proofs.mirrored.mirror_rounds.Goals as goal
 

@@ -1,7 +1,7 @@
 -- Rounds so far.
 use Rattle.std.proofs.Common.{◌≡◌, ◌⊎◌, ℕ, ◌-◌, ◌≤◌, true, false, List, length, Option}
 use Rattle.con_outside.specs.Outside.{Rose}
-use Rattle.con_link.specs.Reading.{mirrored}
+use Rattle.con_link.specs.LinkReading.{mirrored}
 use Rattle.con_events.specs.declared.end.End.TheVariants as ends
 use Rattle.con_machine.specs.Rounds.{Begun}
 use Rattle.con_machine.specs.Turns.{paints}

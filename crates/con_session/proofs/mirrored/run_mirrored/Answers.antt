@@ -1,5 +1,5 @@
 use Rattle.std.proofs.Common.{None, ap, ◌∙◌}
-use Rattle.con_link.specs.Reading.{mirrored}
+use Rattle.con_link.specs.LinkReading.{mirrored}
 use Rattle.con_session.specs.Solo.{begins}
 use Rattle.con_session.specs.declared.solo.Outcome.{Outcome}
 use Rattle.con_session.specs.declared.terminal.Side.{Side}

@@ -1,5 +1,5 @@
 use Rattle.std.proofs.Common.{refl, inl}
-use Rattle.con_link.specs.Reading.{mirrored}
+use Rattle.con_link.specs.LinkReading.{mirrored}
 use Rattle.con_events.specs.declared.event.Event.TheVariants as events
 use Rattle.con_session.specs.LinkLaws.{no_ok, sender_err}
 use Rattle.con_session.specs.LinkedLaws.{linked_err}

@@ -13,7 +13,7 @@ use Rattle.con_session.specs.contracts.desk.Brief as brief
 use Rattle.con_threads.specs.contracts.client.ClientThread as client
 use Rattle.con_threads.specs.contracts.ledger.Ledger as ledger
 use Rattle.con_threads.specs.contracts.ledger.LedgerMachine.TheImpl as machine
-use Rattle.con_threads.specs.contracts.ledger.Page as page
+use Rattle.con_threads.specs.contracts.ledger.LedgerView as page
 use Rattle.con_threads.specs.contracts.ledger.Told as told
 use Rattle.con_threads.specs.contracts.run.run_beside.dyn-1 as dyn
 use Rattle.con_threads.specs.contracts.signals.Signals as signals

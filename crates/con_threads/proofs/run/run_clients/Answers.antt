@@ -14,7 +14,7 @@ use Rattle.con_threads.proofs.Crewing.{served_as}
 use Rattle.con_threads.specs.contracts.client.ClientThread as client
 use Rattle.con_threads.specs.contracts.ledger.Ledger as ledger
 use Rattle.con_threads.specs.contracts.ledger.LedgerMachine.TheImpl as machine
-use Rattle.con_threads.specs.contracts.ledger.Page as page
+use Rattle.con_threads.specs.contracts.ledger.LedgerView as page
 use Rattle.con_threads.specs.contracts.ledger.Told as told
 use Rattle.con_threads.specs.contracts.run.run_clients.dyn-1 as dyn
 use Rattle.con_threads.specs.contracts.signals.Signals as signals

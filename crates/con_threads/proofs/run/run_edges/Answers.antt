@@ -10,7 +10,7 @@ use Rattle.con_machine.specs.contracts.room.Room as room
 use Rattle.con_session.specs.contracts.desk.Brief as brief
 use Rattle.con_threads.specs.contracts.ledger.Ledger as ledger
 use Rattle.con_threads.specs.contracts.ledger.LedgerMachine.TheImpl as machine
-use Rattle.con_threads.specs.contracts.ledger.Page as page
+use Rattle.con_threads.specs.contracts.ledger.LedgerView as page
 use Rattle.con_threads.specs.contracts.ledger.Told as told
 use Rattle.con_threads.specs.contracts.side.SideThread as side_thread
 use Rattle.con_threads.specs.contracts.signals.Signals as signals

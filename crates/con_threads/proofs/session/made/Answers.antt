@@ -1,6 +1,6 @@
 use Rattle.std.proofs.Common.{sym, ap, ◌∙◌}
 use Rattle.con_session.specs.OpeningLaws.{fresh_as}
-use Rattle.con_threads.specs.declared.ledger.Page.{Page}
+use Rattle.con_threads.specs.declared.ledger.LedgerView.{LedgerView}
 use Rattle.con_threads.proofs.Crewing.{all_new_go, fresh_of, new_belongs}
 use Rattle.con_threads.proofs.Making.{crew_from}
 use Rattle.con_threads.proofs.session.made.Goals as goal
@@ -14,7 +14,7 @@ pub returns-clause-go : goal.returns-clause-go
 returns-clause-go g c =
     λ session racks before old e.
     c.in_ok-edges.ensures.go session racks before old
-    (ap (λ (p : Page). p.state) (c.in_ok-clients.ensures.opening.start' ∙ c.in_ok-book.ensures.opening.start') ∙ e)
+    (ap (λ (p : LedgerView). p.state) (c.in_ok-clients.ensures.opening.start' ∙ c.in_ok-book.ensures.opening.start') ∙ e)
 
 pub returns-clause-crew_goes : goal.returns-clause-crew_goes
 returns-clause-crew_goes g c =

@@ -5,7 +5,7 @@ use Rattle.con_line.specs.declared.edit.Edit.{Edit}
 use Rattle.con_history.specs.Histories.{lines_of}
 use Rattle.con_cooked.specs.Keys.{key_of}
 use Rattle.con_cooked.specs.Mask.{is_masked}
-use Rattle.con_cooked.specs.Cooked.{Edited, Moment, Reading, opened, line_after, key_pressed, echo_between}
+use Rattle.con_cooked.specs.Cooked.{Edited, Moment, CookedRead, opened, line_after, key_pressed, echo_between}
 use Rattle.con_cooked.specs.declared.keys.LineKey.{LineKey}
 use Rattle.con_cooked.proofs.Waking.{not-masked_of, pressed-unmasked, woken-last, progress-unmasked, echo_of}
 use Rattle.con_cooked.proofs.cooked.Cooked.press.Goals as goal
@@ -38,7 +38,7 @@ returns-clause-progress c =
     c.echo-echo.ensures
     ∙ ap (λ (e : Edit). echo_of e c.line.result.now) c.press-edit.ensures.edit
     ∙ ap (λ (l : LineText). echo_of (edit_between c.self.inside.edited.line.units c.press-edit.new.self.line.units) l) c.line.ensures in
-    let r : Reading = record {
+    let r : CookedRead = record {
       program = c.self.inside.program;
       insert = c.self.inside.began.value.line.insert;
       initial = c.self.inside.began.value.line.units;

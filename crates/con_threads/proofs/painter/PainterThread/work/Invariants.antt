@@ -1,6 +1,6 @@
 -- The pieces so far.
 use Rattle.std.proofs.Common.{◌≡◌, false}
-use Rattle.con_pipe.specs.Ends.{is_finished}
+use Rattle.con_pipe.specs.PipeEnds.{is_finished}
 use Rattle.con_threads.specs.Painters.{HasDrawn}
 use Rattle.con_threads.proofs.painter.PainterThread.work.Given as goal
 

@@ -3,7 +3,7 @@ use Rattle.con_book.specs.Passes.{view_of}
 use Rattle.con_book.specs.declared.history.Logged.{Logged}
 use Rattle.con_events.specs.declared.event.Event.{Event}
 use Rattle.con_machine.specs.Numbered as numbers
-use Rattle.con_threads.specs.Ledger.{entries_of}
+use Rattle.con_threads.specs.Ledger.{logged_entries}
 use Rattle.con_threads.proofs.scribe.Scribe.new.Goals as goal
 
 pub returns-clause-scribe : goal.returns-clause-scribe
@@ -22,4 +22,4 @@ returns-clause-actor c = (refl, ap (λ w. w.actor) c.pass.ensures.new)
 pub returns-clause-history : goal.returns-clause-history
 returns-clause-history c =
     let v = c.pass.ensures.new in
-    (ap (λ w. w.start.state) v, ap (λ w. entries_of w.start.state w.seen) v ∙ ap (λ (l : List (Logged Event)). entries_of (view_of c.args.opening.now).start.state l) c.requires.opening.1)
+    (ap (λ w. w.start.state) v, ap (λ w. logged_entries w.start.state w.seen) v ∙ ap (λ (l : List (Logged Event)). logged_entries (view_of c.args.opening.now).start.state l) c.requires.opening.1)

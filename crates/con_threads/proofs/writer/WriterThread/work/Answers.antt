@@ -1,5 +1,5 @@
 use Rattle.std.proofs.Common.{rules, ap, ◌∙◌, arith}
-use Rattle.con_pipe.specs.Ends.{IsSameOut, pieces_taken}
+use Rattle.con_pipe.specs.PipeEnds.{IsSameOut, pieces_taken}
 use Rattle.con_pipe.specs.declared.take.PipeOut.{PipeOut}
 use Rattle.con_threads.proofs.Causes.{cause_then}
 use Rattle.con_threads.proofs.Writing.{writes_on, writes_still}

@@ -1,7 +1,7 @@
 -- What was written so far.
 use Rattle.std.proofs.Common.{◌≡◌, ◌⊎◌, ◌≤◌, ℕ, true, List, Option}
 use Rattle.con_outside.specs.Outside.{Rose}
-use Rattle.con_pipe.specs.Ends.{IsSameOut, pieces_taken}
+use Rattle.con_pipe.specs.PipeEnds.{IsSameOut, pieces_taken}
 use Rattle.con_threads.specs.Writers.{Writes}
 use Rattle.con_threads.proofs.writer.WriterThread.work.Given as goal
 

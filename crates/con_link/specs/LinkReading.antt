@@ -9,7 +9,7 @@ use Rattle.con_link.specs.Mirrored.{mirror_spelling, is_mirror_frame, as_plain, 
 
 -- the frames, their bytes, what is stated of them, and what they count as to the console, one by one and in a list, which plainly is the list itself;
 -- what each answer says; and that a frame is answered where its bytes stand
-pub record Reading : Type 1 where
+pub record LinkReading : Type 1 where
   pub One : Type 0
   pub spelling : One → List ℕ
   pub is_one : One → Bool
@@ -21,7 +21,7 @@ pub record Reading : Type 1 where
   pub none : plains [] ≡ []
   pub more : (fs : List One) (f : One) → plains (fs ++ f ∷ []) ≡ plains fs ++ plain f ∷ []
 
-abbrev pub plainly : Reading
+abbrev pub plainly : LinkReading
 plainly = record {
   One = Frame;
   spelling = spelling;
@@ -38,7 +38,7 @@ pub mapped : (fs : List MirrorFrame) (f : MirrorFrame) → map as_plain (fs ++ f
 mapped [] f = refl
 mapped (x ∷ xs) f = ap (λ (t : List Frame). as_plain x ∷ t) (mapped xs f)
 
-abbrev pub mirrored : Reading
+abbrev pub mirrored : LinkReading
 mirrored = record {
   One = MirrorFrame;
   spelling = mirror_spelling;
