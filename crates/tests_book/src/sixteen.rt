@@ -87,7 +87,7 @@ fn told(outcome: &Outcome, times: usize) -> [u64; 6] {
     let mut whole = 0u64;
     for actor in 1..17 {
         if outcome.log.iter().filter(|x| x.actor == actor).count() == times {
-            whole += 1;
+            whole = whole.saturating_add(1);
         }
     }
     [
