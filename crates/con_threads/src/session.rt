@@ -25,7 +25,7 @@ use con_book::{Book, Pass};
 use con_events::{End, Script, Session};
 use con_handlers::CtrlHandler;
 use con_outside::{Gate, Sink, Source};
-use con_session::{Outcome, Seat, Side, Stage, nothing_left, session_start};
+use con_session::{Outcome, Seat, Side, Stage, begun, nothing_left};
 use con_units::OutOfMemory;
 use std::alloc::Global;
 use std::sync::Wait;
@@ -164,7 +164,7 @@ pub fn run_session<T: Threads + Wait + Sync, I: Source + Send, O: Sink + Send, G
     ensures link_never_falls { I.faults link.old ≤ I.faults link.new }
     ensures term_never_falls { O.faults term.old ≤ O.faults term.new }
 {
-    let Ok((stage, seats)) = session_start(alloc, session, racks) else {
+    let Ok((stage, seats)) = begun(alloc, session, racks) else {
         return nothing_left(alloc);
     };
     let scripts = session.scripts();
