@@ -8,14 +8,14 @@ use Rattle.con_events.specs.declared.entry.Entry.{Entry}
 use Rattle.con_events.specs.declared.event.Event.{Event}
 use Rattle.con_events.specs.declared.event.Event.TheVariants as events
 use Rattle.con_machine.specs.Along.{Along, after}
-use Rattle.con_machine.specs.DueLaws.{ask_is_terminals, asked_after, nothing_due}
+use Rattle.con_laws.specs.DueLaws.{ask_is_terminals, asked_after, nothing_due}
 use Rattle.con_machine.specs.Follows.{MayAct, asks, asks_by, session_start}
 use Rattle.con_machine.specs.History.{is_legal}
-use Rattle.con_machine.specs.ShowingLaws.{painted_shows}
+use Rattle.con_laws.specs.ShowingLaws.{painted_shows}
 use Rattle.con_machine.specs.State.{State}
 use Rattle.con_machine.specs.Step.{is_ready}
 use Rattle.con_machine.specs.Turns.{moved, sent, has_ended, is_last_sent, is_terminal}
-use Rattle.con_machine.specs.Whole.{HaveAllLeft, ShowsAll}
+use Rattle.con_laws.specs.Whole.{HaveAllLeft, ShowsAll}
 use Rattle.con_audit.specs.Audit.{Given, Holds, Passes, last_end}
 use Rattle.con_audit.specs.declared.verdict.What.TheVariants as what
 use Rattle.con_audit.specs.OneMore.{asks_after, state_after}

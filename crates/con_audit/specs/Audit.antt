@@ -15,7 +15,7 @@ use Rattle.con_machine.specs.History.{is_legal}
 use Rattle.con_machine.specs.Turns.{moved, is_paint}
 use Rattle.con_machine.specs.Sights.{sights_of}
 use Rattle.con_machine.specs.Follows.{Follows, session_start}
-use Rattle.con_machine.specs.Whole.{IsWhole}
+use Rattle.con_laws.specs.Whole.{IsWhole}
 use Rattle.con_audit.specs.Watching.{watching, watched, HasEnd, IsSeen}
 use Rattle.con_audit.specs.declared.verdict.What.{What}
 use Rattle.con_audit.specs.declared.verdict.What.TheVariants as what

@@ -7,8 +7,8 @@ use Rattle.con_events.specs.declared.entry.Entry.{Entry}
 use Rattle.con_events.specs.declared.reply.Reply.{Reply}
 use Rattle.con_machine.specs.Follows.{session_start}
 use Rattle.con_machine.specs.History.{is_legal}
-use Rattle.con_machine.specs.Once.{TakenOnce}
-use Rattle.con_machine.specs.Rounds.{is_memory}
+use Rattle.con_laws.specs.Once.{TakenOnce}
+use Rattle.con_laws.specs.Rounds.{is_memory}
 use Rattle.con_machine.specs.Turns.{paints}
 use Rattle.con_script.specs.Generated.{session_drawn}
 use Rattle.con_session.specs.Outcome.{IsSoloOutcome}

@@ -2,7 +2,7 @@
 use Rattle.std.proofs.Common.{◌≡◌, ◌⊎◌, inl, inr, refl, sym, subst, ap, ◌∙◌, arith, ℕ, Bool, true, false, List, Option}
 use Rattle.con_events.specs.declared.end.End.{End}
 use Rattle.con_events.specs.declared.end.End.TheVariants as ends
-use Rattle.con_machine.specs.Rounds.{is_memory}
+use Rattle.con_laws.specs.Rounds.{is_memory}
 use Rattle.con_outside.specs.Outside.{then_written, WrotePart}
 use Rattle.con_trace.specs.Ending.{ending_of, status_of}
 use Rattle.con_trace.specs.declared.ending.EndLine.{EndLine}

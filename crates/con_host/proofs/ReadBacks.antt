@@ -13,7 +13,7 @@ use Rattle.con_events.specs.declared.reply.Reply.{Reply}
 use Rattle.con_events.specs.declared.reply.Reply.TheVariants as replies
 use Rattle.con_machine.specs.Follows.{session_start}
 use Rattle.con_machine.specs.History.{replies_of}
-use Rattle.con_machine.specs.Rounds.{is_memory}
+use Rattle.con_laws.specs.Rounds.{is_memory}
 use Rattle.con_machine.specs.State.{State}
 use Rattle.con_machine.specs.Step.{step}
 use Rattle.con_machine.specs.Turns.{is_paint, paints}

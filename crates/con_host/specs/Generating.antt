@@ -5,7 +5,7 @@ use Rattle.con_events.specs.declared.end.End.TheVariants as ends
 use Rattle.con_events.specs.declared.entry.Entry.{Entry}
 use Rattle.con_events.specs.declared.reply.Reply.{Reply}
 use Rattle.con_machine.specs.Follows.{session_start}
-use Rattle.con_machine.specs.Once.{TakenOnce}
+use Rattle.con_laws.specs.Once.{TakenOnce}
 use Rattle.con_script.specs.Generated.{session_drawn}
 use Rattle.con_session.specs.Outcome.{IsSoloOutcome}
 use Rattle.con_ending.specs.Ending.{end_line, Told}

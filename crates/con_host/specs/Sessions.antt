@@ -7,8 +7,8 @@ use Rattle.con_events.specs.declared.entry.Entry.{Entry}
 use Rattle.con_events.specs.declared.reply.Reply.{Reply}
 use Rattle.con_outside.specs.Outside.{then_written, WroteFront, WrotePart}
 use Rattle.con_machine.specs.Follows.{session_start}
-use Rattle.con_machine.specs.Once.{TakenOnce}
-use Rattle.con_machine.specs.Rounds.{Rounds, is_memory}
+use Rattle.con_laws.specs.Once.{TakenOnce}
+use Rattle.con_laws.specs.Rounds.{Rounds, is_memory}
 use Rattle.con_session.specs.Outcome.{Leaves}
 use Rattle.con_ending.specs.Files.{OfFile}
 use Rattle.con_trace.specs.Ending.{Ending, IsEnding, alone, worded, at_frame, status_of}

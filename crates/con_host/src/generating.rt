@@ -11,7 +11,7 @@ ghost use Rattle.con_host.specs.Summary.{summary_text};
 use crate::summary::summary;
 use con_ending::{DONE, MEMORY, REPORT, TERMINAL, finish};
 use con_events::{End, Session};
-use con_machine::once_laws::each_record_is_taken_once;
+use con_laws::once::each_record_is_taken_once;
 use con_outside::{Fault, Sink, SureSink, SureSource, write_whole};
 use con_script::generated;
 use con_session::{Outcome, run_solo};

@@ -15,7 +15,7 @@ use con_events::Session;
 use con_forms::{a_legal_history_is_told, types_are_kept};
 use con_handlers::CtrlHandler;
 use con_link::{one_answer, one_frame};
-use con_machine::once_laws::each_record_is_taken_once;
+use con_laws::once::each_record_is_taken_once;
 use con_outside::{Files, Sink, Source};
 use con_session::run_solo;
 use con_trace::report_tells;

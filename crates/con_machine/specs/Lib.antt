@@ -16,33 +16,23 @@ pub mod Terminal
 pub mod Painting
 pub mod Step
 pub mod History
--- What it is for a history to follow a session and a link, and to go by rounds.
+-- What it is for a history to follow a session and a link.
 pub mod Along
 pub mod Turns
 pub mod Chain
 pub mod Client
 pub mod Follows
-pub mod Rounds
 pub mod Sights
-pub mod Whole
 pub mod Moves
 pub mod HistoryLaws
-pub mod RoundLaws
 pub mod Sizes
-pub mod Presence
 pub mod Added
 pub mod CallLaws
 pub mod ProcLaws
 pub mod EventLaws
 pub mod SizeLaws
-pub mod PictureLaws
-pub mod PresenceLaws
-pub mod HandlerLaws
 pub mod SameViews
-pub mod Opens
-pub mod OpeningLaws
-pub mod ShowingLaws
-pub mod ClosingLaws
+pub mod FeedingLaws
 -- The code's own words: what holds of every console, and what is promised to fit.
 pub mod Pumping
 pub mod Began
@@ -61,16 +51,3 @@ pub mod CallRooms
 pub mod ClientRooms
 pub mod Fits
 pub mod Numbered
--- What became of each record.
-pub mod Fates
-pub mod Answers
-pub mod Texts
-pub mod Left
--- However bytes are cut, what stands behind what, and what leaves the console as it is.
-pub mod AlongLaws
-pub mod DueLaws
-pub mod Cut
-pub mod Settled
-pub mod Once
-pub mod Rested
-pub mod Unstamped

@@ -11,8 +11,8 @@ use Rattle.con_events.specs.declared.entry.Entry.{Entry}
 use Rattle.con_events.specs.declared.reply.Reply.{Reply}
 use Rattle.con_events.specs.declared.script.Script.{Script}
 use Rattle.con_machine.specs.Follows.{session_start, kinds_of}
-use Rattle.con_machine.specs.OpeningLaws.{opens}
-use Rattle.con_machine.specs.Rounds.{Begun}
+use Rattle.con_laws.specs.OpeningLaws.{opens}
+use Rattle.con_laws.specs.Rounds.{Begun}
 use Rattle.con_machine.specs.State.{State, opening}
 use Rattle.con_machine.specs.Turns.{paints}
 use Rattle.con_session.specs.Opening.{AreFreshBy, fresh}

@@ -14,7 +14,7 @@ use Rattle.con_handlers.specs.Delivery.{removal}
 use Rattle.con_handlers.specs.Memory.{Memory}
 use Rattle.con_machine.specs.Chain.{Handler, without_handler}
 use Rattle.con_machine.specs.Follows.{kinds_of}
-use Rattle.con_machine.specs.Rounds.{Begun}
+use Rattle.con_laws.specs.Rounds.{Begun}
 use Rattle.con_session.specs.Worker.{HandsAreBy, HandsStandBy, told_kind, told_in, places_in, stand_once}
 
 -- ---- what the slots of a rack hold

@@ -19,9 +19,9 @@ use Rattle.con_readers.specs.Reads.{is_open, has_done}
 use Rattle.con_machine.specs.Added.{has_added}
 use Rattle.con_machine.specs.Chain.{Handler, with_handler, without_handler, delivered_to, is_handled}
 use Rattle.con_machine.specs.Client.{Client, GoesOn, MayBy, due, next_event, event_of, is_fail, chained, ctrl_exit}
-use Rattle.con_machine.specs.HandlerLaws.{added_first}
+use Rattle.con_laws.specs.HandlerLaws.{added_first}
 use Rattle.con_machine.specs.History.{run}
-use Rattle.con_machine.specs.Rounds.{Begun, IsTurn, client_at}
+use Rattle.con_laws.specs.Rounds.{Begun, IsTurn, client_at}
 use Rattle.con_machine.specs.Step.{step, is_ready}
 use Rattle.con_machine.specs.Turns.{Turn, turns, turn_of, is_pending}
 use Rattle.con_session.specs.Desk.{entry, is_refused, listed}

@@ -9,7 +9,7 @@ use Rattle.con_events.specs.declared.entry.Entry.{Entry}
 use Rattle.con_events.specs.declared.reply.Reply.{Reply}
 use Rattle.con_events.specs.declared.script.Script.{Script}
 use Rattle.con_machine.specs.Follows.{session_start}
-use Rattle.con_machine.specs.Rounds.{Begun, is_memory}
+use Rattle.con_laws.specs.Rounds.{Begun, is_memory}
 use Rattle.con_machine.specs.State.{State}
 use Rattle.con_machine.specs.Turns.{paints}
 use Rattle.con_session.specs.Outcome.{IsOutcomeBy}

@@ -23,7 +23,7 @@ use Rattle.con_events.specs.declared.reply.Reply.{Reply}
 use Rattle.con_machine.specs.Follows.{sent_by}
 use Rattle.con_machine.specs.History.{run}
 use Rattle.con_machine.specs.Painting.{view_now}
-use Rattle.con_machine.specs.Rounds.{Begun}
+use Rattle.con_laws.specs.Rounds.{Begun}
 use Rattle.con_machine.specs.State.{State}
 use Rattle.con_machine.specs.Turns.{is_terminal, is_paint}
 use Rattle.con_session.specs.Desk.{entry}

@@ -14,10 +14,10 @@ use Rattle.con_machine.specs.Added.{adds, has_added}
 use Rattle.con_machine.specs.Chain.{Handler, answers_to, asked_once, delivered_to}
 use Rattle.con_machine.specs.Client.{Client, client_after}
 use Rattle.con_machine.specs.Follows.{steps_of, kinds_of}
-use Rattle.con_machine.specs.HandlerLaws.{has_added-append}
+use Rattle.con_laws.specs.HandlerLaws.{has_added-append}
 use Rattle.con_machine.specs.History.{run}
 use Rattle.con_machine.specs.HistoryLaws.{turns-own, turns-other}
-use Rattle.con_machine.specs.Rounds.{Begun, client_at}
+use Rattle.con_laws.specs.Rounds.{Begun, client_at}
 use Rattle.con_machine.specs.State.{State}
 use Rattle.con_machine.specs.Turns.{Turn, turns, turn_of, is_client}
 use Rattle.con_session.specs.Desk.{Enters, entry}

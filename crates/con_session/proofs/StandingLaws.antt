@@ -19,9 +19,9 @@ use Rattle.con_machine.specs.Client.{May, MayBy, MayGoOn, moved_on, entered, too
 use Rattle.con_machine.specs.Follows.{steps_of, kinds_of}
 use Rattle.con_machine.specs.History.{run}
 use Rattle.con_machine.specs.HistoryLaws.{after-append, along-one, turns-own}
-use Rattle.con_machine.specs.Presence.{IsSingle, attached_by, reads_by}
-use Rattle.con_machine.specs.PresenceLaws.{own_does, single_step}
-use Rattle.con_machine.specs.Rounds.{Begun, client_at}
+use Rattle.con_laws.specs.Presence.{IsSingle, attached_by, reads_by}
+use Rattle.con_laws.specs.PresenceLaws.{own_does, single_step}
+use Rattle.con_laws.specs.Rounds.{Begun, client_at}
 use Rattle.con_machine.specs.State.{State}
 use Rattle.con_machine.specs.Step.{step}
 use Rattle.con_machine.specs.Turns.{Turn, turns, turn_of, is_client, is_pending}

@@ -19,8 +19,8 @@ use Rattle.con_machine.specs.Along.{after}
 use Rattle.con_machine.specs.Follows.{MayAct, asks, asks_by, are_of_session, is_one_of}
 use Rattle.con_machine.specs.History.{run, is_legal}
 use Rattle.con_machine.specs.HistoryLaws.{legal-append, after-append, along-one}
-use Rattle.con_machine.specs.PictureLaws.{step_moves}
-use Rattle.con_machine.specs.Rounds.{Begun, clients_from, entry_of, round_entries, is_nobody, IsTurn}
+use Rattle.con_laws.specs.PictureLaws.{step_moves}
+use Rattle.con_laws.specs.Rounds.{Begun, clients_from, entry_of, round_entries, is_nobody, IsTurn}
 use Rattle.con_machine.specs.State.{State}
 use Rattle.con_machine.specs.Step.{is_ready}
 use Rattle.con_machine.specs.Turns.{moved, paints, is_paint, is_terminal}

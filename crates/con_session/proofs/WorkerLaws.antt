@@ -14,7 +14,7 @@ use Rattle.con_readers.specs.Reads.{is_open, has_done}
 use Rattle.con_machine.specs.Chain.{delivered_to, is_handled}
 use Rattle.con_machine.specs.Client.{Client, Stance, GoesOn, MayLeave, MustLeave, Gone, MayBy, MayGoOn, took, verdict, due, next_event, ctrl_exit}
 use Rattle.con_machine.specs.History.{run}
-use Rattle.con_machine.specs.Rounds.{Begun, IsTurn, ClientTurnBy, client_turn, client_at}
+use Rattle.con_laws.specs.Rounds.{Begun, IsTurn, ClientTurnBy, client_turn, client_at}
 use Rattle.con_machine.specs.State.{State}
 use Rattle.con_machine.specs.Step.{step, is_ready, is_due}
 use Rattle.con_machine.specs.Turns.{turns, is_pending}
@@ -60,7 +60,7 @@ collect_ready s p a = outside_none (is_attached s.procs p) (has_done s.reads p) 
 -- ---- the turn of a client that is there
 
 pub turn_there : (c : Client) (s : State) (p : ℕ) (a : Bool) (t : Option Event) → a ≡ true → ClientTurnBy c.stance s p c t
-    → Rattle.con_machine.specs.Rounds.ClientTurn a s p c t
+    → Rattle.con_laws.specs.Rounds.ClientTurn a s p c t
 turn_there c s p true t e k = k
 turn_there c s p false t e k = absurd (cc)
 

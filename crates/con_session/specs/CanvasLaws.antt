@@ -19,7 +19,7 @@ use Rattle.con_events.specs.declared.reply.Reply.{Reply}
 use Rattle.con_machine.specs.History.{run}
 use Rattle.con_machine.specs.Painting.{view_now, is_fresh}
 use Rattle.con_machine.specs.HistoryLaws.{paints-append}
-use Rattle.con_machine.specs.Rounds.{Begun}
+use Rattle.con_laws.specs.Rounds.{Begun}
 use Rattle.con_machine.specs.Sights.{sights_of, sights_at}
 use Rattle.con_machine.specs.Turns.{moved, paints, is_paint}
 use Rattle.con_machine.specs.State.{State}

@@ -8,7 +8,7 @@ use Rattle.con_machine.specs.Client.{Client, client_after, FollowsScript}
 use Rattle.con_machine.specs.Follows.{steps_of, kinds_of}
 use Rattle.con_machine.specs.History.{run}
 use Rattle.con_machine.specs.HistoryLaws.{turns-append, turns-other}
-use Rattle.con_machine.specs.Rounds.{Begun, client_at}
+use Rattle.con_laws.specs.Rounds.{Begun, client_at}
 use Rattle.con_machine.specs.State.{State}
 use Rattle.con_machine.specs.Turns.{Turn, turns, turn_of, moved, is_client, is_pending}
 use Rattle.con_session.specs.Door.{Saw, are_others}
@@ -18,8 +18,8 @@ use Rattle.con_session.specs.Worker.{IsWorker, HandsAreBy, IsRack, HandsStandBy,
 use Rattle.con_session.specs.declared.worker.Worker.{Worker}
 use Rattle.con_procs.specs.Procs.{is_attached}
 use Rattle.con_readers.specs.Reads.{is_open}
-use Rattle.con_machine.specs.Presence.{IsSingle}
-use Rattle.con_machine.specs.PresenceLaws.{others_stay, single_step}
+use Rattle.con_laws.specs.Presence.{IsSingle}
+use Rattle.con_laws.specs.PresenceLaws.{others_stay, single_step}
 use Rattle.con_session.specs.DeskLaws.{run_one}
 
 -- ---- entries of others

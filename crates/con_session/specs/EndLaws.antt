@@ -27,18 +27,18 @@ use Rattle.con_events.specs.declared.script.Script.{Script}
 use Rattle.con_procs.specs.Procs.{is_attached}
 use Rattle.con_readers.specs.Reads.{is_open, has_done}
 use Rattle.con_machine.specs.Along.{Along}
-use Rattle.con_machine.specs.ClosingLaws.{none_waits}
+use Rattle.con_laws.specs.ClosingLaws.{none_waits}
 use Rattle.con_machine.specs.Client.{Client, Stance, GoesOn, MayLeave, MustLeave, Gone, next_event}
 use Rattle.con_machine.specs.Follows.{are_of_session, FollowsLink, MayAct, asks, session_start, is_cut, is_lost, sent_by}
 use Rattle.con_machine.specs.History.{run, is_legal, replies_of}
-use Rattle.con_machine.specs.Opens.{WaitsOrGone}
-use Rattle.con_machine.specs.Rounds.{Begun, ClientTurn, ClientTurnBy, IsTurn, client_at}
-use Rattle.con_machine.specs.ShowingLaws.{painted_shows}
+use Rattle.con_laws.specs.Opens.{WaitsOrGone}
+use Rattle.con_laws.specs.Rounds.{Begun, ClientTurn, ClientTurnBy, IsTurn, client_at}
+use Rattle.con_laws.specs.ShowingLaws.{painted_shows}
 use Rattle.con_machine.specs.Sights.{sights_of}
 use Rattle.con_machine.specs.State.{State}
 use Rattle.con_machine.specs.Step.{is_ready}
 use Rattle.con_machine.specs.Turns.{sent, has_ended, is_pending, paints}
-use Rattle.con_machine.specs.Whole.{HaveAllLeft}
+use Rattle.con_laws.specs.Whole.{HaveAllLeft}
 use Rattle.con_session.specs.Desk.{listed}
 use Rattle.con_session.specs.Outcome.{Leaves, LeavesBy, IsCutBy, HasSentBy, end_of, last_end}
 use Rattle.con_session.specs.Painting.{CanvasEnds}

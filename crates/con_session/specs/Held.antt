@@ -9,7 +9,7 @@ use Rattle.con_events.specs.declared.script.Step.{Step}
 use Rattle.con_handlers.specs.Boxes.{Remembers}
 use Rattle.con_handlers.specs.Memory.{Memory}
 use Rattle.con_machine.specs.Chain.{Handler}
-use Rattle.con_machine.specs.Rounds.{Begun}
+use Rattle.con_laws.specs.Rounds.{Begun}
 use Rattle.con_machine.specs.State.{State}
 use Rattle.con_session.specs.DoorTurns.{HasTakenBy, HasTurnedBy}
 use Rattle.con_session.specs.Opening.{AreFreshBy}

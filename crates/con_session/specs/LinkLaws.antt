@@ -17,7 +17,7 @@ use Rattle.con_events.specs.declared.event.Event.TheVariants as events
 use Rattle.con_events.specs.declared.reply.Reply.{Reply}
 use Rattle.con_machine.specs.Follows.{sent_by}
 use Rattle.con_machine.specs.Turns.{is_terminal}
-use Rattle.con_machine.specs.Rounds.{Begun}
+use Rattle.con_laws.specs.Rounds.{Begun}
 use Rattle.con_machine.specs.State.{State}
 use Rattle.con_session.specs.Desk.{Rests, entry}
 use Rattle.con_session.specs.LinkedLaws.{linked_other, linked_failed, linked_hung, linked_frame, linked_fault, linked_stays, linked_stops}

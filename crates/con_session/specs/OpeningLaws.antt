@@ -14,9 +14,9 @@ use Rattle.con_events.specs.declared.end.End.TheVariants as ends
 use Rattle.con_events.specs.declared.entry.Entry.{Entry}
 use Rattle.con_events.specs.declared.script.Script.{Script}
 use Rattle.con_machine.specs.Follows.{session_start, kinds_of, steps_of, steps_in}
-use Rattle.con_machine.specs.OpeningLaws.{opens}
-use Rattle.con_machine.specs.PresenceLaws.{single_none}
-use Rattle.con_machine.specs.Rounds.{Begun, client_at}
+use Rattle.con_laws.specs.OpeningLaws.{opens}
+use Rattle.con_laws.specs.PresenceLaws.{single_none}
+use Rattle.con_laws.specs.Rounds.{Begun, client_at}
 use Rattle.con_session.specs.Opening.{AreFreshBy, fresh}
 use Rattle.con_session.specs.Painting.{CanvasIs}
 use Rattle.con_session.specs.Seats.{Seated}

@@ -13,10 +13,10 @@ use Rattle.con_events.specs.declared.event.Event.TheVariants as events
 use Rattle.con_events.specs.declared.reply.Reply.{Reply}
 use Rattle.con_machine.specs.Follows.{Follows, session_start, sent_by, is_lost}
 use Rattle.con_machine.specs.History.{is_legal, replies_of}
-use Rattle.con_machine.specs.Rounds.{Rounds, is_memory}
+use Rattle.con_laws.specs.Rounds.{Rounds, is_memory}
 use Rattle.con_machine.specs.Sights.{sights_of}
 use Rattle.con_machine.specs.Turns.{sent, has_ended, paints}
-use Rattle.con_machine.specs.Whole.{IsWhole, HaveAllLeft}
+use Rattle.con_laws.specs.Whole.{IsWhole, HaveAllLeft}
 use Rattle.con_session.specs.Desk.{listed}
 use Rattle.con_session.specs.Runs.{EachRun, ShowsView, PrintsFew, PrintsNewRows}
 use Rattle.con_session.specs.Sender.{IsLinkBy, NoMore, TakesBehind, all_go_on}

@@ -18,8 +18,8 @@ use Rattle.con_events.specs.declared.event.Event.TheVariants as events
 use Rattle.con_machine.specs.History.{run}
 use Rattle.con_machine.specs.HistoryLaws.{run-append, sights-one}
 use Rattle.con_machine.specs.Painting.{view_now, is_fresh}
-use Rattle.con_machine.specs.PictureLaws.{step_moves}
-use Rattle.con_machine.specs.Rounds.{Begun}
+use Rattle.con_laws.specs.PictureLaws.{step_moves}
+use Rattle.con_laws.specs.Rounds.{Begun}
 use Rattle.con_machine.specs.Sights.{sights_of, sights_at}
 use Rattle.con_machine.specs.SizeLaws.{step_keeps_size}
 use Rattle.con_machine.specs.State.{State}

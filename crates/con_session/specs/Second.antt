@@ -21,7 +21,7 @@ use Rattle.con_events.specs.declared.event.Event.TheVariants as events
 use Rattle.con_events.specs.declared.reply.Reply.{Reply}
 use Rattle.con_machine.specs.Along.{after}
 use Rattle.con_machine.specs.Follows.{session_start}
-use Rattle.con_machine.specs.Rounds.{is_memory}
+use Rattle.con_laws.specs.Rounds.{is_memory}
 use Rattle.con_machine.specs.State.{State}
 use Rattle.con_machine.specs.Turns.{paints}
 use Rattle.con_session.specs.Seconds.{watch, watched, seconds_of, flags_of, picked, Stays}

@@ -6,8 +6,8 @@ use Rattle.con_readers.specs.Reads.{is_open}
 use Rattle.con_machine.specs.Client.{Stance, GoesOn, MayLeave, MustLeave, Gone, FollowsScript}
 use Rattle.con_machine.specs.Follows.{steps_of, kinds_of}
 use Rattle.con_machine.specs.History.{run}
-use Rattle.con_machine.specs.Presence.{IsSingle}
-use Rattle.con_machine.specs.Rounds.{Begun, client_at}
+use Rattle.con_laws.specs.Presence.{IsSingle}
+use Rattle.con_laws.specs.Rounds.{Begun, client_at}
 use Rattle.con_machine.specs.Turns.{turns, is_pending}
 
 abbrev pub is_here : Stance → Bool

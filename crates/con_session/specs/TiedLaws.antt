@@ -14,7 +14,7 @@ use Rattle.con_events.specs.declared.reply.Reply.{Reply}
 use Rattle.con_machine.specs.History.{run, is_legal}
 use Rattle.con_machine.specs.Moves.{resizes_by, painted_by}
 use Rattle.con_machine.specs.Painting.{is_fresh}
-use Rattle.con_machine.specs.PictureLaws.{step_moves, asked_is_due}
+use Rattle.con_laws.specs.PictureLaws.{step_moves, asked_is_due}
 use Rattle.con_machine.specs.SizeLaws.{step_keeps_size}
 use Rattle.con_machine.specs.Sizes.{width_by, height_by}
 use Rattle.con_machine.specs.State.{State}

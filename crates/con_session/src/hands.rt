@@ -4,7 +4,7 @@ ghost use Rattle.std.specs.Prelude.{if◌then◌else◌};
 ghost use Rattle.std.specs.List.{position, remove};
 ghost use Rattle.con_machine.specs.Chain.{Handler, delivered_to, is_handled, with_handler, without_handler};
 ghost use Rattle.con_machine.specs.Follows.{kinds_of};
-ghost use Rattle.con_machine.specs.Rounds.{Begun};
+ghost use Rattle.con_laws.specs.Rounds.{Begun};
 ghost use Rattle.con_session.specs.Held.{HandsAre, HandsStand, at_place};
 ghost use Rattle.con_session.specs.Worker.{told_kind, places_in, stand_once};
 

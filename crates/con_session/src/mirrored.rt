@@ -3,7 +3,7 @@ ghost use Rattle.std.specs.Prelude.{◌≡◌, ◌⊎◌, ℕ, ◌<◌, ◌≤�
 ghost use Rattle.con_outside.specs.Outside.{Rose};
 ghost use Rattle.con_link.specs.LinkReading.{mirrored};
 ghost use Rattle.con_events.specs.declared.end.End.{End};
-ghost use Rattle.con_machine.specs.Rounds.{Begun};
+ghost use Rattle.con_laws.specs.Rounds.{Begun};
 ghost use Rattle.con_machine.specs.Turns.{paints};
 ghost use Rattle.con_session.specs.Held.{moment};
 ghost use Rattle.con_session.specs.Painting.{IsTied};

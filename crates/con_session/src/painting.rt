@@ -8,7 +8,7 @@ ghost use Rattle.con_term.specs.Terminal.{Terminal};
 ghost use Rattle.con_paint.specs.Painter.{Allows, IsShown, Paints, unpainted};
 ghost use Rattle.con_machine.specs.History.{run};
 ghost use Rattle.con_machine.specs.Marks.{AreMarks};
-ghost use Rattle.con_machine.specs.Rounds.{Begun};
+ghost use Rattle.con_laws.specs.Rounds.{Begun};
 ghost use Rattle.con_machine.specs.Turns.{paints};
 ghost use Rattle.con_session.specs.Painting.{CanvasIs, IsTied, PainterActs, PainterFails, PaintTurn, Pictured, acted};
 ghost use Rattle.con_session.specs.Sender.{FailsBy};

@@ -1,6 +1,6 @@
 //! A client's seat, its turn in a round, and the turns of all clients.
 ghost use Rattle.std.specs.Prelude.{◌≡◌, ℕ, ◌≤◌, Bool, true, false, List, length, map};
-ghost use Rattle.con_machine.specs.Rounds.{Begun};
+ghost use Rattle.con_laws.specs.Rounds.{Begun};
 ghost use Rattle.con_session.specs.Desk.{Ran};
 ghost use Rattle.con_session.specs.Held.{AllStand, ClientsTurn, HandsStand, HandsTurn};
 ghost use Rattle.con_session.specs.Worker.{ClientIs};

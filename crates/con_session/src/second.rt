@@ -12,7 +12,7 @@ ghost use Rattle.con_events.specs.declared.entry.Entry.{Entry};
 ghost use Rattle.con_events.specs.declared.event.Event.TheVariants as events;
 ghost use Rattle.con_machine.specs.History.{run};
 ghost use Rattle.con_machine.specs.Painting.{view_now};
-ghost use Rattle.con_machine.specs.Rounds.{Begun};
+ghost use Rattle.con_laws.specs.Rounds.{Begun};
 ghost use Rattle.con_machine.specs.State.{State};
 ghost use Rattle.con_machine.specs.Turns.{has_ended, paints, sent};
 ghost use Rattle.con_session.specs.Desk.{Ran, entry};

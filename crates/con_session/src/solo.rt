@@ -2,7 +2,7 @@
 ghost use Rattle.std.specs.Prelude.{◌≡◌, ◌⊎◌, ℕ, ◌<◌, ◌≤◌, ◌||◌, Bool, true, false, List, [], All, length, map, Option, IfOk};
 ghost use Rattle.con_outside.specs.Outside.{Rose};
 ghost use Rattle.con_events.specs.declared.end.End.{End};
-ghost use Rattle.con_machine.specs.Rounds.{Begun};
+ghost use Rattle.con_laws.specs.Rounds.{Begun};
 ghost use Rattle.con_machine.specs.Turns.{paints};
 ghost use Rattle.con_session.specs.Held.{moment};
 ghost use Rattle.con_session.specs.Outcome.{IsSoloOutcome};

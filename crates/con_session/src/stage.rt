@@ -2,7 +2,7 @@
 ghost use Rattle.std.specs.Prelude.{◌≡◌, ◌⊎◌, ℕ, ◌≤◌, Bool, true, false, List, [], map, length, All, Option, None, Some, IfOk};
 ghost use Rattle.con_events.specs.declared.end.End.{End};
 ghost use Rattle.con_machine.specs.Follows.{kinds_of};
-ghost use Rattle.con_machine.specs.Rounds.{Begun};
+ghost use Rattle.con_laws.specs.Rounds.{Begun};
 ghost use Rattle.con_machine.specs.State.{opening};
 ghost use Rattle.con_session.specs.Held.{AreFresh, HandsStand};
 ghost use Rattle.con_session.specs.Opening.{fresh};

@@ -2,7 +2,7 @@
 ghost use Rattle.std.specs.Prelude.{◌≡◌, ◌<◌, ℕ, true, false, List, length};
 ghost use Rattle.con_handlers.specs.Memory.{Memory};
 ghost use Rattle.con_machine.specs.Client.{event_of};
-ghost use Rattle.con_machine.specs.Rounds.{Begun};
+ghost use Rattle.con_laws.specs.Rounds.{Begun};
 ghost use Rattle.con_session.specs.DoorTurns.{ClientAt, HasTurnedBy, IsNext, IsQuiet};
 ghost use Rattle.con_session.specs.Held.{HandsStand, HasTurned};
 ghost use Rattle.con_session.specs.Worker.{HandsStandBy, is_handlers};

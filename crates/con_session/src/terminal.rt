@@ -3,7 +3,7 @@ ghost use Rattle.std.specs.Prelude.{◌≡◌, ◌⊎◌, ℕ, Bool, true, false
 ghost use Rattle.con_outside.specs.Outside.{Rose, then_left};
 ghost use Rattle.con_link.specs.Frames.{ends_link, is_frame};
 ghost use Rattle.con_machine.specs.Follows.{sent_by};
-ghost use Rattle.con_machine.specs.Rounds.{Begun};
+ghost use Rattle.con_laws.specs.Rounds.{Begun};
 ghost use Rattle.con_machine.specs.Turns.{has_ended, paints, sent};
 ghost use Rattle.con_session.specs.Desk.{Ran};
 ghost use Rattle.con_session.specs.Sender.{end_for, FailsBy, Hears, LinkIs, LinkTurn, SenderTurn};

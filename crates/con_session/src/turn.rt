@@ -1,7 +1,7 @@
 //! A client's turn, at any door to the console.
 ghost use Rattle.std.specs.Prelude.{◌≡◌, ◌≤◌, ℕ, Bool, true, false, List};
 ghost use Rattle.con_handlers.specs.Memory.{Memory};
-ghost use Rattle.con_machine.specs.Rounds.{Begun};
+ghost use Rattle.con_laws.specs.Rounds.{Begun};
 ghost use Rattle.con_session.specs.DoorTurns.{ClientAt};
 ghost use Rattle.con_session.specs.Held.{HandsStand, HasTurned};
 

@@ -1,7 +1,7 @@
 //! A client's worker: what it enters in its turn, at any door to the console.
 ghost use Rattle.std.specs.Prelude.{◌≡◌, ◌==◌, ◌||◌, ◌<◌, ℕ, Bool, true, false, not, List, IfOk};
 ghost use Rattle.con_handlers.specs.Memory.{Memory};
-ghost use Rattle.con_machine.specs.Rounds.{Begun};
+ghost use Rattle.con_laws.specs.Rounds.{Begun};
 ghost use Rattle.con_session.specs.Desk.{is_refused};
 ghost use Rattle.con_session.specs.DoorTurns.{ClientAt, HasTurnedBy, IsQuiet, MayExit};
 ghost use Rattle.con_session.specs.Held.{HandsStand, HasTaken, HasTurned};

@@ -4,7 +4,7 @@ use Rattle.con_events.specs.declared.actor.Actor.TheVariants as actors
 use Rattle.con_events.specs.declared.entry.Entry.{Entry}
 use Rattle.con_events.specs.declared.script.Step.{Step}
 use Rattle.con_handlers.specs.Memory.{Memory}
-use Rattle.con_machine.specs.Rounds.{Begun}
+use Rattle.con_laws.specs.Rounds.{Begun}
 use Rattle.con_machine.specs.State.{State}
 use Rattle.con_machine.specs.Turns.{turns}
 use Rattle.con_session.specs.DoorEntries.{hands_by, stands_others, turns_others, worker_by}

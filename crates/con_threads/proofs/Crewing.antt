@@ -14,7 +14,7 @@ use Rattle.con_events.specs.declared.script.Step.{Step}
 use Rattle.con_handlers.specs.Memory.{Memory}
 use Rattle.con_machine.specs.Follows.{kinds_of}
 use Rattle.con_machine.specs.Numbered.{actor_of}
-use Rattle.con_machine.specs.Rounds.{Begun}
+use Rattle.con_laws.specs.Rounds.{Begun}
 use Rattle.con_session.specs.Opening.{AreFreshBy, fresh}
 use Rattle.con_session.specs.OpeningLaws.{get_below, seated_fresh}
 use Rattle.con_session.specs.Solo.{begins}

@@ -9,9 +9,9 @@ use Rattle.con_events.specs.declared.reply.Reply.{Reply}
 use Rattle.con_machine.specs.Client.{Gone}
 use Rattle.con_machine.specs.Follows.{session_start}
 use Rattle.con_machine.specs.History.{run}
-use Rattle.con_machine.specs.Rounds.{client_at}
+use Rattle.con_laws.specs.Rounds.{client_at}
 use Rattle.con_machine.specs.Turns.{paints}
-use Rattle.con_machine.specs.Whole.{HaveAllLeft}
+use Rattle.con_laws.specs.Whole.{HaveAllLeft}
 use Rattle.con_session.specs.CanvasLaws.{canvas_ends, painted_count}
 use Rattle.con_session.specs.EndLaws.{by_number, ends_count, leaves_none, leaves_stops, leaves_whole}
 use Rattle.con_session.specs.LinkLaws.{link_failed, link_stays}

@@ -11,7 +11,7 @@ use Rattle.con_events.specs.declared.reply.Reply.TheVariants as replies
 use Rattle.con_machine.specs.Marks.{told}
 use Rattle.con_machine.specs.Numbered.{next_of, answer_of, tells_of, ready_of}
 use Rattle.con_machine.specs.Painting.{view_now}
-use Rattle.con_machine.specs.PictureLaws.{paint_answers}
+use Rattle.con_laws.specs.PictureLaws.{paint_answers}
 use Rattle.con_machine.specs.State.{State}
 use Rattle.con_machine.specs.Step.{step, is_ready}
 use Rattle.con_session.specs.Desk.{brief_of, listed}

@@ -6,7 +6,7 @@ use Rattle.std.proofs.lemmas.Bool.Decides.{nat_tests}
 use Rattle.con_events.specs.Session.{Clients, all_scripts, are_scripts, step_count}
 use Rattle.con_events.specs.declared.script.Script.{Script}
 use Rattle.con_machine.specs.Follows.{session_start}
-use Rattle.con_machine.specs.OpeningLaws.{opens}
+use Rattle.con_laws.specs.OpeningLaws.{opens}
 use Rattle.con_machine.specs.Painting.{is_fresh}
 use Rattle.con_machine.specs.State.{State, opening}
 use Rattle.con_book.specs.Passes.{BookId, view_of}

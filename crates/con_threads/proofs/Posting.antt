@@ -6,7 +6,7 @@ use Rattle.con_events.specs.declared.entry.Entry.{Entry}
 use Rattle.con_events.specs.declared.script.Step.{Step}
 use Rattle.con_handlers.specs.Memory.{Memory}
 use Rattle.con_machine.specs.Client.{Client, Stance, GoesOn, MayLeave, MustLeave, Gone}
-use Rattle.con_machine.specs.Rounds.{Begun, client_at}
+use Rattle.con_laws.specs.Rounds.{Begun, client_at}
 use Rattle.con_session.specs.Door.{are_others}
 use Rattle.con_session.specs.DoorEntries.{client_by, turns_saw}
 use Rattle.con_session.specs.DoorTurns.{ClientAt, HasTurnedBy}

@@ -17,7 +17,7 @@ use Rattle.con_machine.specs.Client.{Stance, GoesOn, MayLeave, MustLeave, Gone}
 use Rattle.con_machine.specs.Follows.{are_of_session, session_start}
 use Rattle.con_machine.specs.History.{is_legal, replies_of, run}
 use Rattle.con_machine.specs.Numbered as numbers
-use Rattle.con_machine.specs.Rounds.{Begun, client_at}
+use Rattle.con_laws.specs.Rounds.{Begun, client_at}
 use Rattle.con_machine.specs.State.{State}
 use Rattle.con_machine.specs.Step.{is_ready}
 use Rattle.con_paint.specs.Painter.{Kept}

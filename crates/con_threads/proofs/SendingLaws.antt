@@ -12,7 +12,7 @@ use Rattle.con_events.specs.declared.event.Event.{Event}
 use Rattle.con_events.specs.declared.event.Event.TheVariants as events
 use Rattle.con_machine.specs.Follows.{sent_by}
 use Rattle.con_machine.specs.History.{run}
-use Rattle.con_machine.specs.Rounds.{Begun}
+use Rattle.con_laws.specs.Rounds.{Begun}
 use Rattle.con_machine.specs.State.{State}
 use Rattle.con_machine.specs.Step.{is_ready}
 use Rattle.con_session.specs.Sender.{end_for}

@@ -18,8 +18,8 @@ use Rattle.con_machine.specs.Along.{after}
 use Rattle.con_machine.specs.Follows.{MayAct, asks, asks_by, sent_by}
 use Rattle.con_machine.specs.History.{run, is_legal}
 use Rattle.con_machine.specs.HistoryLaws.{after-append, along-one, run-append}
-use Rattle.con_machine.specs.PictureLaws.{step_moves}
-use Rattle.con_machine.specs.Rounds.{Begun}
+use Rattle.con_laws.specs.PictureLaws.{step_moves}
+use Rattle.con_laws.specs.Rounds.{Begun}
 use Rattle.con_machine.specs.State.{State}
 use Rattle.con_machine.specs.Step.{is_due, is_ready}
 use Rattle.con_machine.specs.Turns.{is_terminal, moved}

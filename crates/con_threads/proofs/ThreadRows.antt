@@ -34,7 +34,7 @@ use Rattle.con_machine.specs.Serving.{settled_state}
 use Rattle.con_machine.specs.Closing.{closing}
 use Rattle.con_machine.specs.Follows.{sent_by}
 use Rattle.con_machine.specs.Reads.{began, collected, took_ctrl, left, line_front}
-use Rattle.con_machine.specs.Rounds.{Begun}
+use Rattle.con_laws.specs.Rounds.{Begun}
 use Rattle.con_machine.specs.Terminal.{fed, quiet, resized}
 use Rattle.con_machine.specs.Painting.{painted, same_view}
 use Rattle.con_session.specs.Runs.{ends_from}

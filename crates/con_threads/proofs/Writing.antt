@@ -7,7 +7,7 @@ use Rattle.con_units.specs.declared.place.Size.{Size}
 use Rattle.con_outside.specs.Outside.{then_written, WroteFront}
 use Rattle.con_paint.specs.Painter.{Kept}
 use Rattle.con_events.specs.declared.entry.Entry.{Entry}
-use Rattle.con_machine.specs.Rounds.{Begun}
+use Rattle.con_laws.specs.Rounds.{Begun}
 use Rattle.con_session.specs.CanvasLaws.{joined_more, written_more}
 use Rattle.con_session.specs.Painting.{CanvasIs, CanvasEnds, Written}
 use Rattle.con_session.specs.Runs.{joined}

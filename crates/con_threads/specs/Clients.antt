@@ -5,7 +5,7 @@ use Rattle.con_events.specs.declared.entry.Entry.{Entry}
 use Rattle.con_events.specs.declared.script.Step.{Step}
 use Rattle.con_handlers.specs.Boxes.{Recalls, boxed}
 use Rattle.con_handlers.specs.Memory.{Memory}
-use Rattle.con_machine.specs.Rounds.{Begun, client_at}
+use Rattle.con_laws.specs.Rounds.{Begun, client_at}
 use Rattle.con_session.specs.Held.{in_chain, in_rack}
 use Rattle.con_session.specs.Standing.{ClientStands}
 use Rattle.con_session.specs.Worker.{IsWorker, HandsStandBy}

@@ -1,7 +1,7 @@
 -- The clients of a session, before and after they ran.
 use Rattle.std.specs.Prelude.{◌≡◌, ℕ, ◌+◌, ◌<◌, get_or, zero, suc, true, false, List, [], ◌∷◌, slice_get, Some, length}
 use Rattle.con_events.specs.declared.script.Script.{Script}
-use Rattle.con_machine.specs.Rounds.{Begun}
+use Rattle.con_laws.specs.Rounds.{Begun}
 use Rattle.con_book.specs.Passes.{BookId, pass_id, view_of, actor_of}
 use Rattle.con_book.specs.declared.machine.Machine.{Ghosts}
 use Rattle.con_book.specs.declared.pass.Pass.{Pass}

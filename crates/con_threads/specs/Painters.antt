@@ -6,7 +6,7 @@ use Rattle.con_events.specs.declared.actor.Actor.TheVariants as actors
 use Rattle.con_events.specs.declared.entry.Entry.{Entry}
 use Rattle.con_paint.specs.Painter.{Kept}
 use Rattle.con_machine.specs.History.{run}
-use Rattle.con_machine.specs.Rounds.{Begun}
+use Rattle.con_laws.specs.Rounds.{Begun}
 use Rattle.con_session.specs.Painting.{CanvasIs, CanvasEnds, IsTied}
 use Rattle.con_session.specs.Runs.{joined}
 use Rattle.con_pipe.specs.PipeEnds.{pieces_put, IsSameIn}

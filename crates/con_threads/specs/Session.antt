@@ -9,7 +9,7 @@ use Rattle.con_events.specs.declared.reply.Reply.{Reply}
 use Rattle.con_machine.specs.Client.{Gone}
 use Rattle.con_machine.specs.Follows.{are_of_session}
 use Rattle.con_machine.specs.History.{run, is_legal, replies_of}
-use Rattle.con_machine.specs.Rounds.{Begun, client_at}
+use Rattle.con_laws.specs.Rounds.{Begun, client_at}
 use Rattle.con_machine.specs.Step.{is_ready}
 use Rattle.con_session.specs.Desk.{listed}
 use Rattle.con_session.specs.Painting.{CanvasIs, CanvasEnds}

@@ -2,7 +2,7 @@
 ghost use Rattle.std.specs.Prelude.{◌≡◌, ◌≤◌, false, [], length, map};
 ghost use Rattle.con_book.specs.Passes.{book_id, pass_id};
 ghost use Rattle.con_handlers.specs.Boxes.{boxed};
-ghost use Rattle.con_machine.specs.Rounds.{Begun};
+ghost use Rattle.con_laws.specs.Rounds.{Begun};
 ghost use Rattle.con_session.specs.DoorTurns.{ClientAt};
 ghost use Rattle.con_session.specs.Held.{HandsStand, HasTurned};
 ghost use Rattle.con_threads.specs.Clients.{HasServed, IsClientThread};

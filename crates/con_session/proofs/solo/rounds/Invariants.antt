@@ -2,7 +2,7 @@
 use Rattle.std.proofs.Common.{◌≡◌, ◌⊎◌, ℕ, ◌-◌, ◌≤◌, true, false, List, length, Option}
 use Rattle.con_outside.specs.Outside.{Rose}
 use Rattle.con_events.specs.declared.end.End.TheVariants as ends
-use Rattle.con_machine.specs.Rounds.{Begun}
+use Rattle.con_laws.specs.Rounds.{Begun}
 use Rattle.con_machine.specs.Turns.{paints}
 use Rattle.con_session.specs.Held.{moment}
 use Rattle.con_session.specs.Painting.{IsTied}

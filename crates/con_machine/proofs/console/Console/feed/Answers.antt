@@ -2,7 +2,8 @@
 use Rattle.std.proofs.Common.{◌∙◌, List, ℕ, ap, sym}
 use Rattle.std.specs.Prelude.{fold}
 use Rattle.con_machine.specs.Feeding.{byte_taken}
-use Rattle.con_machine.proofs.Arriving.{fed_by_bytes, none_left}
+use Rattle.con_machine.specs.FeedingLaws.{fed_by_bytes}
+use Rattle.con_machine.proofs.Arriving.{none_left}
 use Rattle.con_machine.proofs.console.Console.feed.Goals as goal
 
 pub returns : goal.returns

@@ -1,4 +1,4 @@
-use Rattle.con_machine.specs.PictureLaws.{paint_answers}
+use Rattle.con_laws.specs.PictureLaws.{paint_answers}
 use Rattle.con_session.specs.Replying.{view_is}
 use Rattle.con_session.specs.PaintTurns.{picture_of, whole_of, window_of, marks_of}
 use Rattle.con_session.proofs.desk.Desk.paint.Goals as goal

@@ -1,5 +1,0 @@
-use Rattle.con_machine.specs.HandlerLaws.{step_once, run_added}
-use Rattle.con_machine.proofs.handler_laws.a_place_is_added_once.Goals as goal
-
-pub returns : goal.returns
-returns c = record { event = step_once; history = run_added }

@@ -1,5 +1,0 @@
-use Rattle.con_machine.proofs.Rested.{left_once}
-use Rattle.con_machine.proofs.rest_laws.what_is_left_is_answered_once.Goals as goal
-
-pub returns : goal.returns
-returns c = left_once
