@@ -1,7 +1,8 @@
 //! A console with its history.
-ghost use Rattle.std.specs.Prelude.{◌≡◌, true, false, IfOk, OnErr};
+ghost use Rattle.std.specs.Prelude.{◌≡◌, ◌<◌, true, false, IfOk, OnErr, vec_capacity, vec_len};
 ghost use Rattle.con_units.specs.Limits.{IsWindow};
 ghost use Rattle.con_units.specs.View.{IsWhole};
+ghost use Rattle.con_machine.specs.Fits.{Fits};
 ghost use Rattle.con_machine.specs.Marks.{AreMarks};
 ghost use Rattle.con_machine.specs.Step.{is_ready, step};
 ghost use Rattle.con_session.specs.Desk.{brief_of, listed, is_painter, Enters, Rests, Ran};
@@ -9,11 +10,12 @@ ghost use Rattle.con_session.specs.Painting.{Pictures};
 
 use crate::door::Door;
 use con_events::{Actor, Entry, Event, Reply};
-use con_machine::Console;
+use con_machine::{Console, Room};
 use con_units::{Marks, OutOfMemory, View};
 
 /// A console, and what was entered and answered so far. A Paint counts as answered by Done.
-#[derive(Drop)]
+///
+/// Whoever is done with one takes it apart, and calls `discard` of its console.
 pub struct Desk {
     pub console: Console,
     pub entries: Vec<Entry>,
@@ -63,6 +65,23 @@ pub fn as_listed(reply: Reply) -> Reply
 }
 
 impl Desk {
+    // Takes the memory for one more event, its entry and its reply. Nothing is entered.
+    fn room_for(&mut self, actor: Actor, event: &Event) -> Result<Room, OutOfMemory>
+        ensures same { Rests self.old.console.state self.new.console.state self.old.entries.items self.new.entries.items
+            self.old.replies.items self.new.replies.items }
+        ensures room { IfOk result (λ room. Fits room self.new.console actor event.now) }
+        ensures entries { IfOk result (λ _. vec_len self.new.entries < vec_capacity self.new.entries) }
+        ensures replies { IfOk result (λ _. vec_len self.new.replies < vec_capacity self.new.replies) }
+    {
+        if self.entries.reserve(1).is_err() {
+            return Err(OutOfMemory);
+        }
+        if self.replies.reserve(1).is_err() {
+            return Err(OutOfMemory);
+        }
+        self.console.prepare(actor, event)
+    }
+
     /// Enters an event of a client or of the terminal's side. Where there is no memory nothing was entered.
     pub fn enter(&mut self, actor: Actor, event: Event) -> Result<Brief, OutOfMemory>
         requires ready { is_ready self.old.console.state actor event ≡ true }
@@ -74,13 +93,10 @@ impl Desk {
         ensures same { OnErr result
             (Rests self.old.console.state self.new.console.state self.old.entries.items self.new.entries.items self.old.replies.items self.new.replies.items) }
     {
-        if self.entries.reserve(1).is_err() {
+        let Ok(room) = self.room_for(actor, &event) else {
+            drop(event);
             return Err(OutOfMemory);
-        }
-        if self.replies.reserve(1).is_err() {
-            return Err(OutOfMemory);
-        }
-        let room = self.console.prepare(actor, &event)?;
+        };
         let reply = self.console.apply(actor, &event, room);
         let brief = brief_for(&reply);
         self.entries.push_reserved(Entry { actor, event });
@@ -100,19 +116,14 @@ impl Desk {
         ensures same { OnErr result
             (Rests self.old.console.state self.new.console.state self.old.entries.items self.new.entries.items self.old.replies.items self.new.replies.items) }
     {
-        if self.entries.reserve(1).is_err() {
-            return Err(OutOfMemory);
-        }
-        if self.replies.reserve(1).is_err() {
-            return Err(OutOfMemory);
-        }
-        let actor = Actor::Painter;
-        let event = Event::Paint;
-        let room = self.console.prepare(actor, &event)?;
+        let room = self.room_for(Actor::Painter, &Event::Paint)?;
         self.console.view_is_whole();
-        match self.console.apply(actor, &event, room) {
+        match self.console.apply(Actor::Painter, &Event::Paint, room) {
             Reply::View(view, marks, fresh) => {
-                self.entries.push_reserved(Entry { actor, event });
+                self.entries.push_reserved(Entry {
+                    actor: Actor::Painter,
+                    event: Event::Paint,
+                });
                 self.replies.push_reserved(Reply::Done);
                 Ok(Picture { view, marks, fresh })
             }
@@ -144,6 +155,7 @@ impl Door for Desk {
 
     fn enter_if_ready(&mut self, actor: Actor, event: Event) -> Result<Option<Brief>, OutOfMemory> {
         if !self.console.ready(actor, &event) {
+            drop(event);
             return Ok(None);
         }
         match self.enter(actor, event) {

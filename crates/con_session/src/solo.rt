@@ -134,10 +134,11 @@ pub(crate) fn left_by(stage: Stage, end: End) -> Outcome
         canvas,
     } = stage;
     let Desk {
-        console: _,
+        console,
         entries,
         replies,
     } = desk;
+    console.discard();
     Outcome {
         entries: Entries(entries),
         replies: Replies(replies),

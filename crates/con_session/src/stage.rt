@@ -22,7 +22,6 @@ use con_units::OutOfMemory;
 use std::alloc::Global;
 
 /// The console with its history, the terminal's side with the reader of its link, and the painter.
-#[derive(Drop)]
 pub struct Stage {
     pub desk: Desk,
     pub reader: LinkReader,
@@ -100,8 +99,8 @@ fn stage_for(alloc: Global, session: &Session, sizes: &[u8]) -> Result<Stage, Ou
     ensures side { IfOk result (λ stage. (stage.side ≡ record { ended = false; end = End.Done }) × (stage.reader ≡ 0)) }
     ensures canvas { IfOk result (λ stage. (stage.canvas.ends.items ≡ []) × (stage.canvas.end ≡ 0) × (stage.canvas.failed ≡ false)) }
 {
-    let console = Console::new(alloc, session, sizes)?;
     let painter = Painter::new(alloc, session.size())?;
+    let console = Console::new(alloc, session, sizes)?;
     Ok(Stage {
         desk: Desk {
             console,
@@ -138,8 +137,8 @@ pub fn begun(
     ensures fresh { IfOk result (λ r. AreFresh memory (map (λ rack. map (λ b. told_kind (memory b)) rack.items) racks.items) 0 r.1.items) }
 {
     let sizes = sizes_of(alloc, racks.as_slice())?;
-    let stage = stage_for(alloc, session, sizes.as_slice())?;
     let seats = seats_of(alloc, racks)?;
     let seats = fitted(alloc, seats, session.scripts().len())?;
+    let stage = stage_for(alloc, session, sizes.as_slice())?;
     Ok((stage, seats))
 }
