@@ -23,8 +23,6 @@ pub mod lists;
 pub mod past;
 pub mod place;
 pub mod shade;
-#[cfg(test)]
-mod tests;
 pub mod utf8;
 pub mod view;
 

@@ -1,12 +1,10 @@
-//! Tests of the outside, of keys and of mouse reports, as a caller sees them: what no session shows; `callers` also of link frames.
-//! All of it is proved with the tests, so once.
+//! Tests of the outside, of keys and mouse reports, of handles, processes and handlers, and of sessions, as a caller sees them: what no session
+//! shows, and callers that use each clause with values that they do not know. All of it is proved with the tests, so once.
 #![tactic(auto)]
 
 #[cfg(test)]
-mod callers;
+mod input;
 #[cfg(test)]
-mod keys;
+mod owners;
 #[cfg(test)]
-mod mouse;
-#[cfg(test)]
-mod outside;
+mod script;

@@ -1,8 +1,16 @@
-//! Tests of con_screens by a caller: callers that use the laws of lent screens, counted handles and views at every id, and the numbers of
-//! buffers, which no session shows.
+//! Tests of values, cells, screens, the specified terminal and the painter, as a caller sees them: what no session shows, and callers that use
+//! each clause at every value. All of it is proved with the tests, so once.
 #![tactic(auto)]
 
 #[cfg(test)]
-mod buffers;
+mod cells;
 #[cfg(test)]
-mod callers;
+mod paint;
+#[cfg(test)]
+mod screen;
+#[cfg(test)]
+mod screens;
+#[cfg(test)]
+mod term;
+#[cfg(test)]
+mod values;

@@ -1,0 +1,5 @@
+//! The outside, keys, mouse reports and link frames: callers, and what no session shows.
+mod callers;
+mod keys;
+mod mouse;
+mod outside;

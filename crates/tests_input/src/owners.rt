@@ -1,0 +1,5 @@
+//! Handles, processes and handlers: callers, and what no session shows.
+mod callers;
+mod chains;
+mod handles;
+mod processes;

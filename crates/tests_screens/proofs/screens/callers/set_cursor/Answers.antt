@@ -1,0 +1,9 @@
+use Rattle.con_screens.specs.LentLaws.{lent_keeps}
+use Rattle.con_screens.specs.StampLaws.{remembers}
+use Rattle.tests_screens.proofs.screens.callers.set_cursor.Goals as goal
+
+pub returns-clause-kept : goal.returns-clause-kept
+returns-clause-kept c = lent_keeps _ _ _ _ c.requires.buffers c.requires.live c.screen_mut.ensures.screen c.set_cursor.ensures.page c.set_cursor.ensures.sides
+
+pub returns-clause-remembered : goal.returns-clause-remembered
+returns-clause-remembered c = remembers c.args.screens.now _ _ _ c.screen_mut.ensures.screen c.set_cursor.ensures.sides

@@ -1,0 +1,3 @@
+//! Cells and grids: callers, and what no session shows of grids.
+mod callers;
+mod grids;

@@ -1,0 +1,3 @@
+//! The painter: a caller, and the bytes of small frames, by hand.
+mod callers;
+mod frames;

@@ -1,0 +1,4 @@
+//! The specified terminal: a caller, its dumps, and units.
+mod callers;
+mod dumps;
+mod units;
