@@ -5,7 +5,7 @@ use Rattle.con_outside.specs.Outside.{then_left, then_written, WroteFront, Wrote
 use Rattle.con_outside.specs.Laws.{then_left-none}
 use Rattle.con_ending.specs.Ending.{end_line}
 use Rattle.con_host.specs.Generating.{Generated}
-use Rattle.con_host.specs.Hosting.{Hosted}
+use Rattle.con_host.specs.Hosting.{Hosted, Refused}
 use Rattle.con_host.specs.Mirroring.{HasMirrored}
 use Rattle.con_text.specs.Playing.{Played, PlayedPart}
 use Rattle.con_host.specs.Sessions.{HasRun, Soloed}
@@ -18,16 +18,20 @@ use Rattle.con_ending.specs.Laws.{part_of, nothing_yet}
 use Rattle.con_host.proofs.SessionLemmas.{no_memory as no_running, no_turns}
 use Rattle.con_host.proofs.Mirrors.{no_mirror}
 
-pub no_form : (s : ℕ) (asked : Option Asked) (files : Option (List ℕ → Option (List ℕ))) (files_failed : Type 0) (racks : List (List ℕ)) (before old second before_report report : Option (List ℕ)) (failed second_failed : Type 0) → None ≡ asked → (s ≡ 2) ⊎ (s ≡ 9) → WroteFront (end_line 2) before_report report
-    → (s ≡ 2 → ¬ failed → report ≡ then_written before_report (end_line 2)) → (¬ (s ≡ 2) → WrotePart (end_line 2) before_report report) → Hosted s asked files files_failed racks before before old old second second before_report report failed second_failed
-no_form s asked files files_failed racks before old second before_report report failed second_failed is which front whole part = record {
-  usage = λ _. record {
-    comes = which;
-    nothing_taken = refl;
-    nothing_written = refl;
-    told = λ e. record { front = front; whole = whole e };
-    memory = λ e. part_of before_report report s 2 e (omega arith) part;
-  };
+pub refused : (s : ℕ) (left now before_report report : Option (List ℕ)) (failed : Type 0) → (s ≡ 2) ⊎ (s ≡ 9) → WroteFront (end_line 2) before_report report
+    → (s ≡ 2 → ¬ failed → report ≡ then_written before_report (end_line 2)) → (¬ (s ≡ 2) → WrotePart (end_line 2) before_report report) → Refused s left left now now before_report report failed
+refused s left now before_report report failed which front whole part = record {
+  comes = which;
+  nothing_taken = refl;
+  nothing_written = refl;
+  told = λ e. record { front = front; whole = whole e };
+  memory = λ e. part_of before_report report s 2 e (omega arith) part;
+}
+
+pub no_form : (s : ℕ) (asked : Option Asked) (files : Option (List ℕ → Option (List ℕ))) (files_failed : Type 0) (racks : List (List ℕ)) (before old second before_report report : Option (List ℕ)) (failed second_failed : Type 0) → None ≡ asked → Refused s before before old old before_report report failed
+    → Hosted s asked files files_failed racks before before old old second second before_report report failed second_failed
+no_form s asked files files_failed racks before old second before_report report failed second_failed is says = record {
+  usage = λ _. says;
   typed = λ e. absurd (cc);
   played = λ size e. absurd (cc);
   ran = λ name e. absurd (cc);

@@ -12,7 +12,7 @@ ghost use Rattle.con_host.specs.Sessions.{ending_after};
 ghost use Rattle.con_inspect.specs.Auditing.{IsComplete};
 ghost use Rattle.con_inspect.specs.Four.{four_of};
 ghost use Rattle.con_words.specs.Words.{form_of, typing, playing, running, solo, mirroring, generating, auditing};
-ghost use Rattle.con_host.specs.Hosting.{Hosted};
+ghost use Rattle.con_host.specs.Hosting.{Hosted, Refused};
 
 use crate::generating::host_gen;
 use crate::mirror::host_mirror;
@@ -28,6 +28,16 @@ use con_words::Form;
 use std::alloc::Global;
 use std::sync::Wait;
 use std::thread::Threads;
+
+// Says that the words are no form.
+fn refuse<R: Sink>(alloc: Global, report: &mut R) -> u8
+    ensures status { (result ≡ USAGE) ⊎ (result ≡ MEMORY) }
+    ensures refused { (left now : Option (List ℕ)) → Refused result left left now now (R.written report.old) (R.written report.new)
+        (Rose (R.faults report.old) (R.faults report.new)) }
+    ensures never_falls { R.faults report.old ≤ R.faults report.new }
+{
+    finish(alloc, report, USAGE)
+}
 
 /// Does what the words say, and answers the status: 0 done, 2 the words are no form, 3 the file is no session, 4 the link failed, 5 the
 /// terminal failed, 6 the report failed, 7 the file could not be read, 8 the link has no frame at a place, 9 there was no memory, 10 the link
@@ -103,7 +113,7 @@ pub fn console_host<
 {
     match Form::of(alloc, words) {
         Err(OutOfMemory) => MEMORY,
-        Ok(None) => finish(alloc, report, USAGE),
+        Ok(None) => refuse(alloc, report),
         Ok(Some(Form::Type)) => host_type(alloc, link, term, report),
         Ok(Some(Form::Play(size))) => host_play(alloc, size, link, report),
         Ok(Some(Form::Run(name))) => {
