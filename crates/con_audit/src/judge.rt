@@ -33,7 +33,6 @@ use con_units::{Bytes, Frame, OutOfMemory};
 use std::alloc::Global;
 
 /// What is known behind entries: the console, each client, the terminal's side, and the partial terminal.
-#[derive(Drop)]
 pub struct Judge<'a> {
     pub console: Console,
     pub tracks: Vec<Track<'a>>,
@@ -231,15 +230,26 @@ impl<'a> Judge<'a> {
             → IfOk result (λ j. Stands j.console.state j.tracks.items j.side j.watch g frames.now []) }
     {
         let counts = counts_of(alloc, racks)?;
-        let console = Console::new(alloc, session, counts.as_slice())?;
         let tracks = tracks_of(alloc, session, racks)?;
         let watch = Watch::new(alloc, session.size(), ends)?;
+        let console = Console::new(alloc, session, counts.as_slice())?;
         Ok(Judge {
             console,
             tracks,
             side: Side::new(frames),
             watch,
         })
+    }
+
+    /// Lets the judge go, and its console.
+    pub fn discard(self) {
+        let Judge {
+            console,
+            tracks: _,
+            side: _,
+            watch: _,
+        } = self;
+        console.discard();
     }
 
     /// What one entry more is the first to break, or nothing, and then the judge stands behind it. `reply` is the one that was told.

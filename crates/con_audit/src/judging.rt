@@ -36,7 +36,9 @@ pub fn verdict_on(
         }) verdict) }
 {
     let mut judge = Judge::new(alloc, session, racks, frames, ends)?;
-    judged(&mut judge, stream, entries, replies, ends)
+    let verdict = judged(&mut judge, stream, entries, replies, ends);
+    judge.discard();
+    verdict
 }
 
 // The verdict of a judge that stands before the first entry.
