@@ -65,32 +65,8 @@ fn put_cursor(out: &mut Vec<u16>, row: u16, column: u16)
     out.push_reserved(0x52);
 }
 
-fn put_device(out: &mut Vec<u16>)
-    requires room { vec_len out.old + 10 ≤ vec_capacity out.old }
-    ensures items { out.new.items ≡ out.old.items ++ device_report }
-    ensures len { vec_len out.new ≤ vec_len out.old + 10 }
-    ensures capacity { vec_capacity out.new ≡ vec_capacity out.old }
-{
-    out.push_reserved(0x1B);
-    out.push_reserved(0x5B);
-    out.push_reserved(0x3F);
-    out.push_reserved(0x31);
-    out.push_reserved(0x3B);
-    out.push_reserved(0x30);
-    out.push_reserved(0x63);
-}
-
-fn copy_title(out: &mut Vec<u16>, title: &[u16])
-    requires room { 255 ≤ vec_capacity out.old }
-    requires short { length title.now ≤ 255 }
-    ensures items { out.new.items ≡ title.now }
-    ensures capacity { vec_capacity out.new ≡ vec_capacity out.old }
-{
-    out.clear();
-    for unit in title {
-        out.push_reserved(*unit);
-    }
-}
+// DA: ESC [ ? 1 ; 0 c
+const DEVICE_REPORT: [u16; 7] = [0x1B, 0x5B, 0x3F, 0x31, 0x3B, 0x30, 0x63];
 
 impl Answers {
     /// Answers with room for a write of so many units.
@@ -199,16 +175,8 @@ impl Answers {
         self.room
     }
 
-    /// A unit that tells nothing.
-    pub(crate) fn spend(&mut self)
-        requires { 0 < self.old.room }
-        ensures { self.new ≡ record self.old { room = self.old.room - 1 } }
-    {
-        self.room -= 1;
-    }
-
     /// Units that tell nothing.
-    pub(crate) fn spend_some(&mut self, count: usize)
+    pub(crate) fn spend(&mut self, count: usize)
         requires { count ≤ self.old.room }
         ensures { self.new ≡ record self.old { room = self.old.room - count } }
     {
@@ -230,7 +198,7 @@ impl Answers {
         requires { 0 < self.old.room }
         ensures { self.new ≡ record { told = reported self.old.told device_report; room = self.old.room - 1 } }
     {
-        put_device(&mut self.reports);
+        let _ = self.reports.extend_from_slice(&DEVICE_REPORT);
         self.room -= 1;
     }
 
@@ -258,7 +226,8 @@ impl Answers {
         requires short { length title.now ≤ 255 }
         ensures { self.new ≡ record { told = record self.old.told { title = Some title.now }; room = self.old.room - 1 } }
     {
-        copy_title(&mut self.title, title);
+        self.title.clear();
+        let _ = self.title.extend_from_slice(title);
         self.titled = true;
         self.room -= 1;
     }

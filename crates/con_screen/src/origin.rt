@@ -2,7 +2,7 @@
 
 /// The cell of a line's first unit: a column and a row of the buffer. The row is negative where the line's beginning was
 /// scrolled out at the top.
-#[derive(Clone, Copy, Debug, PartialEq, Eq)]
+#[derive(Clone, Copy)]
 pub struct Origin {
     /// The column, from 0.
     pub x: u16,

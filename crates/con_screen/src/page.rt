@@ -1,7 +1,7 @@
 //! A screen without its unfinished text.
-ghost use Rattle.std.specs.Prelude.{IfOk, ◌≡◌, ℕ, ◌+◌, ◌<◌, ◌≤◌, ◌*◌, ◌^◌, ◌&&◌, ◌==◌, None, length, true};
-ghost use Rattle.con_screen.specs.Page.{IsPage, place, row_start, row_end, blank, erased, rows_up, rows_down};
-ghost use Rattle.con_screen.specs.Page.{region_first, region_end, row_down, down, down_in, shown, least_shift, unlate};
+ghost use Rattle.std.specs.Prelude.{IfOk, ◌≡◌, ℕ, ◌+◌, ◌<◌, ◌≤◌, ◌*◌, ◌^◌, None, length, true};
+ghost use Rattle.con_screen.specs.Page.{IsPage, place, row_end, blank, erased, rows_up, rows_down};
+ghost use Rattle.con_screen.specs.Page.{region_first, region_end, down, down_in, shown, least_shift};
 ghost use Rattle.con_screen.specs.Effect as now;
 ghost use Rattle.con_screen.specs.Alternate.{sides};
 ghost use Rattle.con_screen.specs.Setters.{new_page};
@@ -16,7 +16,6 @@ mod motion;
 mod print;
 mod resize;
 mod sequence;
-mod settings;
 
 use crate::margins::Margins;
 use crate::mode::Mode;
@@ -30,23 +29,23 @@ use std::marker::Model;
 /// A screen, whose unfinished text stands elsewhere.
 #[derive(Drop)]
 pub struct Page {
-    grid: Grid,
-    x: u16,
-    y: u16,
-    visible: bool,
-    cursor_size: u32,
-    left: u16,
-    top: u16,
-    w: u16,
-    h: u16,
-    mode: Mode,
-    pen: Pen,
-    saved_x: u16,
-    saved_y: u16,
-    margins: Option<Margins>,
-    tabs: Vec<bool>,
-    drawing: bool,
-    late: bool,
+    pub(crate) grid: Grid,
+    pub(crate) x: u16,
+    pub(crate) y: u16,
+    pub(crate) visible: bool,
+    pub(crate) cursor_size: u32,
+    pub(crate) left: u16,
+    pub(crate) top: u16,
+    pub(crate) w: u16,
+    pub(crate) h: u16,
+    pub(crate) mode: Mode,
+    pub(crate) pen: Pen,
+    pub(crate) saved_x: u16,
+    pub(crate) saved_y: u16,
+    pub(crate) margins: Option<Margins>,
+    pub(crate) tabs: Vec<bool>,
+    pub(crate) drawing: bool,
+    pub(crate) late: bool,
 }
 
 impl Model for Page {
@@ -107,14 +106,6 @@ impl Page {
         ensures small { result < 2 ^ 20 }
     {
         self.y as usize * self.width() + self.x as usize
-    }
-
-    pub(crate) fn row_start(&self) -> usize
-        requires { IsPage self.now }
-        ensures start { result ≡ row_start self.now }
-        ensures here { result ≤ place self.now }
-    {
-        self.y as usize * self.width()
     }
 
     pub(crate) fn row_end(&self) -> usize
@@ -195,16 +186,6 @@ impl Page {
         }
     }
 
-    pub(crate) fn row_down(&mut self)
-        requires page { IsPage self.old }
-        ensures effect { self.new ≡ row_down self.old }
-        ensures page { IsPage self.new }
-    {
-        if self.y as usize + 1 != self.height() {
-            self.y += 1;
-        }
-    }
-
     // The next row of the buffer, whatever the margins are.
     pub(crate) fn down_in_buffer(&mut self)
         requires page { IsPage self.old }
@@ -232,8 +213,8 @@ impl Page {
                 if self.y as usize + 1 == end {
                     let first = self.top as usize + margins.top as usize - 1;
                     self.rows_up(first, end, 1);
-                } else {
-                    self.row_down();
+                } else if self.y as usize + 1 != self.height() {
+                    self.y += 1;
                 }
             }
         }
@@ -248,14 +229,6 @@ impl Page {
     {
         self.left = shifted(self.left, self.w, self.x);
         self.top = shifted(self.top, self.h, self.y);
-    }
-
-    pub(crate) fn unlate(&mut self)
-        requires page { IsPage self.old }
-        ensures effect { self.new ≡ unlate self.old }
-        ensures page { IsPage self.new }
-    {
-        self.late = false;
     }
 
     pub(crate) fn row_to(&mut self, n: u32)
@@ -274,13 +247,6 @@ impl Page {
     {
         self.x = clamp(self.left, self.w, n);
         self.late = false;
-    }
-
-    pub(crate) fn is_at(&self, x: u16, y: u16) -> bool
-        requires { IsPage self.now }
-        ensures { result ≡ (self.now.x == x) && (self.now.y == y) }
-    {
-        self.x == x && self.y == y
     }
 
     /// The cursor's row in the window, from 1.
@@ -318,10 +284,10 @@ impl Page {
         ensures bounds { IfOk result (λ b. IsPage b) }
     {
         let pen = Pen::starting();
-        let grid = Grid::new(alloc, buffer, Cell::new(0x20, pen.attr()))?;
         let Ok(tabs) = default_stops(alloc, buffer.w as usize) else {
             return Err(OutOfMemory);
         };
+        let grid = Grid::new(alloc, buffer, Cell::new(0x20, pen.attr()))?;
         Ok(Page {
             grid,
             x: 0,
@@ -349,12 +315,5 @@ impl Page {
         ensures grid { result.now ≡ self.old.grid }
     {
         &mut self.grid
-    }
-
-    /// Its cells.
-    pub(crate) fn grid(&self) -> &Grid
-        ensures { result.now ≡ self.now.grid }
-    {
-        &self.grid
     }
 }

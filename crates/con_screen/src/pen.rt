@@ -1,14 +1,14 @@
 //! The pen.
 ghost use Rattle.std.specs.Prelude.{◌≡◌, ◌<◌, ◌≤◌};
-ghost use Rattle.con_screen.specs.Pen.{word_of, attr_of, lit, starting_pen, in_colour, in_shade, coloured, pen_after};
-ghost use Rattle.con_screen.specs.Pen.{indexed, IsPen, styled, styled_plainly, styled_all, kind_of, skip_of};
+ghost use Rattle.con_screen.specs.Pen.{word_of, attr_of, starting_pen, in_colour, in_shade, coloured, pen_after};
+ghost use Rattle.con_screen.specs.Pen.{indexed, IsPen, styled, styled_plainly, styled_all};
 ghost use Rattle.con_screen.specs.declared.pen.ParameterRole.TheVariants.{Plain};
 ghost use Rattle.con_screen.specs.Nibble.{nibble as nibble_of};
 
 use con_units::{Attr, Shade, near};
 
 /// What of a cell has a colour.
-#[derive(Clone, Copy, Debug)]
+#[derive(Clone, Copy)]
 pub enum Layer {
     /// The foreground.
     Fore,
@@ -18,7 +18,7 @@ pub enum Layer {
 
 /// The colours and flags that cells are written in. A colour is 0 to 15 in the bits of an attribute word; where its shade is
 /// an index, it is the nearest one to that.
-#[derive(Clone, Copy, Debug)]
+#[derive(Clone, Copy)]
 pub struct Pen {
     pub foreground: u8,
     pub background: u8,
@@ -45,27 +45,19 @@ impl Pen {
         }
     }
 
-    // The foreground's four bits, with their intensity where the pen is bold.
-    fn lit(self) -> u8
-        requires { IsPen self }
-        ensures lit { result ≡ lit self }
-        ensures small { result < 16 }
-    {
-        if self.bold {
-            self.foreground % 8 + 8
-        } else {
-            self.foreground
-        }
-    }
-
     /// The attribute word.
     pub fn word(self) -> u16
         requires { IsPen self }
         ensures { result ≡ word_of self }
     {
+        let lit = if self.bold {
+            self.foreground % 8 + 8
+        } else {
+            self.foreground
+        };
         let negative = if self.negative { 0x4000 } else { 0 };
         let underline = if self.underline { 0x8000 } else { 0 };
-        self.lit() as u16 + 16 * self.background as u16 + negative + underline
+        lit as u16 + 16 * self.background as u16 + negative + underline
     }
 
     /// The attribute that cells are written in.
@@ -183,7 +175,7 @@ fn colour(number: u16) -> u8
 }
 
 /// What the next parameter is.
-#[derive(Clone, Copy, Debug)]
+#[derive(Clone, Copy)]
 pub enum ParameterRole {
     /// A parameter that acts.
     Plain,
@@ -198,7 +190,7 @@ pub enum ParameterRole {
 }
 
 /// A pen, and what the next parameter is.
-#[derive(Clone, Copy, Debug)]
+#[derive(Clone, Copy)]
 pub struct Styling {
     pub pen: Pen,
     pub reading: ParameterRole,
@@ -215,12 +207,22 @@ impl Styling {
     {
         match self.reading {
             ParameterRole::Plain => self.take_plainly(parameter),
-            ParameterRole::Kind(layer) => self.reading = kind(layer, parameter),
+            ParameterRole::Kind(layer) => match parameter {
+                5 => self.reading = ParameterRole::Number(layer),
+                2 => self.reading = ParameterRole::Skip(3),
+                _ => self.reading = ParameterRole::Over,
+            },
             ParameterRole::Number(layer) => {
                 self.pen.take_index(layer, parameter);
                 self.reading = ParameterRole::Plain;
             }
-            ParameterRole::Skip(count) => self.reading = skip(count),
+            ParameterRole::Skip(count) => {
+                if count <= 1 {
+                    self.reading = ParameterRole::Plain;
+                } else {
+                    self.reading = ParameterRole::Skip(count - 1);
+                }
+            }
             ParameterRole::Over => {}
         }
     }
@@ -237,27 +239,6 @@ impl Styling {
             48 => self.reading = ParameterRole::Kind(Layer::Back),
             _ => self.pen.act(parameter),
         }
-    }
-}
-
-// What follows where one of so many was skipped.
-fn skip(count: u8) -> ParameterRole
-    ensures { result ≡ skip_of count }
-{
-    if count <= 1 {
-        ParameterRole::Plain
-    } else {
-        ParameterRole::Skip(count - 1)
-    }
-}
-
-fn kind(layer: Layer, parameter: u16) -> ParameterRole
-    ensures { result ≡ kind_of layer parameter }
-{
-    match parameter {
-        5 => ParameterRole::Number(layer),
-        2 => ParameterRole::Skip(3),
-        _ => ParameterRole::Over,
     }
 }
 

@@ -1,50 +1,43 @@
 //! Tab stops: for each column, whether a tab stops there.
-ghost use Rattle.std.specs.Prelude.{IfOk, IfSome, position, reverse, ◌≡◌, ◌<◌, ◌≤◌, length, replicate, false};
+ghost use Rattle.std.specs.Prelude.{IfOk, ◌≡◌, ◌<◌, ◌≤◌, length, replicate, false};
 ghost use Rattle.con_screen.specs.Effect as now;
 ghost use Rattle.con_screen.specs.Setters.{default_tabs};
 
 use std::alloc::{AllocError, Global};
 
-pub(crate) fn first_stop(tabs: &[bool]) -> Option<usize>
-    ensures first { result ≡ position (λ on. on) tabs.now }
-    ensures bound { IfSome result (λ k. k < length tabs.now) }
-{
-    tabs.iter().position(|on| *on)
-}
-
-pub(crate) fn last_stop(tabs: &[bool]) -> Option<usize>
-    ensures last { result ≡ position (λ on. on) (reverse tabs.now) }
-    ensures bound { IfSome result (λ k. k < length tabs.now) }
-{
-    tabs.iter().rev().position(|on| *on)
-}
-
 // The next tab stop to the right, or the last column.
-#[tactic(auto, unfolding(crate::specs::Effect::tab_right))]
-pub(crate) fn stop_right(tabs: &[bool], at: u16) -> u16
+fn stop_right(tabs: &[bool], at: u16) -> u16
     requires inside { at < length tabs.now }
     requires few { length tabs.now ≤ 512 }
     ensures stop { result ≡ now.tab_right tabs.now (length tabs.now) at }
     ensures inside { result < length tabs.now }
 {
-    let from = at as usize + 1;
-    match first_stop(&tabs[from..]) {
-        None => tabs.len() as u16 - 1,
-        Some(k) => (from + k) as u16,
+    let mut x = at as usize;
+    while x + 1 < tabs.len() {
+        let stop = tabs[x + 1];
+        if stop {
+            return (x + 1) as u16;
+        }
+        x += 1;
     }
+    x as u16
 }
 
 // The next tab stop to the left, or column 0.
-#[tactic(auto, unfolding(crate::specs::Effect::tab_left))]
-pub(crate) fn stop_left(tabs: &[bool], at: u16) -> u16
+fn stop_left(tabs: &[bool], at: u16) -> u16
     requires inside { at < length tabs.now }
     ensures stop { result ≡ now.tab_left tabs.now at }
     ensures inside { result ≤ at }
 {
-    match last_stop(&tabs[..at as usize]) {
-        None => 0,
-        Some(k) => at - 1 - k as u16,
+    let mut x = at as usize;
+    while 0 < x {
+        let stop = tabs[x - 1];
+        if stop {
+            return (x - 1) as u16;
+        }
+        x -= 1;
     }
+    0
 }
 
 pub(crate) fn stops_right(tabs: &[bool], at: u16, n: u32) -> u16

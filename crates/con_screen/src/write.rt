@@ -9,7 +9,6 @@ ghost use Rattle.con_screen.specs.Parts as parts;
 ghost use Rattle.con_screen.specs.Page.{IsPage};
 ghost use Rattle.con_screen.specs.Done.{Done, DoneSome, IsRun};
 ghost use Rattle.con_screen.specs.Completed.{effect_if, told_if, switch_if};
-ghost use Rattle.con_screen.specs.Effect.{effect};
 
 use crate::answers::Answers;
 use crate::ends::is_end;
@@ -17,7 +16,7 @@ use crate::mode::Mode;
 use crate::page::Page;
 use con_vtgram::{Csi, Found, Splitter};
 
-pub(crate) fn is_acting(unit: u16) -> bool
+fn is_acting(unit: u16) -> bool
     ensures { result ≡ text.is_acting unit }
 {
     (7 <= unit && unit <= 10) || unit == 13
@@ -30,7 +29,7 @@ pub(crate) fn has_sequences(mode: Mode) -> bool
 }
 
 // What a unit completes where sequences do not act.
-pub(crate) fn found_alone(mode: Mode, unit: u16) -> Found
+fn found_alone(mode: Mode, unit: u16) -> Found
     ensures { (csi : TheCsi) → item_of result unit csi ≡ Some (parts.item_alone mode unit) }
 {
     if mode.processed && is_acting(unit) {
@@ -41,20 +40,20 @@ pub(crate) fn found_alone(mode: Mode, unit: u16) -> Found
 }
 
 #[tactic(auto, unfolding(crate::specs::Told::is_switch))]
-pub(crate) fn is_switch(csi: &Csi) -> bool
+fn is_switch(csi: &Csi) -> bool
     ensures { result ≡ tells.is_switch (item.Csi csi.now) }
 {
     csi.inter == 0 && csi.private && csi.params[0] == 1049 && (csi.last == 0x68 || csi.last == 0x6C)
 }
 
 // DECSTR, CSI ! p
-pub(crate) fn is_reset(csi: &Csi) -> bool
+fn is_reset(csi: &Csi) -> bool
     ensures { result ≡ tells.is_reset csi.now }
 {
     csi.inter == 0x21 && !csi.private && csi.last == 0x70
 }
 
-pub(crate) fn tell_private(csi: &Csi, answers: &mut Answers)
+fn tell_private(csi: &Csi, answers: &mut Answers)
     requires { 0 < answers.old.room }
     ensures { answers.new ≡ record { told = tells.private_told answers.old.told csi.now; room = answers.old.room - 1 } }
 {
@@ -62,18 +61,18 @@ pub(crate) fn tell_private(csi: &Csi, answers: &mut Answers)
         0x68 => true,
         0x6C => false,
         _ => {
-            answers.spend();
+            answers.spend(1);
             return;
         }
     };
     match csi.params[0] {
         1 => answers.tell_keys(on),
         1049 => answers.tell_alternate(on),
-        _ => answers.spend(),
+        _ => answers.spend(1),
     }
 }
 
-pub(crate) fn tell_plain(page: &Page, csi: &Csi, answers: &mut Answers)
+fn tell_plain(page: &Page, csi: &Csi, answers: &mut Answers)
     requires page { IsPage page.now }
     requires room { 0 < answers.old.room }
     ensures { answers.new ≡ record { told = tells.plain_told page.now answers.old.told csi.now; room = answers.old.room - 1 } }
@@ -83,12 +82,12 @@ pub(crate) fn tell_plain(page: &Page, csi: &Csi, answers: &mut Answers)
     } else if csi.last == 0x63 && csi.params[0] == 0 {
         answers.tell_device();
     } else {
-        answers.spend();
+        answers.spend(1);
     }
 }
 
 #[tactic(auto, unfolding(crate::specs::Told::csi_told))]
-pub(crate) fn tell_csi(page: &Page, csi: &Csi, answers: &mut Answers)
+fn tell_csi(page: &Page, csi: &Csi, answers: &mut Answers)
     requires page { IsPage page.now }
     requires room { 0 < answers.old.room }
     ensures { answers.new ≡ record { told = tells.csi_told page.now answers.old.told csi.now; room = answers.old.room - 1 } }
@@ -102,27 +101,44 @@ pub(crate) fn tell_csi(page: &Page, csi: &Csi, answers: &mut Answers)
     } else if is_reset(csi) {
         answers.tell_keys(false);
     } else {
-        answers.spend();
+        answers.spend(1);
     }
 }
 
-// What a control sequence does and tells, and whether it switches.
-pub(crate) fn hear_sequence(page: &mut Page, csi: &Csi, answers: &mut Answers) -> bool
-    requires page { IsPage page.old }
+// What the item that a unit completes tells, and whether it switches.
+#[tactic(auto, unfolding(crate::specs::Told::told_after, crate::specs::Told::is_switch))]
+fn tell(
+    page: &Page,
+    found: Found,
+    unit: u16,
+    csi: &Csi,
+    title: &[u16],
+    answers: &mut Answers,
+) -> bool
+    requires page { IsPage page.now }
     requires room { 0 < answers.old.room }
-    ensures page { IsPage page.new }
-    ensures effect { page.new ≡ effect page.old (item.Csi csi.now) }
-    ensures told { answers.new ≡ record { told = tells.csi_told page.old answers.old.told csi.now; room = answers.old.room - 1 } }
-    ensures switch { result ≡ tells.is_switch (item.Csi csi.now) }
+    requires short { length title.now ≤ 255 }
+    ensures told { answers.new ≡ record { told = told_if page.now answers.old.told title.now (item_of found unit csi.now); room = answers.old.room - 1 } }
+    ensures switch { result ≡ switch_if (item_of found unit csi.now) }
 {
-    tell_csi(page, csi, answers);
-    page.apply_sequence(csi);
-    is_switch(csi)
+    match found {
+        Found::Sequence => {
+            tell_csi(page, csi, answers);
+            is_switch(csi)
+        }
+        Found::Title => {
+            answers.tell_title(title);
+            false
+        }
+        _ => {
+            answers.spend(1);
+            false
+        }
+    }
 }
 
 // What the item that a unit completes does and tells, and whether it switches.
-#[tactic(auto, unfolding(crate::specs::Told::told_after, crate::specs::Told::is_switch))]
-pub(crate) fn hear(
+fn hear(
     page: &mut Page,
     found: Found,
     unit: u16,
@@ -138,24 +154,13 @@ pub(crate) fn hear(
     ensures told { answers.new ≡ record { told = told_if page.old answers.old.told title.now (item_of found unit csi.now); room = answers.old.room - 1 } }
     ensures switch { result ≡ switch_if (item_of found unit csi.now) }
 {
-    match found {
-        Found::Sequence => return hear_sequence(page, csi, answers),
-        Found::Title => {
-            answers.tell_title(title);
-            return false;
-        }
-        Found::Nothing => {}
-        Found::Print => page.apply_print(unit),
-        Found::Control => page.apply_control(unit),
-        Found::Escape => page.apply_escape(unit),
-        Found::Charset => page.apply_charset(unit),
-    }
-    answers.spend();
-    false
+    let switched = tell(page, found, unit, csi, title, answers);
+    page.apply(found, unit, csi);
+    switched
 }
 
 // Writes a unit.
-pub(crate) fn write_unit(
+fn write_unit(
     page: &mut Page,
     text: &mut Splitter,
     unit: u16,
@@ -171,7 +176,7 @@ pub(crate) fn write_unit(
         let found = text.advance(unit);
         match found {
             Found::Nothing => {
-                answers.spend();
+                answers.spend(1);
                 false
             }
             _ => hear(page, found, unit, text.sequence(), text.title(), answers),
@@ -184,7 +189,7 @@ pub(crate) fn write_unit(
 
 // Writes the units at the front that go at once, where no sequence is unfinished, and tells how many: printed ones of the cursor's row,
 // or line feeds and carriage returns.
-pub(crate) fn write_run(page: &mut Page, text: &Splitter, units: &[u16]) -> usize
+fn write_run(page: &mut Page, text: &Splitter, units: &[u16]) -> usize
     requires page { IsPage page.old }
     requires some { 0 < length units.now }
     ensures page { IsPage page.new }
@@ -223,7 +228,7 @@ pub(crate) fn write_some(
 {
     let n = write_run(page, text, units);
     if 0 < n {
-        answers.spend_some(n);
+        answers.spend(n);
         (n, false)
     } else {
         let switched = write_unit(page, text, units[0], answers);

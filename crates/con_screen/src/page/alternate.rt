@@ -49,13 +49,4 @@ impl Page {
         self.drawing = false;
         self.late = false;
     }
-
-    // Takes the mode of another page, and nothing else.
-    pub(crate) fn take_mode(&mut self, other: &Page)
-        requires { IsPage self.old }
-        ensures effect { self.new ≡ record self.old { mode = other.now.mode } }
-        ensures page { IsPage self.new }
-    {
-        self.mode = other.mode;
-    }
 }

@@ -1,11 +1,12 @@
 //! Items, each with the window after it.
-ghost use Rattle.std.specs.Prelude.{◌≡◌, ◌==◌, ◌&&◌, if◌then◌else◌};
-ghost use Rattle.con_vtgram.specs.declared.item.Item.TheVariants as item;
+ghost use Rattle.std.specs.Prelude.{◌≡◌, ◌==◌, ◌&&◌, if◌then◌else◌, fold, option_to_list};
+ghost use Rattle.con_vtgram.specs.State.{item_of};
 ghost use Rattle.con_screen.specs.Page.{IsPage, shown};
-ghost use Rattle.con_screen.specs.Effect.{effect};
+ghost use Rattle.con_screen.specs.Effect.{act as acted};
+ghost use Rattle.con_screen.specs.Completed.{effect_if};
 
 use super::Page;
-use con_vtgram::Csi;
+use con_vtgram::{Csi, Found};
 
 impl Page {
     // The window shows the cursor, unless it stands where it stood.
@@ -14,73 +15,39 @@ impl Page {
         ensures effect { self.new ≡ (if (self.old.x == x) && (self.old.y == y) then self.old else shown self.old) }
         ensures page { IsPage self.new }
     {
-        if !self.is_at(x, y) {
-            self.show_cursor();
+        if self.x == x && self.y == y {
+            return;
+        }
+        self.show_cursor();
+    }
+
+    // What the item that a unit completes does, before the window follows.
+    #[tactic(auto, unfolding(crate::specs::Effect::act))]
+    fn act(&mut self, found: Found, unit: u16, csi: &Csi)
+        requires page { IsPage self.old }
+        ensures effect { self.new ≡ fold acted self.old (option_to_list (item_of found unit csi.now)) }
+        ensures page { IsPage self.new }
+    {
+        match found {
+            Found::Print => self.print(unit),
+            Found::Control => self.control(unit),
+            Found::Escape => self.escape(unit),
+            Found::Charset => self.set_charset(unit),
+            Found::Sequence => self.sequence(csi),
+            Found::Nothing => {}
+            Found::Title => {}
         }
     }
 
-    /// Prints a unit.
-    #[tactic(auto, unfolding(crate::specs::Effect::effect, crate::specs::Effect::act, crate::specs::Effect::follow))]
-    pub(crate) fn apply_print(&mut self, unit: u16)
+    /// Applies the item that a unit completes, if it completes one.
+    pub(crate) fn apply(&mut self, found: Found, unit: u16, csi: &Csi)
         requires page { IsPage self.old }
-        ensures effect { self.new ≡ effect self.old (item.Print unit) }
+        ensures effect { self.new ≡ effect_if self.old (item_of found unit csi.now) }
         ensures page { IsPage self.new }
     {
         let x = self.x;
         let y = self.y;
-        self.print(unit);
-        self.follow(x, y);
-    }
-
-    /// Applies a control.
-    #[tactic(auto, unfolding(crate::specs::Effect::effect, crate::specs::Effect::act, crate::specs::Effect::follow))]
-    pub(crate) fn apply_control(&mut self, unit: u16)
-        requires page { IsPage self.old }
-        ensures effect { self.new ≡ effect self.old (item.Control unit) }
-        ensures page { IsPage self.new }
-    {
-        let x = self.x;
-        let y = self.y;
-        self.control(unit);
-        self.follow(x, y);
-    }
-
-    /// Applies an escape sequence.
-    #[tactic(auto, unfolding(crate::specs::Effect::effect, crate::specs::Effect::act, crate::specs::Effect::follow))]
-    pub(crate) fn apply_escape(&mut self, unit: u16)
-        requires page { IsPage self.old }
-        ensures effect { self.new ≡ effect self.old (item.Escape unit) }
-        ensures page { IsPage self.new }
-    {
-        let x = self.x;
-        let y = self.y;
-        self.escape(unit);
-        self.follow(x, y);
-    }
-
-    /// Applies a choice of a character set.
-    #[tactic(auto, unfolding(crate::specs::Effect::effect, crate::specs::Effect::act, crate::specs::Effect::follow))]
-    pub(crate) fn apply_charset(&mut self, unit: u16)
-        requires page { IsPage self.old }
-        ensures effect { self.new ≡ effect self.old (item.Charset unit) }
-        ensures page { IsPage self.new }
-    {
-        let x = self.x;
-        let y = self.y;
-        self.set_charset(unit);
-        self.follow(x, y);
-    }
-
-    /// Applies a control sequence.
-    #[tactic(auto, unfolding(crate::specs::Effect::effect, crate::specs::Effect::act, crate::specs::Effect::follow))]
-    pub(crate) fn apply_sequence(&mut self, csi: &Csi)
-        requires page { IsPage self.old }
-        ensures effect { self.new ≡ effect self.old (item.Csi csi.now) }
-        ensures page { IsPage self.new }
-    {
-        let x = self.x;
-        let y = self.y;
-        self.sequence(csi);
+        self.act(found, unit, csi);
         self.follow(x, y);
     }
 }

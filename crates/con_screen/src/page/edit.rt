@@ -62,7 +62,7 @@ impl Page {
         ensures page { IsPage self.new }
     {
         let at = self.place();
-        let start = self.row_start();
+        let start = at - self.x as usize;
         let end = self.row_end();
         match how {
             0 => self.erase(at, end),
@@ -135,16 +135,7 @@ impl Page {
         }
     }
 
-    pub(crate) fn scroll_up(&mut self, n: u16)
-        requires page { IsPage self.old }
-        ensures effect { self.new ≡ rows_up self.old (region_first self.old) (region_end self.old) n }
-        ensures page { IsPage self.new }
-    {
-        let first = self.region_first();
-        let end = self.region_end();
-        self.rows_up(first, end, n as usize);
-    }
-
+    // The rows of the region go down.
     pub(crate) fn scroll_down(&mut self, n: u16)
         requires page { IsPage self.old }
         ensures effect { self.new ≡ rows_down self.old (region_first self.old) (region_end self.old) n }
@@ -178,7 +169,11 @@ impl Page {
             // DCH, CSI P
             0x50 => self.delete_cells(n),
             // SU, CSI S
-            0x53 => self.scroll_up(n),
+            0x53 => {
+                let first = self.region_first();
+                let end = self.region_end();
+                self.rows_up(first, end, n as usize);
+            }
             // SD, CSI T
             0x54 => self.scroll_down(n),
             // ECH, CSI X

@@ -23,7 +23,7 @@ impl Page {
             self.x = 0;
         }
         self.down();
-        self.unlate();
+        self.late = false;
     }
 
     #[tactic(auto, unfolding(crate::specs::Effect::control_effect))]
@@ -140,11 +140,11 @@ impl Page {
         ensures effect { self.new ≡ now.reversed self.old }
         ensures page { IsPage self.new }
     {
+        self.late = false;
         if self.y as usize == self.region_first() {
             self.scroll_down(1);
         } else if self.top < self.y {
             self.y -= 1;
         }
-        self.unlate();
     }
 }

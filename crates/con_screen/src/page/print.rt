@@ -165,24 +165,6 @@ impl Page {
         n
     }
 
-    // Prints units at the front that are no controls.
-    #[inline(never)]
-    fn print_any(&mut self, units: &[u16]) -> usize
-        requires page { IsPage self.old }
-        requires given { self.old.drawing ≡ false }
-        ensures page { IsPage self.new }
-        ensures count { result ≤ length units.now }
-        ensures all { list_all is_printed (take result units.now) ≡ true }
-        ensures effect { self.new ≡ all_printed self.old (take result units.now) }
-    {
-        let n = printed_front(units, self.run_room());
-        if n == 0 {
-            return 0;
-        }
-        self.write_any(&units[..n]);
-        n
-    }
-
     // Writes what is drawn for units from the cursor on.
     fn write_lines(&mut self, units: &[u16])
         requires page { IsPage self.old }
@@ -196,11 +178,10 @@ impl Page {
         self.write_any(&lines[..units.len()]);
     }
 
-    // Prints units at the front that are no controls, where lines are drawn.
+    // Prints units at the front that are no controls, so many at most as are drawn at once.
     #[inline(never)]
-    fn print_lines(&mut self, units: &[u16]) -> usize
+    fn print_any(&mut self, units: &[u16]) -> usize
         requires page { IsPage self.old }
-        requires given { self.old.drawing ≡ true }
         ensures page { IsPage self.new }
         ensures count { result ≤ length units.now }
         ensures all { list_all is_printed (take result units.now) ≡ true }
@@ -210,7 +191,11 @@ impl Page {
         if n == 0 {
             return 0;
         }
-        self.write_lines(&units[..n]);
+        if self.drawing {
+            self.write_lines(&units[..n]);
+            return n;
+        }
+        self.write_any(&units[..n]);
         n
     }
 
@@ -224,11 +209,11 @@ impl Page {
         ensures effect { self.new ≡ all_printed self.old (take result units.now) }
     {
         if self.drawing {
-            self.print_lines(units)
-        } else if is_plain_unit(units[0]) {
-            self.print_plain(units)
-        } else {
-            self.print_any(units)
+            return self.print_any(units);
         }
+        if is_plain_unit(units[0]) {
+            return self.print_plain(units);
+        }
+        self.print_any(units)
     }
 }

@@ -1,14 +1,12 @@
 //! A buffer and a window of other sizes.
-ghost use Rattle.std.specs.Prelude.{◌≡◌, IfOk, None};
+ghost use Rattle.std.specs.Prelude.{◌≡◌, None};
 ghost use Rattle.con_units.specs.declared.place.Size.{Size as TheSize};
 ghost use Rattle.con_screen.specs.Page.{IsPage};
 ghost use Rattle.con_screen.specs.Alternate.{sides};
-ghost use Rattle.con_screen.specs.Fit.{AreSizes, IsFit, lost_rows, moved_in, refitted};
+ghost use Rattle.con_screen.specs.Fit.{IsFit, lost_rows, moved_in, refitted};
 
 use super::Page;
 use crate::fit::Fit;
-use crate::tabs::default_stops;
-use con_units::{OutOfMemory, Size};
 
 impl Page {
     // How many rows go at the top where the height becomes `height`.
@@ -18,28 +16,6 @@ impl Page {
     {
         let fewer = (self.height() as u16).saturating_sub(height);
         fewer.min(self.y.saturating_sub(height.saturating_sub(1)))
-    }
-
-    /// Takes the memory of a resize.
-    pub(crate) fn fit(&self, buffer: Size, window: Size) -> Result<Fit, OutOfMemory>
-        requires page { IsPage self.now }
-        requires sizes { AreSizes buffer window }
-        ensures buffer { IfOk result (λ f. f.buffer ≡ buffer) }
-        ensures window { IfOk result (λ f. f.window ≡ window) }
-        ensures fit { IfOk result (λ f. IsFit self.now f) }
-    {
-        let grid = self
-            .grid
-            .resized(buffer, self.lost_rows(buffer.h), self.blank())?;
-        let Ok(tabs) = default_stops(*self.tabs.allocator(), buffer.w as usize) else {
-            return Err(OutOfMemory);
-        };
-        Ok(Fit {
-            buffer,
-            window,
-            grid,
-            tabs,
-        })
     }
 
     // All of a resize but that the window shows the cursor.

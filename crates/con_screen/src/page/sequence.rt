@@ -129,22 +129,6 @@ impl Page {
         }
     }
 
-    #[tactic(auto, unfolding(crate::specs::Effect::private_effect))]
-    pub(crate) fn private(&mut self, csi: &Csi)
-        requires page { IsPage self.old }
-        ensures effect { self.new ≡ now.private_effect self.old csi.now }
-        ensures page { IsPage self.new }
-    {
-        // DECTCEM, CSI ? 25 h and CSI ? 25 l
-        if csi.params[0] == 25 {
-            match csi.last {
-                0x68 => self.visible = true,
-                0x6C => self.visible = false,
-                _ => {}
-            }
-        }
-    }
-
     pub(crate) fn reset(&mut self)
         requires page { IsPage self.old }
         ensures effect { self.new ≡ now.reset self.old }
@@ -158,17 +142,22 @@ impl Page {
         self.saved_y = 0;
     }
 
-    #[tactic(auto, unfolding(crate::specs::Effect::sequence_effect))]
+    #[tactic(auto, unfolding(crate::specs::Effect::sequence_effect, crate::specs::Effect::private_effect))]
     pub(crate) fn sequence(&mut self, csi: &Csi)
         requires page { IsPage self.old }
         ensures effect { self.new ≡ now.sequence_effect self.old csi.now }
         ensures page { IsPage self.new }
     {
         if csi.inter == 0 {
-            if csi.private {
-                self.private(csi);
-            } else {
+            if !csi.private {
                 self.plain(csi);
+            } else if csi.params[0] == 25 {
+                // DECTCEM, CSI ? 25 h and CSI ? 25 l
+                match csi.last {
+                    0x68 => self.visible = true,
+                    0x6C => self.visible = false,
+                    _ => {}
+                }
             }
         } else if csi.inter == 0x21 && !csi.private && csi.last == 0x70 {
             // DECSTR, CSI ! p

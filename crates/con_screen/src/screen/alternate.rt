@@ -47,8 +47,8 @@ impl Screen {
         ensures page { IsPage self.new.page }
         ensures sides { sides self.new.page ≡ sides self.old.page }
     {
-        self.page.take_mode(&other.page);
-        if !has_sequences(self.page.mode()) {
+        self.page.mode = other.page.mode;
+        if !has_sequences(self.page.mode) {
             self.text.clear();
         }
     }

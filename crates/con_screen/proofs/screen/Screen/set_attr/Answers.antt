@@ -2,4 +2,4 @@ use Rattle.con_screen.proofs.WordLemmas.{attr_of_word}
 use Rattle.con_screen.proofs.screen.Screen.set_attr.Goals as goal
 
 pub returns-clause-attr : goal.returns-clause-attr
-returns-clause-attr c = rw c.set_pen_of.ensures.effect (attr_of_word c.args.word)
+returns-clause-attr c = attr_of_word c.args.word
