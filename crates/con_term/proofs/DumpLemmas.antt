@@ -1,7 +1,9 @@
 -- The rows of a dump, one after another.
-use Rattle.std.proofs.Common.{◌≡◌, ℕ, suc, ◌+◌, ◌-◌, ◌*◌, List, [], ◌∷◌, ◌++◌, take, drop, refl, sym, ap, ◌∙◌, append_assoc, arith}
+use Rattle.std.proofs.Common.{◌≡◌, ℕ, suc, false, ◌==◌, ◌+◌, ◌-◌, ◌*◌, List, [], ◌∷◌, ◌++◌, take, drop, refl, sym, ap, ◌∙◌, append_assoc, arith}
+use Rattle.con_units.specs.Attr.{Attribute}
+use Rattle.con_units.specs.Decimal.{decimal}
 use Rattle.con_units.specs.Glyph.{Glyph}
-use Rattle.con_term.specs.Dump.{row_line, untold, run_lines, rows_text, runs_text}
+use Rattle.con_term.specs.Dump.{row_line, untold, hex_word, shade_text, attr_text, same_attr, run_line, run_lines, rows_text, runs_text}
 
 append_none : (xs : List ℕ) → xs ++ [] ≡ xs
 append_none [] = refl
@@ -27,3 +29,16 @@ pub runs_more : (old mid new : List ℕ) (w y : ℕ) (cells : List Glyph) → mi
 unfolding runs_text
 runs_more old mid new w y cells h k = let e : y + 1 ≡ suc y = omega arith in
     k ∙ rw (h, slice_is y w cells, e) (append_assoc old (runs_text w cells y) (run_lines y 0 0 untold (take w (drop (y * w) cells))))
+
+-- a run's line, part by part
+twelve : (o p a q b r c s w f k z : List ℕ) → ((((((((((o ++ p) ++ a) ++ q) ++ b) ++ r) ++ c) ++ s) ++ w) ++ f) ++ k) ++ z ≡ o ++ (p ++ a ++ q ++ b ++ r ++ c ++ s ++ (w ++ f ++ k) ++ z)
+twelve o p a q b r c s w f k z = simp append_assoc
+
+pub run_told : (old : List ℕ) {a b c d e f g h i j new : List ℕ} (y x n : ℕ) (attr : Attribute)
+    → a ≡ old ++ 0x40 ∷ [] → b ≡ a ++ decimal y → c ≡ b ++ 0x2C ∷ [] → d ≡ c ++ decimal x → e ≡ d ++ 0x2B ∷ [] → f ≡ e ++ decimal n → g ≡ f ++ 0x20 ∷ []
+    → h ≡ g ++ hex_word attr.word → i ≡ h ++ shade_text 0x66 attr.fore → j ≡ i ++ shade_text 0x62 attr.back → new ≡ j ++ 0x0A ∷ []
+    → same_attr attr untold ≡ false → (n == 0) ≡ false → new ≡ old ++ run_line y x n attr
+unfolding run_line attr_text
+run_told old y x n attr p1 p2 p3 p4 p5 p6 p7 p8 p9 p10 p11 told some =
+    rw (p11, p10, p9, p8, p7, p6, p5, p4, p3, p2, p1, told, some)
+    (twelve old (0x40 ∷ []) (decimal y) (0x2C ∷ []) (decimal x) (0x2B ∷ []) (decimal n) (0x20 ∷ []) (hex_word attr.word) (shade_text 0x66 attr.fore) (shade_text 0x62 attr.back) (0x0A ∷ []))

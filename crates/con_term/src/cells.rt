@@ -42,19 +42,6 @@ pub fn copy_into(list: &mut Vec<Cell>, cells: &[Cell])
     let _ = list.extend_from_slice(cells);
 }
 
-// Where a piece ends that begins at a place.
-fn piece_end(at: usize, count: usize) -> usize
-    requires { at < count }
-    ensures more { at < result }
-    ensures inside { result ≤ count }
-{
-    if count - at < PIECE {
-        count
-    } else {
-        at + PIECE
-    }
-}
-
 // Copies the cells over as many others. In pieces, each of which is moved through vector registers.
 fn copy_over(to: &mut [Cell], from: &[Cell])
     requires { length to.old ≡ length from.now }
@@ -62,7 +49,7 @@ fn copy_over(to: &mut [Cell], from: &[Cell])
 {
     let mut at = 0;
     while at < from.len() {
-        let end = piece_end(at, from.len());
+        let end = from.len().min(at + PIECE);
         to[at..end].copy_from_slice(&from[at..end]);
         at = end;
     }

@@ -1,27 +1,36 @@
 //! The text that tells what a page shows.
-ghost use Rattle.std.specs.Prelude.{◌≡◌, ◌+◌, ◌*◌, ◌<◌, ◌≤◌, ◌++◌, ◌∷◌, [], ◌==◌, List, length, OnOk, IfOk, take, drop};
+ghost use Rattle.std.specs.Prelude.{◌≡◌, ◌+◌, ◌*◌, ◌<◌, ◌≤◌, ◌++◌, ◌∷◌, [], ◌==◌, List, length, OnOk, vec_len, vec_capacity};
 ghost use Rattle.con_units.specs.Decimal.{decimal};
 ghost use Rattle.con_units.specs.Glyph.{Glyph};
-ghost use Rattle.con_term.specs.Dump.{hex_digit, hex_word, shade_text, attr_text, same_shade, same_attr, untold};
-ghost use Rattle.con_term.specs.Dump.{head_line, row_units, row_line, run_line, run_lines, rows_text, runs_text, dump as dump_of};
+ghost use Rattle.con_term.specs.Dump.{hex_digit, hex_word, shade_text, same_shade, same_attr, untold};
+ghost use Rattle.con_term.specs.Dump.{head_line, row_line, run_line, run_lines, rows_text, runs_text, dump as dump_of};
 
 use crate::page::Page;
+use crate::units::push_bytes;
 use con_units::{Attr, Cell, Shade, Size};
 use std::alloc::AllocError;
 
+// How many units a run's line has at most: three numbers, a word, two indices, and what stands between them.
+const RUN: usize = 28;
+
+// How many units the head has at most.
+const HEAD: usize = 23;
+
 #[tactic(auto, unfolding(con_units::specs::Decimal::decimal))]
-fn number(out: &mut Vec<u16>, n: u16) -> Result<(), AllocError>
+fn number(out: &mut Vec<u16>, n: u16)
     requires few { n < 1000 }
-    ensures { OnOk result (out.new.items ≡ out.old.items ++ decimal n) }
+    requires room { vec_len out.old + 3 ≤ vec_capacity out.old }
+    ensures items { out.new.items ≡ out.old.items ++ decimal n }
+    ensures len { vec_len out.new ≤ vec_len out.old + 3 }
+    ensures capacity { vec_capacity out.new ≡ vec_capacity out.old }
 {
     if 100 <= n {
-        out.push(0x30 + n / 100)?;
+        out.push_reserved(0x30 + n / 100);
     }
     if 10 <= n {
-        out.push(0x30 + n / 10 % 10)?;
+        out.push_reserved(0x30 + n / 10 % 10);
     }
-    out.push(0x30 + n % 10)?;
-    Ok(())
+    out.push_reserved(0x30 + n % 10);
 }
 
 fn digit(d: u16) -> u16
@@ -32,37 +41,31 @@ fn digit(d: u16) -> u16
 }
 
 #[tactic(auto, unfolding(crate::specs::Dump::hex_word))]
-fn word(out: &mut Vec<u16>, word: u16) -> Result<(), AllocError>
-    ensures { OnOk result (out.new.items ≡ out.old.items ++ hex_word word) }
+fn word(out: &mut Vec<u16>, word: u16)
+    requires room { vec_len out.old + 4 ≤ vec_capacity out.old }
+    ensures items { out.new.items ≡ out.old.items ++ hex_word word }
+    ensures len { vec_len out.new ≤ vec_len out.old + 4 }
+    ensures capacity { vec_capacity out.new ≡ vec_capacity out.old }
 {
-    out.push(digit(word / 4096))?;
-    out.push(digit(word / 256 % 16))?;
-    out.push(digit(word / 16 % 16))?;
-    out.push(digit(word % 16))?;
-    Ok(())
+    out.push_reserved(digit(word / 4096));
+    out.push_reserved(digit(word / 256 % 16));
+    out.push_reserved(digit(word / 16 % 16));
+    out.push_reserved(digit(word % 16));
 }
 
 // The further word of a layer that has an index.
 #[tactic(auto, unfolding(crate::specs::Dump::shade_text))]
-fn shade(out: &mut Vec<u16>, letter: u16, of: Shade) -> Result<(), AllocError>
-    ensures { OnOk result (out.new.items ≡ out.old.items ++ shade_text letter of) }
+fn shade(out: &mut Vec<u16>, letter: u16, of: Shade)
+    requires room { vec_len out.old + 5 ≤ vec_capacity out.old }
+    ensures items { out.new.items ≡ out.old.items ++ shade_text letter of }
+    ensures len { vec_len out.new ≤ vec_len out.old + 5 }
+    ensures capacity { vec_capacity out.new ≡ vec_capacity out.old }
 {
     if let Shade::Index(index) = of {
-        out.push(0x20)?;
-        out.push(letter)?;
-        number(out, index as u16)?;
+        out.push_reserved(0x20);
+        out.push_reserved(letter);
+        number(out, index as u16);
     }
-    Ok(())
-}
-
-#[tactic(auto, unfolding(crate::specs::Dump::attr_text))]
-fn attr(out: &mut Vec<u16>, of: Attr) -> Result<(), AllocError>
-    ensures { OnOk result (out.new.items ≡ out.old.items ++ attr_text of) }
-{
-    word(out, of.bits())?;
-    shade(out, 0x66, of.fore())?;
-    shade(out, 0x62, of.back())?;
-    Ok(())
 }
 
 fn is_same_shade(a: Shade, b: Shade) -> bool
@@ -93,56 +96,44 @@ fn plain() -> Attr
     Attr::of(7)
 }
 
-#[tactic(auto, unfolding(crate::specs::Dump::run_line))]
-fn run(out: &mut Vec<u16>, y: u16, x: u16, n: u16, of: Attr) -> Result<(), AllocError>
+#[tactic(auto, unfolding(crate::specs::Dump::run_line, crate::specs::Dump::attr_text))]
+fn run(out: &mut Vec<u16>, y: u16, x: u16, n: u16, of: Attr)
     requires few { (y < 1000) × (x < 1000) × (n < 1000) }
-    ensures { OnOk result (out.new.items ≡ out.old.items ++ run_line y x n of) }
+    requires room { vec_len out.old + 28 ≤ vec_capacity out.old }
+    ensures items { out.new.items ≡ out.old.items ++ run_line y x n of }
+    ensures len { vec_len out.new ≤ vec_len out.old + 28 }
+    ensures capacity { vec_capacity out.new ≡ vec_capacity out.old }
 {
     if is_same(of, plain()) || n == 0 {
-        return Ok(());
+        return;
     }
-    out.push(0x40)?;
-    number(out, y)?;
-    out.push(0x2C)?;
-    number(out, x)?;
-    out.push(0x2B)?;
-    number(out, n)?;
-    out.push(0x20)?;
-    attr(out, of)?;
-    out.push(0x0A)?;
-    Ok(())
+    out.push_reserved(0x40);
+    number(out, y);
+    out.push_reserved(0x2C);
+    number(out, x);
+    out.push_reserved(0x2B);
+    number(out, n);
+    out.push_reserved(0x20);
+    word(out, of.bits());
+    shade(out, 0x66, of.fore());
+    shade(out, 0x62, of.back());
+    out.push_reserved(0x0A);
 }
 
-fn text(out: &mut Vec<u16>, bytes: &[u8]) -> Result<(), AllocError>
-    ensures { OnOk result (out.new.items ≡ out.old.items ++ bytes.now) }
+fn line(out: &mut Vec<u16>, row: &[Cell])
+    requires room { vec_len out.old + length row.now + 3 ≤ vec_capacity out.old }
+    ensures { out.new.items ≡ out.old.items ++ row_line row.now }
 {
-    for byte in bytes {
-        out.push(*byte as u16)?;
-    }
-    Ok(())
-}
-
-fn units(out: &mut Vec<u16>, row: &[Cell]) -> Result<(), AllocError>
-    ensures { OnOk result (out.new.items ≡ out.old.items ++ row_units row.now) }
-{
+    out.push_reserved(0x7C);
     for cell in row {
-        out.push(cell.unit())?;
+        out.push_reserved(cell.unit());
     }
-    Ok(())
-}
-
-fn line(out: &mut Vec<u16>, row: &[Cell]) -> Result<(), AllocError>
-    ensures { OnOk result (out.new.items ≡ out.old.items ++ row_line row.now) }
-{
-    out.push(0x7C)?;
-    units(out, row)?;
-    out.push(0x7C)?;
-    out.push(0x0A)?;
-    Ok(())
+    out.push_reserved(0x7C);
+    out.push_reserved(0x0A);
 }
 
 /// Cells with one attribute: from a column on, so many.
-#[derive(Clone, Copy, Debug)]
+#[derive(Clone, Copy)]
 struct Stretch {
     x: u16,
     n: u16,
@@ -151,33 +142,37 @@ struct Stretch {
 
 // One more cell of a row.
 #[tactic(auto, unfolding(crate::specs::Dump::run_lines))]
-fn more(out: &mut Vec<u16>, y: u16, so_far: Stretch, cell: &Cell) -> Result<Stretch, AllocError>
+fn more(out: &mut Vec<u16>, y: u16, so_far: Stretch, cell: &Cell) -> Stretch
     requires few { (y < 1000) × (so_far.x + so_far.n < 999) }
-    ensures lines { IfOk result (λ r. (cs : List Glyph) → out.new.items ++ run_lines y r.x r.n r.attr cs
-        ≡ out.old.items ++ run_lines y so_far.x so_far.n so_far.attr (cell.now ∷ cs)) }
-    ensures few { IfOk result (λ r. r.x + r.n ≡ so_far.x + so_far.n + 1) }
+    requires room { vec_len out.old + 28 ≤ vec_capacity out.old }
+    ensures lines { (cs : List Glyph) → out.new.items ++ run_lines y result.x result.n result.attr cs
+        ≡ out.old.items ++ run_lines y so_far.x so_far.n so_far.attr (cell.now ∷ cs) }
+    ensures few { result.x + result.n ≡ so_far.x + so_far.n + 1 }
+    ensures len { vec_len out.new ≤ vec_len out.old + 28 }
+    ensures capacity { vec_capacity out.new ≡ vec_capacity out.old }
 {
     let attr = cell.attr();
     if is_same(attr, so_far.attr) {
-        return Ok(Stretch {
+        return Stretch {
             x: so_far.x,
             n: so_far.n + 1,
             attr: so_far.attr,
-        });
+        };
     }
-    run(out, y, so_far.x, so_far.n, so_far.attr)?;
-    Ok(Stretch {
+    run(out, y, so_far.x, so_far.n, so_far.attr);
+    Stretch {
         x: so_far.x + so_far.n,
         n: 1,
         attr,
-    })
+    }
 }
 
 // The lines of a row's runs.
 #[tactic(auto, unfolding(crate::specs::Dump::run_lines))]
-fn runs(out: &mut Vec<u16>, y: u16, row: &[Cell]) -> Result<(), AllocError>
+fn runs(out: &mut Vec<u16>, y: u16, row: &[Cell])
     requires few { (y < 1000) × (length row.now < 999) }
-    ensures { OnOk result (out.new.items ≡ out.old.items ++ run_lines y 0 0 untold row.now) }
+    requires room { vec_len out.old + 28 * (length row.now + 1) ≤ vec_capacity out.old }
+    ensures { out.new.items ≡ out.old.items ++ run_lines y 0 0 untold row.now }
 {
     let mut so_far = Stretch {
         x: 0,
@@ -185,9 +180,9 @@ fn runs(out: &mut Vec<u16>, y: u16, row: &[Cell]) -> Result<(), AllocError>
         attr: plain(),
     };
     for cell in row {
-        so_far = more(out, y, so_far, cell)?;
+        so_far = more(out, y, so_far, cell);
     }
-    run(out, y, so_far.x, so_far.n, so_far.attr)
+    run(out, y, so_far.x, so_far.n, so_far.attr);
 }
 
 // The lines of all rows.
@@ -199,7 +194,8 @@ fn all_rows(out: &mut Vec<u16>, cells: &[Cell], size: Size) -> Result<(), AllocE
     let width = size.w as usize;
     for y in 0..size.h {
         let from = y as usize * width;
-        line(out, &cells[from..from + width])?;
+        out.reserve(width + 3)?;
+        line(out, &cells[from..from + width]);
     }
     Ok(())
 }
@@ -213,28 +209,29 @@ fn all_runs(out: &mut Vec<u16>, cells: &[Cell], size: Size) -> Result<(), AllocE
     let width = size.w as usize;
     for y in 0..size.h {
         let from = y as usize * width;
-        runs(out, y, &cells[from..from + width])?;
+        out.reserve(RUN * (width + 1))?;
+        runs(out, y, &cells[from..from + width]);
     }
     Ok(())
 }
 
 #[tactic(auto, unfolding(crate::specs::Dump::head_line))]
-fn head(out: &mut Vec<u16>, page: &Page) -> Result<(), AllocError>
-    ensures { OnOk result (out.new.items ≡ out.old.items ++ head_line page.now) }
+fn head(out: &mut Vec<u16>, page: &Page)
+    requires { vec_len out.old + 23 ≤ vec_capacity out.old }
+    ensures { out.new.items ≡ out.old.items ++ head_line page.now }
 {
-    number(out, page.size().w)?;
-    out.push(0x78)?;
-    number(out, page.size().h)?;
-    text(out, b" cursor ")?;
+    number(out, page.size().w);
+    out.push_reserved(0x78);
+    number(out, page.size().h);
+    push_bytes(out, b" cursor ");
     if page.is_visible() {
-        number(out, page.column())?;
-        out.push(0x2C)?;
-        number(out, page.row())?;
+        number(out, page.column());
+        out.push_reserved(0x2C);
+        number(out, page.row());
     } else {
-        text(out, b"hidden")?;
+        push_bytes(out, b"hidden");
     }
-    out.push(0x0A)?;
-    Ok(())
+    out.push_reserved(0x0A);
 }
 
 /// Appends the text that tells what a page shows.
@@ -242,7 +239,8 @@ fn head(out: &mut Vec<u16>, page: &Page) -> Result<(), AllocError>
 pub fn dump(page: &Page, out: &mut Vec<u16>) -> Result<(), AllocError>
     ensures { OnOk result (out.new.items ≡ out.old.items ++ dump_of page.now) }
 {
-    head(out, page)?;
+    out.reserve(HEAD)?;
+    head(out, page);
     all_rows(out, page.cells(), page.size())?;
     all_runs(out, page.cells(), page.size())
 }

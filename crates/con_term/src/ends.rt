@@ -4,7 +4,7 @@ ghost use Rattle.std.specs.List.{list_all};
 ghost use Rattle.con_term.specs.Ends.{is_end as is_end_unit, feeds_in};
 
 /// How many bytes at the front are line feeds and carriage returns, and how many of them are line feeds.
-#[derive(Clone, Copy, Debug)]
+#[derive(Clone, Copy)]
 pub struct Ends {
     pub count: usize,
     pub feeds: usize,

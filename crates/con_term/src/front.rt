@@ -1,11 +1,11 @@
 //! A character at the front of bytes that are no ASCII.
 ghost use Rattle.std.specs.Prelude.{IfSome, ◌≡◌};
 ghost use Rattle.std.specs.Int.{is_in_range};
-ghost use Rattle.con_units.specs.Utf8.{may_follow, is_continuation};
+ghost use Rattle.con_units.specs.Utf8.{may_follow};
 ghost use Rattle.con_term.specs.Front.{IsFront};
 
 /// How many bytes the character has, and which it is.
-#[derive(Clone, Copy, Debug)]
+#[derive(Clone, Copy)]
 pub struct Front {
     pub count: usize,
     pub code: u32,
@@ -31,34 +31,10 @@ fn follows(a: u8, b: u8) -> bool
     low <= b && b <= high
 }
 
-fn continues(b: u8) -> bool
-    ensures { result ≡ is_continuation b }
+fn is_within(low: u8, high: u8, byte: u8) -> bool
+    ensures { result ≡ is_in_range low high byte }
 {
-    0x80 <= b && b <= 0xBF
-}
-
-fn begins_two(a: u8) -> bool
-    ensures { result ≡ is_in_range 0xC2 0xDF a }
-{
-    0xC2 <= a && a <= 0xDF
-}
-
-fn begins_three(a: u8) -> bool
-    ensures { result ≡ is_in_range 0xE0 0xEF a }
-{
-    0xE0 <= a && a <= 0xEF
-}
-
-fn begins_four(a: u8) -> bool
-    ensures { result ≡ is_in_range 0xF0 0xF4 a }
-{
-    0xF0 <= a && a <= 0xF4
-}
-
-fn begins_any(a: u8) -> bool
-    ensures { result ≡ is_in_range 0xC2 0xF4 a }
-{
-    0xC2 <= a && a <= 0xF4
+    low <= byte && byte <= high
 }
 
 // A byte that no character begins with, which counts as U+FFFD.
@@ -72,7 +48,7 @@ fn one(bytes: &[u8]) -> Option<Front>
     if a < 0x80 {
         return None;
     }
-    if begins_any(a) {
+    if is_within(0xC2, 0xF4, a) {
         return None;
     }
     Some(Front {
@@ -89,10 +65,10 @@ fn two(bytes: &[u8]) -> Option<Front>
     }
     let a = bytes[0];
     let b = bytes[1];
-    if !begins_two(a) {
+    if !is_within(0xC2, 0xDF, a) {
         return None;
     }
-    if !continues(b) {
+    if !is_within(0x80, 0xBF, b) {
         return None;
     }
     Some(Front {
@@ -110,13 +86,13 @@ fn three(bytes: &[u8]) -> Option<Front>
     let a = bytes[0];
     let b = bytes[1];
     let c = bytes[2];
-    if !begins_three(a) {
+    if !is_within(0xE0, 0xEF, a) {
         return None;
     }
     if !follows(a, b) {
         return None;
     }
-    if !continues(c) {
+    if !is_within(0x80, 0xBF, c) {
         return None;
     }
     Some(Front {
@@ -135,16 +111,16 @@ fn four(bytes: &[u8]) -> Option<Front>
     let b = bytes[1];
     let c = bytes[2];
     let d = bytes[3];
-    if !begins_four(a) {
+    if !is_within(0xF0, 0xF4, a) {
         return None;
     }
     if !follows(a, b) {
         return None;
     }
-    if !continues(c) {
+    if !is_within(0x80, 0xBF, c) {
         return None;
     }
-    if !continues(d) {
+    if !is_within(0x80, 0xBF, d) {
         return None;
     }
     Some(Front {

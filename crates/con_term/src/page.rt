@@ -229,21 +229,15 @@ impl Page {
         }
     }
 
+    // Erases the cells from one place up to another; no wrap is pending then.
     fn erase(&mut self, from: usize, upto: usize)
         requires order { from ≤ upto }
         requires inside { upto ≤ length self.old.cells }
-        ensures { self.new ≡ erased self.old from upto }
+        ensures { self.new ≡ unpended (erased self.old from upto) }
     {
         let cell = self.blank();
         self.cells.fill(from, upto, cell);
-    }
-
-    // The row's first place.
-    fn row_start(&self) -> usize
-        ensures start { result ≡ self.now.y * self.now.w }
-        ensures here { result ≤ place self.now }
-    {
-        self.y as usize * self.size.w as usize
+        self.pending = false;
     }
 
     // The place behind the row's last one.
@@ -263,12 +257,6 @@ impl Page {
         // A field is read, so that the first clause has the invariant.
         let _ = &self.size;
         self.cells.len()
-    }
-
-    fn unpend(&mut self)
-        ensures { self.new ≡ unpended self.old }
-    {
-        self.pending = false;
     }
 
     fn go_to(&mut self, row: u16, column: u16)
@@ -307,9 +295,8 @@ impl Page {
             0 => self.erase(at, count),
             1 => self.erase(0, at + 1),
             2 => self.erase(0, count),
-            _ => return,
+            _ => {}
         }
-        self.unpend();
     }
 
     #[tactic(auto, unfolding(crate::specs::Effect::line_erased))]
@@ -317,15 +304,14 @@ impl Page {
         ensures { self.new ≡ line_erased self.old how }
     {
         let at = self.index();
-        let start = self.row_start();
+        let start = at - self.x as usize;
         let end = self.row_end();
         match how {
             0 => self.erase(at, end),
             1 => self.erase(start, at + 1),
             2 => self.erase(start, end),
-            _ => return,
+            _ => {}
         }
-        self.unpend();
     }
 
     fn erase_some(&mut self, count: u16)
@@ -334,7 +320,6 @@ impl Page {
         let at = self.index();
         let end = self.row_end();
         self.erase(at, (at + count.max(1) as usize).min(end));
-        self.unpend();
     }
 
     fn control(&mut self, unit: u16)
@@ -349,7 +334,7 @@ impl Page {
             // LF
             10 => {
                 self.lower();
-                self.unpend();
+                self.pending = false;
             }
             // CR
             13 => {
@@ -388,37 +373,29 @@ impl Page {
     fn sequence(&mut self, csi: &Csi)
         ensures { self.new ≡ plain_effect self.old csi.now }
     {
+        let first = csi.params[0];
+        let n = first.max(1);
+        let x = self.x;
+        let y = self.y;
         match csi.last {
             // CUU, CSI A
-            0x41 => self.move_to(self.x, self.y.saturating_sub(csi.params[0].max(1))),
+            0x41 => self.move_to(x, y.saturating_sub(n)),
             // CUD, CSI B
-            0x42 => self.move_to(
-                self.x,
-                self.y
-                    .saturating_add(csi.params[0].max(1))
-                    .min(self.size.h - 1),
-            ),
+            0x42 => self.move_to(x, y.saturating_add(n).min(self.size.h - 1)),
             // CUF, CSI C
-            0x43 => self.move_to(
-                self.x
-                    .saturating_add(csi.params[0].max(1))
-                    .min(self.size.w - 1),
-                self.y,
-            ),
+            0x43 => self.move_to(x.saturating_add(n).min(self.size.w - 1), y),
             // CUB, CSI D
-            0x44 => self.move_to(self.x.saturating_sub(csi.params[0].max(1)), self.y),
-            // CUP, CSI H
-            0x48 => self.go_to(csi.params[0], csi.params[1]),
-            // HVP, CSI f
-            0x66 => self.go_to(csi.params[0], csi.params[1]),
+            0x44 => self.move_to(x.saturating_sub(n), y),
+            // CUP, CSI H; HVP, CSI f
+            0x48 | 0x66 => self.go_to(first, csi.params[1]),
             // SU, CSI S
-            0x53 => self.lift(csi.params[0].max(1)),
+            0x53 => self.lift(n),
             // ED, CSI J
-            0x4A => self.erase_display(csi.params[0]),
+            0x4A => self.erase_display(first),
             // EL, CSI K
-            0x4B => self.erase_line(csi.params[0]),
+            0x4B => self.erase_line(first),
             // ECH, CSI X
-            0x58 => self.erase_some(csi.params[0]),
+            0x58 => self.erase_some(first),
             // SGR, CSI m
             0x6D => self.set_pen(csi),
             _ => {}

@@ -2,14 +2,14 @@
 ghost use Rattle.std.specs.Prelude.{◌≡◌, ◌<◌, ◌≤◌};
 ghost use Rattle.con_term.specs.Pen.{lacking, word_of, attr_of, starting_pen, in_colour, in_shade, coloured, pen_after, indexed, IsPen};
 ghost use Rattle.con_term.specs.Sgr.{pen_by};
-ghost use Rattle.con_term.specs.SgrSteps.{kind_at, skip_at, begin_at, read_next};
+ghost use Rattle.con_term.specs.SgrSteps.{begin_at, read_next};
 ghost use Rattle.con_term.specs.declared.pen.Place.TheVariants.{Next};
 ghost use Rattle.con_term.specs.Nibble.{nibble as nibble_of};
 
 use con_units::{Attr, Shade, near};
 
 /// What of a cell has a colour.
-#[derive(Clone, Copy, Debug)]
+#[derive(Clone, Copy)]
 pub enum Layer {
     /// The foreground.
     Fore,
@@ -19,7 +19,7 @@ pub enum Layer {
 
 /// The colours and flags that cells are written in. Colours are 0 to 15 in the bits of an attribute word; where a shade
 /// is an index, its layer's colour is the nearest to it.
-#[derive(Clone, Copy, Debug)]
+#[derive(Clone, Copy)]
 pub struct Pen {
     pub foreground: u8,
     pub background: u8,
@@ -182,7 +182,7 @@ fn colour(number: u16) -> u8
 }
 
 /// What the next parameter of CSI m is.
-#[derive(Clone, Copy, Debug)]
+#[derive(Clone, Copy)]
 pub enum Place {
     /// One by itself, or the begin of a colour.
     Next,
@@ -197,7 +197,7 @@ pub enum Place {
 }
 
 /// The pen so far, and what the next parameter is.
-#[derive(Clone, Copy, Debug)]
+#[derive(Clone, Copy)]
 pub struct Reader {
     pub pen: Pen,
     pub place: Place,
@@ -213,12 +213,22 @@ impl Reader {
     {
         match self.place {
             Place::Next => self.begin(parameter),
-            Place::Kind(layer) => self.place = colour_kind(layer, parameter),
+            Place::Kind(layer) => match parameter {
+                5 => self.place = Place::Index(layer),
+                2 => self.place = Place::Skip(3),
+                _ => self.place = Place::Ended,
+            },
             Place::Index(layer) => {
                 self.pen.take_index(layer, parameter);
                 self.place = Place::Next;
             }
-            Place::Skip(count) => self.place = skip(count),
+            Place::Skip(count) => {
+                if 1 < count {
+                    self.place = Place::Skip(count - 1);
+                } else {
+                    self.place = Place::Next;
+                }
+            }
             Place::Ended => {}
         }
     }
@@ -235,28 +245,6 @@ impl Reader {
             48 => self.place = Place::Kind(Layer::Back),
             _ => self.pen.act(parameter),
         }
-    }
-}
-
-// What follows 38 or 48 and this parameter.
-fn colour_kind(layer: Layer, parameter: u16) -> Place
-    ensures { result ≡ kind_at layer parameter }
-{
-    match parameter {
-        5 => Place::Index(layer),
-        2 => Place::Skip(3),
-        _ => Place::Ended,
-    }
-}
-
-// What follows where one of so many was skipped.
-fn skip(count: u8) -> Place
-    ensures { result ≡ skip_at count }
-{
-    if 1 < count {
-        Place::Skip(count - 1)
-    } else {
-        Place::Next
     }
 }
 

@@ -88,7 +88,8 @@ fn is_ascii(bytes: &[u8]) -> bool
     most < 0x80
 }
 
-fn push_bytes(units: &mut Vec<u16>, bytes: &[u8])
+// Puts bytes last, as units.
+pub(crate) fn push_bytes(units: &mut Vec<u16>, bytes: &[u8])
     requires room { vec_len units.old + length bytes.now ≤ vec_capacity units.old }
     ensures units { units.new.items ≡ units.old.items ++ bytes.now }
     ensures few { vec_len units.new ≡ vec_len units.old + length bytes.now }
@@ -169,15 +170,6 @@ fn decode_each(decoder: &mut Utf8, bytes: &[u8], most: usize, units: &mut Vec<u1
     at
 }
 
-// How many bytes are in the first chunk.
-fn chunk_len(len: usize) -> usize
-    requires { 0 < len }
-    ensures more { 0 < result }
-    ensures inside { result ≤ len }
-{
-    if len < CHUNK { len } else { CHUNK }
-}
-
 // Decodes some bytes at the front, and tells how many.
 fn decode_chunk(decoder: &mut Utf8, bytes: &[u8], units: &mut Vec<u16>) -> usize
     requires some { 0 < length bytes.now }
@@ -189,7 +181,7 @@ fn decode_chunk(decoder: &mut Utf8, bytes: &[u8], units: &mut Vec<u16>) -> usize
     ensures few { vec_len units.new ≤ vec_len units.old + 4 * result }
     ensures capacity { vec_capacity units.new ≡ vec_capacity units.old }
 {
-    let len = chunk_len(bytes.len());
+    let len = bytes.len().min(CHUNK);
     let chunk = &bytes[..len];
     if decoder.held() == 0 && is_ascii(chunk) {
         push_bytes(units, chunk);

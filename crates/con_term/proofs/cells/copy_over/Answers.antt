@@ -4,4 +4,4 @@ use Rattle.con_term.proofs.CopyLemmas.{copied_more}
 use Rattle.con_term.proofs.cells.copy_over.Goals as goal
 
 pub loop-at-preserved : goal.loop-at-preserved
-loop-at-preserved c = (c.piece_end-end.ensures.inside, copied_more c.loop-at.to c.args.from.now c.args.to.now c.copy_from_slice.new.self c.loop-at.at c.piece_end-end.result c.requires (omega (arith, c.piece_end-end.ensures.more)) c.piece_end-end.ensures.inside c.loop-at.invariant.1 c.copy_from_slice.ensures.after)
+loop-at-preserved c = (omega (arith, c.min-end.ensures), copied_more c.loop-at.to c.args.from.now c.args.to.now c.copy_from_slice.new.self c.loop-at.at c.min-end.result c.requires (omega (arith, c.min-end.ensures, c.loop-at-test.true)) (omega (arith, c.min-end.ensures)) c.loop-at.invariant.1 c.copy_from_slice.ensures.after)
