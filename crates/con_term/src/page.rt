@@ -9,7 +9,7 @@ ghost use Rattle.con_vtgram.specs.State.{item_of};
 ghost use Rattle.con_vtgram.specs.declared.item.Item.TheVariants as Item;
 ghost use Rattle.std.specs.List.{list_all};
 ghost use Rattle.con_term.specs.Effect.{row_end, unpended, gone_to, moved_to, lifted, display_erased, line_erased, some_erased};
-ghost use Rattle.con_term.specs.Effect.{control_effect, private_effect, pen_of, plain_effect, effect};
+ghost use Rattle.con_term.specs.Effect.{control_effect, pen_of, plain_effect, effect};
 ghost use Rattle.con_term.specs.Page.{IsPage, blank_page, place, blank, erased, scrolled, lowered, wrapped, put, advanced, printed};
 
 use crate::block::Block;
@@ -345,20 +345,6 @@ impl Page {
         }
     }
 
-    #[tactic(auto, unfolding(crate::specs::Effect::private_effect))]
-    fn private(&mut self, csi: &Csi)
-        ensures { self.new ≡ private_effect self.old csi.now }
-    {
-        // DECTCEM, CSI ? 25 h and CSI ? 25 l
-        if csi.params[0] == 25 {
-            match csi.last {
-                0x68 => self.visible = true,
-                0x6C => self.visible = false,
-                _ => {}
-            }
-        }
-    }
-
     fn set_pen(&mut self, csi: &Csi)
         ensures { self.new ≡ record self.old { pen = pen_of csi.now self.old.pen } }
     {
@@ -420,15 +406,20 @@ impl Page {
         }
     }
 
-    #[tactic(auto, unfolding(crate::specs::Effect::effect))]
+    #[tactic(auto, unfolding(crate::specs::Effect::effect, crate::specs::Effect::private_effect))]
     fn any_sequence(&mut self, csi: &Csi)
         ensures { self.new ≡ effect self.old (Item.Csi csi.now) }
     {
         if csi.inter == 0 {
-            if csi.private {
-                self.private(csi);
-            } else {
+            if !csi.private {
                 self.sequence(csi);
+            } else if csi.params[0] == 25 {
+                // DECTCEM, CSI ? 25 h and CSI ? 25 l
+                match csi.last {
+                    0x68 => self.visible = true,
+                    0x6C => self.visible = false,
+                    _ => {}
+                }
             }
         }
     }

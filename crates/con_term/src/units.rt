@@ -190,23 +190,6 @@ fn decode_chunk(decoder: &mut Utf8, bytes: &[u8], units: &mut Vec<u16>) -> usize
     decode_each(decoder, bytes, len, units)
 }
 
-// Decodes chunk by chunk. The list is passed by value, so that its length stays in a register.
-fn decode_all(decoder: &mut Utf8, bytes: &[u8], units: Vec<u16>) -> Vec<u16>
-    requires none { units.items ≡ [] }
-    requires room { 4 * length bytes.now ≤ vec_capacity units }
-    ensures units { result.items ≡ flat_map units_of (split_after utf8 decoder.old bytes.now).items }
-    ensures held { decoder.new ≡ (split_after utf8 decoder.old bytes.now).tail }
-    ensures few { vec_len result ≤ 4 * length bytes.now }
-    ensures capacity { vec_capacity result ≡ vec_capacity units }
-{
-    let mut list = units;
-    let mut at = 0;
-    while at < bytes.len() {
-        at += decode_chunk(decoder, &bytes[at..], &mut list);
-    }
-    list
-}
-
 /// The units that bytes complete, in a list with room for four units a byte.
 pub fn decode(decoder: &mut Utf8, bytes: &[u8], units: &mut Vec<u16>)
     requires room { 4 * length bytes.now ≤ vec_capacity units.old }
@@ -217,6 +200,11 @@ pub fn decode(decoder: &mut Utf8, bytes: &[u8], units: &mut Vec<u16>)
 {
     units.clear();
     let alloc = *units.allocator();
-    let list = mem::replace(units, Vec::new(alloc));
-    *units = decode_all(decoder, bytes, list);
+    // The list is held by value, so that its length stays in a register.
+    let mut list = mem::replace(units, Vec::new(alloc));
+    let mut at = 0;
+    while at < bytes.len() {
+        at += decode_chunk(decoder, &bytes[at..], &mut list);
+    }
+    *units = list;
 }

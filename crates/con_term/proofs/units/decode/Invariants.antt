@@ -4,7 +4,7 @@ use Rattle.std.specs.Prelude.{flat_map, vec_len, vec_capacity}
 use Rattle.con_units.specs.Split.{split_after}
 use Rattle.con_units.specs.Utf8.{utf8}
 use Rattle.con_term.specs.Play.{units_of}
-use Rattle.con_term.proofs.units.decode_all.Given as goal
+use Rattle.con_term.proofs.units.decode.Given as goal
 
 abbrev pub invariant-loop-at : goal.invariant-loop-at
 invariant-loop-at l = record {

@@ -1,16 +1,16 @@
 -- Chunk by chunk.
-use Rattle.std.proofs.Common.{[], ◌∙◌, refl, arith, rules}
+use Rattle.std.proofs.Common.{◌≡◌, [], ◌∙◌, arith, rules}
 use Rattle.con_term.proofs.DecodeLemmas.{units_none, held_none, units_on, held_on, units_all, held_all}
 use Rattle.con_term.proofs.PlayLemmas.{run_fits}
-use Rattle.con_term.proofs.units.decode_all.Goals as goal
+use Rattle.con_term.proofs.units.decode.Goals as goal
 
 pub loop-at-init : goal.loop-at-init
-loop-at-init c = record {
-  units = c.requires.none ∙ units_none [] c.args.decoder.now c.args.bytes.now;
+loop-at-init c = let none : c.replace-list.result.items ≡ [] = search rules in record {
+  units = none ∙ units_none [] c.args.decoder.now c.args.bytes.now;
   held = held_none c.args.decoder.now c.args.bytes.now;
   inside = omega arith;
   few = search rules;
-  capacity = refl;
+  capacity = search rules;
 }
 
 pub loop-at-preserved : goal.loop-at-preserved
