@@ -1,5 +1,5 @@
 -- The shades of a pen stand beside its word's colours.
-use Rattle.std.proofs.Common.{◌≡◌, ℕ, ◌+◌, ◌%◌, ◌<◌, Bool, true, false, cond, arith}
+use Rattle.std.proofs.Common.{◌+◌, ◌%◌, ◌<◌, arith}
 use Rattle.std.proofs.lemmas.Bool.{cond_both}
 use Rattle.con_units.specs.Attr.{IsShaded}
 use Rattle.con_units.specs.Shade.{IsNearestOrBright}

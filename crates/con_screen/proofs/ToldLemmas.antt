@@ -1,5 +1,5 @@
 -- What a text tells is within bounds.
-use Rattle.std.proofs.Common.{◌≡◌, ℕ, ◌+◌, ◌*◌, ◌≤◌, Bool, true, false, cond, ◌==◌, nat_lt, List, [], ◌∷◌, ◌++◌, map, length, refl, arith, length-append}
+use Rattle.std.proofs.Common.{ℕ, ◌+◌, ◌*◌, ◌≤◌, Bool, true, false, cond, ◌==◌, nat_lt, List, [], ◌∷◌, ◌++◌, map, length, arith, length-append}
 use Rattle.std.specs.Prelude.{fold, ◌/◌, ◌%◌, if◌then◌else◌}
 use Rattle.std.proofs.lemmas.List.{length-map}
 use Rattle.con_vtgram.specs.declared.item.Csi.{Csi}
@@ -15,7 +15,6 @@ use Rattle.con_screen.specs.Told.{Told, cursor_report, device_report, report_row
 use Rattle.con_screen.specs.Parts.{has_sequences, item_alone}
 use Rattle.con_screen.specs.Written.{spoken_alone, split_in, split_on, Heard, heard, written}
 use Rattle.con_screen.specs.Laws.{IsToldWithin}
-use Rattle.con_screen.specs.Screen.{Screen}
 use Rattle.con_screen.specs.declared.mode.Mode.{Mode}
 
 -- n units told u after t

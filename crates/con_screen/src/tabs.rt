@@ -83,9 +83,9 @@ pub(crate) fn default_stops(alloc: Global, width: usize) -> Result<Vec<bool>, Al
     ensures stops { IfOk result (λ v. v.items ≡ default_tabs width) }
     ensures count { IfOk result (λ v. length v.items ≡ width) }
 {
-    let mut stops = Vec::new(alloc);
+    let mut stops = Vec::with_capacity(alloc, width)?;
     for at in 0..width {
-        stops.push(0 < at && at % 8 == 0)?;
+        stops.push_reserved(0 < at && at % 8 == 0);
     }
     Ok(stops)
 }

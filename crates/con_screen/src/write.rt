@@ -160,12 +160,7 @@ fn hear(
 }
 
 // Writes a unit.
-fn write_unit(
-    page: &mut Page,
-    text: &mut Splitter,
-    unit: u16,
-    answers: &mut Answers,
-) -> bool
+fn write_unit(page: &mut Page, text: &mut Splitter, unit: u16, answers: &mut Answers) -> bool
     requires page { IsPage page.old }
     requires room { 0 < answers.old.room }
     ensures page { IsPage page.new }
