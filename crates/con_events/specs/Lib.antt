@@ -9,3 +9,4 @@ pub mod TableLaws
 pub mod Fits
 -- The code's own words.
 pub mod Same
+pub mod Names

@@ -1,7 +1,7 @@
 //! Who acts.
 
 /// Who does what an event says.
-#[derive(Clone, Copy, PartialEq, Eq, Debug)]
+#[derive(Clone, Copy)]
 pub enum Actor {
     /// A client, by its number from 1 on.
     Client(u8),

@@ -10,7 +10,7 @@ use con_records::Taken;
 use con_units::{Rect, Units};
 
 /// Why no argument was read.
-#[derive(Clone, Copy, Debug, PartialEq, Eq, Drop)]
+#[derive(Clone, Copy, Drop)]
 pub enum Misread {
     /// It is not of the form.
     Form,

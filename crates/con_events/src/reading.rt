@@ -1,180 +1,103 @@
 //! Reading a call.
 
-ghost use Rattle.std.specs.Prelude.{◌≡◌, Some, None, IfOk, IfErr, codes};
-ghost use Rattle.con_events.specs.Reading.{IsForm, call_from, row_from, whole};
-ghost use Rattle.con_events.specs.Table.{row_of_handles, row_of_screens, row_of_cells, row_of_lines, row_of_processes};
+ghost use Rattle.std.specs.Prelude.{◌≡◌, [], ◌∷◌, Some, None, IfOk, IfErr};
+ghost use Rattle.con_events.specs.Arg.{Number, Signed, Area, Text};
+ghost use Rattle.con_events.specs.Names.{before, word, word_bare, word_handle, word_number, word_place, word_run, word_area, word_text};
+ghost use Rattle.con_events.specs.Names.{kinds, kinds_handle, kinds_number, kinds_place, kinds_run, kinds_area, kinds_text};
+ghost use Rattle.con_events.specs.declared.names.OnArea.TheVariants as on_area;
+ghost use Rattle.con_events.specs.Reading.{IsForm, args_from, call_from, whole};
+ghost use Rattle.con_events.specs.Table.{name_of, args_of};
 
 use crate::arguments::{Arguments, Misread};
 use crate::call::Call;
-use crate::groups::{fill, place, run, three_numbers, two_numbers, two_texts};
+use crate::names::{Bare, Name, OnArea, OnHandle, OnNumber, OnPlace, OnRun, OnText, call_named};
+use con_units::{Rect, Units};
 
-#[tactic(auto, unfolding(crate::specs::Table::row_of_handles))]
-fn handles_call<A: Arguments>(name: &str, args: &mut A) -> Result<Call, Misread>
-    ensures ok { IfOk result (λ c. row_from (row_of_handles name.now) (A.left args.old) ≡ Some (c, A.left args.new)) }
-    ensures form { IfErr result (λ e. IsForm e → row_from (row_of_handles name.now) (A.left args.old) ≡ None) }
+/// A call without arguments.
+fn bare_call(name: Bare) -> Call
+    ensures name { name_of result ≡ word_bare name }
+    ensures args { args_of result ≡ [] }
 {
     match name {
-        "buffer-create" => Ok(Call::BufferCreate(given!(args.number()))),
-        "open-out" => Ok(Call::OpenOut(given!(args.number()))),
-        "open-in" => Ok(Call::OpenIn(given!(args.number()))),
-        "close" => Ok(Call::Close(given!(args.number()))),
-        "duplicate" => {
-            let (handle, rights) = given!(two_numbers(args));
-            Ok(Call::Duplicate(handle, rights))
-        }
-        "activate" => Ok(Call::Activate(given!(args.number()))),
-        "mode" => Ok(Call::Mode(given!(args.number()))),
-        "set-mode" => {
-            let (handle, mode) = given!(two_numbers(args));
-            Ok(Call::SetMode(handle, mode))
-        }
-        _ => screens_call(name, args),
+        Bare::Title => Call::Title,
+        Bare::HistoryInfo => Call::HistoryInfo,
+        Bare::HistoryList => Call::HistoryList,
+        Bare::HistoryClear => Call::HistoryClear,
+        Bare::Processes => Call::Processes,
     }
 }
 
-#[tactic(auto, unfolding(crate::specs::Table::row_of_screens))]
-fn screens_call<A: Arguments>(name: &str, args: &mut A) -> Result<Call, Misread>
-    ensures ok { IfOk result (λ c. row_from (row_of_screens name.now) (A.left args.old) ≡ Some (c, A.left args.new)) }
-    ensures form { IfErr result (λ e. IsForm e → row_from (row_of_screens name.now) (A.left args.old) ≡ None) }
+/// A call that begins with two numbers, which are read.
+fn number_call<A: Arguments>(name: OnNumber, a: u32, b: u32, args: &mut A) -> Result<Call, Misread>
+    ensures ok { IfOk result (λ c. (name_of c ≡ word_number name)
+        × (before (Number a ∷ Number b ∷ []) (args_from (kinds_number name) (A.left args.old)) ≡ Some (args_of c, A.left args.new))) }
+    ensures form { IfErr result (λ e. IsForm e → args_from (kinds_number name) (A.left args.old) ≡ None) }
 {
     match name {
-        "info" => Ok(Call::Info(given!(args.number()))),
-        "set-size" => {
-            let (handle, width, height) = given!(three_numbers(args));
-            Ok(Call::SetSize(handle, width, height))
-        }
-        "set-cursor" => {
-            let (handle, x, y) = given!(place(args));
-            Ok(Call::SetCursor(handle, x, y))
-        }
-        "cursor-info" => Ok(Call::CursorInfo(given!(args.number()))),
-        "set-cursor-info" => set_cursor_info(args),
-        "set-origin" => {
-            let (handle, x, y) = given!(place(args));
-            Ok(Call::SetOrigin(handle, x, y))
-        }
-        "set-attr" => set_attr(args),
-        "title" => Ok(Call::Title),
-        "set-title" => Ok(Call::SetTitle(given!(args.text()))),
-        _ => cells_call(name, args),
+        OnNumber::Duplicate => Ok(Call::Duplicate(a, b)),
+        OnNumber::SetMode => Ok(Call::SetMode(a, b)),
+        OnNumber::Peek => Ok(Call::Peek(a, b)),
+        OnNumber::Signal => Ok(Call::Signal(a, b)),
+        OnNumber::SetSize => Ok(Call::SetSize(a, b, given!(args.number()))),
+        OnNumber::SetHistory => Ok(Call::SetHistory(a, b, given!(args.number()))),
+        OnNumber::SetCursorInfo => Ok(Call::SetCursorInfo(a, b, given!(args.flag()))),
     }
 }
 
-#[tactic(auto, unfolding(crate::specs::Table::row_of_screens))]
-fn set_cursor_info<A: Arguments>(args: &mut A) -> Result<Call, Misread>
-    ensures ok { IfOk result (λ c. row_from (row_of_screens (codes "set-cursor-info")) (A.left args.old) ≡ Some (c, A.left args.new)) }
-    ensures form { IfErr result (λ e. IsForm e → row_from (row_of_screens (codes "set-cursor-info")) (A.left args.old) ≡ None) }
-{
-    Ok(Call::SetCursorInfo(
-        given!(args.number()),
-        given!(args.number()),
-        given!(args.flag()),
-    ))
-}
-
-#[tactic(auto, unfolding(crate::specs::Table::row_of_screens))]
-fn set_attr<A: Arguments>(args: &mut A) -> Result<Call, Misread>
-    ensures ok { IfOk result (λ c. row_from (row_of_screens (codes "set-attr")) (A.left args.old) ≡ Some (c, A.left args.new)) }
-    ensures form { IfErr result (λ e. IsForm e → row_from (row_of_screens (codes "set-attr")) (A.left args.old) ≡ None) }
-{
-    Ok(Call::SetAttr(given!(args.number()), given!(args.unit())))
-}
-
-#[tactic(auto, unfolding(crate::specs::Table::row_of_cells))]
-fn cells_call<A: Arguments>(name: &str, args: &mut A) -> Result<Call, Misread>
-    ensures ok { IfOk result (λ c. row_from (row_of_cells name.now) (A.left args.old) ≡ Some (c, A.left args.new)) }
-    ensures form { IfErr result (λ e. IsForm e → row_from (row_of_cells name.now) (A.left args.old) ≡ None) }
+/// A call that begins with a handle, a column, a row and a count, which are read.
+fn run_call<A: Arguments>(
+    name: OnRun,
+    handle: u32,
+    x: i16,
+    y: i16,
+    count: u32,
+    args: &mut A,
+) -> Result<Call, Misread>
+    ensures ok { IfOk result (λ c. (name_of c ≡ word_run name)
+        × (before (Number handle ∷ Signed x ∷ Signed y ∷ Number count ∷ []) (args_from (kinds_run name) (A.left args.old)) ≡ Some (args_of c, A.left args.new))) }
+    ensures form { IfErr result (λ e. IsForm e → args_from (kinds_run name) (A.left args.old) ≡ None) }
 {
     match name {
-        "write" => write(args),
-        "rect-read" => rect_read(args),
-        "rect-write" => rect_write(args),
-        "run-read-units" => {
-            let (handle, x, y, count) = given!(run(args));
-            Ok(Call::RunReadUnits(handle, x, y, count))
-        }
-        "run-read-attrs" => {
-            let (handle, x, y, count) = given!(run(args));
-            Ok(Call::RunReadAttrs(handle, x, y, count))
-        }
-        "run-write-units" => run_write_units(args),
-        "run-write-attrs" => run_write_attrs(args),
-        "fill-units" => {
-            let (handle, x, y, count, unit) = given!(fill(args));
-            Ok(Call::FillUnits(handle, x, y, count, unit))
-        }
-        "fill-attrs" => {
-            let (handle, x, y, count, word) = given!(fill(args));
-            Ok(Call::FillAttrs(handle, x, y, count, word))
-        }
-        "scroll" => scroll(args),
-        _ => lines_call(name, args),
+        OnRun::RunReadUnits => Ok(Call::RunReadUnits(handle, x, y, count)),
+        OnRun::RunReadAttrs => Ok(Call::RunReadAttrs(handle, x, y, count)),
+        OnRun::FillUnits => Ok(Call::FillUnits(handle, x, y, count, given!(args.unit()))),
+        OnRun::FillAttrs => Ok(Call::FillAttrs(handle, x, y, count, given!(args.unit()))),
     }
 }
 
-#[tactic(auto, unfolding(crate::specs::Table::row_of_cells))]
-fn write<A: Arguments>(args: &mut A) -> Result<Call, Misread>
-    ensures ok { IfOk result (λ c. row_from (row_of_cells (codes "write")) (A.left args.old) ≡ Some (c, A.left args.new)) }
-    ensures form { IfErr result (λ e. IsForm e → row_from (row_of_cells (codes "write")) (A.left args.old) ≡ None) }
+/// A call that begins with a handle, a column and a row, which are read.
+fn place_call<A: Arguments>(
+    name: OnPlace,
+    handle: u32,
+    x: i16,
+    y: i16,
+    args: &mut A,
+) -> Result<Call, Misread>
+    ensures ok { IfOk result (λ c. (name_of c ≡ word_place name)
+        × (before (Number handle ∷ Signed x ∷ Signed y ∷ []) (args_from (kinds_place name) (A.left args.old)) ≡ Some (args_of c, A.left args.new))) }
+    ensures form { IfErr result (λ e. IsForm e → args_from (kinds_place name) (A.left args.old) ≡ None) }
 {
-    Ok(Call::Write(given!(args.number()), given!(args.text())))
+    match name {
+        OnPlace::SetCursor => Ok(Call::SetCursor(handle, x, y)),
+        OnPlace::SetOrigin => Ok(Call::SetOrigin(handle, x, y)),
+        OnPlace::RunWriteUnits => Ok(Call::RunWriteUnits(handle, x, y, given!(args.text()))),
+        OnPlace::RunWriteAttrs => Ok(Call::RunWriteAttrs(handle, x, y, given!(args.list()))),
+        OnPlace::Run(name) => {
+            let count = given!(args.number());
+            run_call(name, handle, x, y, count, args)
+        }
+    }
 }
 
-#[tactic(auto, unfolding(crate::specs::Table::row_of_cells))]
-fn rect_read<A: Arguments>(args: &mut A) -> Result<Call, Misread>
-    ensures ok { IfOk result (λ c. row_from (row_of_cells (codes "rect-read")) (A.left args.old) ≡ Some (c, A.left args.new)) }
-    ensures form { IfErr result (λ e. IsForm e → row_from (row_of_cells (codes "rect-read")) (A.left args.old) ≡ None) }
-{
-    Ok(Call::RectRead(given!(args.number()), given!(args.rect())))
-}
-
-#[tactic(auto, unfolding(crate::specs::Table::row_of_cells))]
-fn rect_write<A: Arguments>(args: &mut A) -> Result<Call, Misread>
-    ensures ok { IfOk result (λ c. row_from (row_of_cells (codes "rect-write")) (A.left args.old) ≡ Some (c, A.left args.new)) }
-    ensures form { IfErr result (λ e. IsForm e → row_from (row_of_cells (codes "rect-write")) (A.left args.old) ≡ None) }
-{
-    Ok(Call::RectWrite(
-        given!(args.number()),
-        given!(args.rect()),
-        given!(args.text()),
-        given!(args.words()),
-    ))
-}
-
-#[tactic(auto, unfolding(crate::specs::Table::row_of_cells))]
-fn run_write_units<A: Arguments>(args: &mut A) -> Result<Call, Misread>
-    ensures ok { IfOk result (λ c. row_from (row_of_cells (codes "run-write-units")) (A.left args.old) ≡ Some (c, A.left args.new)) }
-    ensures form { IfErr result (λ e. IsForm e → row_from (row_of_cells (codes "run-write-units")) (A.left args.old) ≡ None) }
-{
-    Ok(Call::RunWriteUnits(
-        given!(args.number()),
-        given!(args.signed()),
-        given!(args.signed()),
-        given!(args.text()),
-    ))
-}
-
-#[tactic(auto, unfolding(crate::specs::Table::row_of_cells))]
-fn run_write_attrs<A: Arguments>(args: &mut A) -> Result<Call, Misread>
-    ensures ok { IfOk result (λ c. row_from (row_of_cells (codes "run-write-attrs")) (A.left args.old) ≡ Some (c, A.left args.new)) }
-    ensures form { IfErr result (λ e. IsForm e → row_from (row_of_cells (codes "run-write-attrs")) (A.left args.old) ≡ None) }
-{
-    Ok(Call::RunWriteAttrs(
-        given!(args.number()),
-        given!(args.signed()),
-        given!(args.signed()),
-        given!(args.list()),
-    ))
-}
-
-#[tactic(auto, unfolding(crate::specs::Table::row_of_cells))]
-fn scroll<A: Arguments>(args: &mut A) -> Result<Call, Misread>
-    ensures ok { IfOk result (λ c. row_from (row_of_cells (codes "scroll")) (A.left args.old) ≡ Some (c, A.left args.new)) }
-    ensures form { IfErr result (λ e. IsForm e → row_from (row_of_cells (codes "scroll")) (A.left args.old) ≡ None) }
+/// A scroll of which the handle and the source are read.
+fn scroll<A: Arguments>(handle: u32, source: Rect, args: &mut A) -> Result<Call, Misread>
+    ensures ok { IfOk result (λ c. (name_of c ≡ word_area on_area.Scroll)
+        × (before (Number handle ∷ Area source ∷ []) (args_from (kinds_area on_area.Scroll) (A.left args.old)) ≡ Some (args_of c, A.left args.new))) }
+    ensures form { IfErr result (λ e. IsForm e → args_from (kinds_area on_area.Scroll) (A.left args.old) ≡ None) }
 {
     Ok(Call::Scroll(
-        given!(args.number()),
-        given!(args.rect()),
+        handle,
+        source,
         given!(args.clip()),
         given!(args.signed()),
         given!(args.signed()),
@@ -183,75 +106,98 @@ fn scroll<A: Arguments>(args: &mut A) -> Result<Call, Misread>
     ))
 }
 
-#[tactic(auto, unfolding(crate::specs::Table::row_of_lines))]
-fn lines_call<A: Arguments>(name: &str, args: &mut A) -> Result<Call, Misread>
-    ensures ok { IfOk result (λ c. row_from (row_of_lines name.now) (A.left args.old) ≡ Some (c, A.left args.new)) }
-    ensures form { IfErr result (λ e. IsForm e → row_from (row_of_lines name.now) (A.left args.old) ≡ None) }
+/// A call that begins with a handle and a rectangle, which are read.
+fn area_call<A: Arguments>(
+    name: OnArea,
+    handle: u32,
+    area: Rect,
+    args: &mut A,
+) -> Result<Call, Misread>
+    ensures ok { IfOk result (λ c. (name_of c ≡ word_area name)
+        × (before (Number handle ∷ Area area ∷ []) (args_from (kinds_area name) (A.left args.old)) ≡ Some (args_of c, A.left args.new))) }
+    ensures form { IfErr result (λ e. IsForm e → args_from (kinds_area name) (A.left args.old) ≡ None) }
 {
     match name {
-        "peek" => {
-            let (handle, count) = given!(two_numbers(args));
-            Ok(Call::Peek(handle, count))
-        }
-        "write-input" => write_input(args),
-        "count" => Ok(Call::Count(given!(args.number()))),
-        "flush" => Ok(Call::Flush(given!(args.number()))),
-        "history-info" => Ok(Call::HistoryInfo),
-        "set-history" => {
-            let (lines, histories, flag) = given!(three_numbers(args));
-            Ok(Call::SetHistory(lines, histories, flag))
-        }
-        "history-list" => Ok(Call::HistoryList),
-        "history-clear" => Ok(Call::HistoryClear),
-        "alias-add" => alias_add(args),
-        "alias-remove" => {
-            let (program, source) = given!(two_texts(args));
-            Ok(Call::AliasRemove(program, source))
-        }
-        "alias-get" => {
-            let (program, source) = given!(two_texts(args));
-            Ok(Call::AliasGet(program, source))
-        }
-        "alias-list" => Ok(Call::AliasList(given!(args.text()))),
-        _ => processes_call(name, args),
+        OnArea::RectRead => Ok(Call::RectRead(handle, area)),
+        OnArea::RectWrite => Ok(Call::RectWrite(
+            handle,
+            area,
+            given!(args.text()),
+            given!(args.words()),
+        )),
+        OnArea::Scroll => scroll(handle, area, args),
     }
 }
 
-#[tactic(auto, unfolding(crate::specs::Table::row_of_lines))]
-fn write_input<A: Arguments>(args: &mut A) -> Result<Call, Misread>
-    ensures ok { IfOk result (λ c. row_from (row_of_lines (codes "write-input")) (A.left args.old) ≡ Some (c, A.left args.new)) }
-    ensures form { IfErr result (λ e. IsForm e → row_from (row_of_lines (codes "write-input")) (A.left args.old) ≡ None) }
-{
-    Ok(Call::WriteInput(given!(args.number()), given!(args.records())))
-}
-
-#[tactic(auto, unfolding(crate::specs::Table::row_of_lines))]
-fn alias_add<A: Arguments>(args: &mut A) -> Result<Call, Misread>
-    ensures ok { IfOk result (λ c. row_from (row_of_lines (codes "alias-add")) (A.left args.old) ≡ Some (c, A.left args.new)) }
-    ensures form { IfErr result (λ e. IsForm e → row_from (row_of_lines (codes "alias-add")) (A.left args.old) ≡ None) }
-{
-    Ok(Call::AliasAdd(
-        given!(args.text()),
-        given!(args.text()),
-        given!(args.text()),
-    ))
-}
-
-#[tactic(auto, unfolding(crate::specs::Table::row_of_processes))]
-fn processes_call<A: Arguments>(name: &str, args: &mut A) -> Result<Call, Misread>
-    ensures ok { IfOk result (λ c. row_from (row_of_processes name.now) (A.left args.old) ≡ Some (c, A.left args.new)) }
-    ensures form { IfErr result (λ e. IsForm e → row_from (row_of_processes name.now) (A.left args.old) ≡ None) }
+/// A call that begins with a number, which is read.
+fn handle_call<A: Arguments>(name: OnHandle, handle: u32, args: &mut A) -> Result<Call, Misread>
+    ensures ok { IfOk result (λ c. (name_of c ≡ word_handle name)
+        × (before (Number handle ∷ []) (args_from (kinds_handle name) (A.left args.old)) ≡ Some (args_of c, A.left args.new))) }
+    ensures form { IfErr result (λ e. IsForm e → args_from (kinds_handle name) (A.left args.old) ≡ None) }
 {
     match name {
-        "processes" => Ok(Call::Processes),
-        "signal" => {
-            let (event, group) = given!(two_numbers(args));
-            Ok(Call::Signal(event, group))
+        OnHandle::BufferCreate => Ok(Call::BufferCreate(handle)),
+        OnHandle::OpenOut => Ok(Call::OpenOut(handle)),
+        OnHandle::OpenIn => Ok(Call::OpenIn(handle)),
+        OnHandle::Close => Ok(Call::Close(handle)),
+        OnHandle::Activate => Ok(Call::Activate(handle)),
+        OnHandle::Mode => Ok(Call::Mode(handle)),
+        OnHandle::Info => Ok(Call::Info(handle)),
+        OnHandle::CursorInfo => Ok(Call::CursorInfo(handle)),
+        OnHandle::Count => Ok(Call::Count(handle)),
+        OnHandle::Flush => Ok(Call::Flush(handle)),
+        OnHandle::HandlerAdd => Ok(Call::HandlerAdd(handle)),
+        OnHandle::HandlerRemove => Ok(Call::HandlerRemove(handle)),
+        OnHandle::SetAttr => Ok(Call::SetAttr(handle, given!(args.unit()))),
+        OnHandle::Write => Ok(Call::Write(handle, given!(args.text()))),
+        OnHandle::WriteInput => Ok(Call::WriteInput(handle, given!(args.records()))),
+        OnHandle::Number(name) => {
+            let second = given!(args.number());
+            number_call(name, handle, second, args)
         }
-        "ignore" => Ok(Call::Ignore(given!(args.flag()))),
-        "handler-add" => Ok(Call::HandlerAdd(given!(args.number()))),
-        "handler-remove" => Ok(Call::HandlerRemove(given!(args.number()))),
-        _ => Err(Misread::Form),
+        OnHandle::Place(name) => {
+            let x = given!(args.signed());
+            let y = given!(args.signed());
+            place_call(name, handle, x, y, args)
+        }
+        OnHandle::Area(name) => {
+            let area = given!(args.rect());
+            area_call(name, handle, area, args)
+        }
+    }
+}
+
+/// A call that begins with a text, which is read.
+fn text_call<A: Arguments>(name: OnText, first: Units, args: &mut A) -> Result<Call, Misread>
+    ensures ok { IfOk result (λ c. (name_of c ≡ word_text name)
+        × (before (Text first ∷ []) (args_from (kinds_text name) (A.left args.old)) ≡ Some (args_of c, A.left args.new))) }
+    ensures form { IfErr result (λ e. IsForm e → args_from (kinds_text name) (A.left args.old) ≡ None) }
+{
+    match name {
+        OnText::SetTitle => Ok(Call::SetTitle(first)),
+        OnText::AliasList => Ok(Call::AliasList(first)),
+        OnText::AliasRemove => Ok(Call::AliasRemove(first, given!(args.text()))),
+        OnText::AliasGet => Ok(Call::AliasGet(first, given!(args.text()))),
+        OnText::AliasAdd => Ok(Call::AliasAdd(first, given!(args.text()), given!(args.text()))),
+    }
+}
+
+/// The call that a name stands for, with its arguments taken.
+fn named_call<A: Arguments>(name: Name, args: &mut A) -> Result<Call, Misread>
+    ensures ok { IfOk result (λ c. (name_of c ≡ word name) × (args_from (kinds name) (A.left args.old) ≡ Some (args_of c, A.left args.new))) }
+    ensures form { IfErr result (λ e. IsForm e → args_from (kinds name) (A.left args.old) ≡ None) }
+{
+    match name {
+        Name::Bare(name) => Ok(bare_call(name)),
+        Name::Handle(name) => {
+            let handle = given!(args.number());
+            handle_call(name, handle, args)
+        }
+        Name::Text(name) => {
+            let first = given!(args.text());
+            text_call(name, first, args)
+        }
+        Name::Ignore => Ok(Call::Ignore(given!(args.flag()))),
     }
 }
 
@@ -260,7 +206,10 @@ pub fn read_call<A: Arguments>(name: &str, args: &mut A) -> Result<Call, Misread
     ensures ok { IfOk result (λ c. call_from name.now (A.left args.old) ≡ Some (c, A.left args.new)) }
     ensures form { IfErr result (λ e. IsForm e → call_from name.now (A.left args.old) ≡ None) }
 {
-    handles_call(name, args)
+    match call_named(name) {
+        Some(name) => named_call(name, args),
+        None => Err(Misread::Form),
+    }
 }
 
 /// The call of a name, with nothing after its arguments.
