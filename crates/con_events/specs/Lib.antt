@@ -10,3 +10,4 @@ pub mod Fits
 -- The code's own words.
 pub mod Same
 pub mod Names
+pub mod Shapes

@@ -32,6 +32,7 @@ macro_rules! given {
 }
 
 pub mod actor;
+mod args;
 pub mod arguments;
 pub mod call;
 pub mod end;

@@ -217,10 +217,10 @@ pub fn whole_call<A: Arguments>(name: &str, args: &mut A) -> Result<Call, Misrea
     ensures ok { IfOk result (λ c. whole (call_from name.now (A.left args.old)) ≡ Some c) }
     ensures form { IfErr result (λ e. IsForm e → whole (call_from name.now (A.left args.old)) ≡ None) }
 {
-    let call = given!(read_call(name, args));
+    let call = read_call(name, args);
     if args.is_done() {
-        Ok(call)
+        call
     } else {
-        Err(Misread::Form)
+        call.and(Err(Misread::Form))
     }
 }

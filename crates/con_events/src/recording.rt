@@ -72,11 +72,11 @@ pub fn whole_record<A: Arguments>(name: &str, args: &mut A) -> Result<Record, Mi
     ensures ok { IfOk result (λ r. whole (row_from (row_of_record name.now) (A.left args.old)) ≡ Some r) }
     ensures form { IfErr result (λ e. IsForm e → whole (row_from (row_of_record name.now) (A.left args.old)) ≡ None) }
 {
-    let record = given!(read_record(name, args));
+    let record = read_record(name, args);
     if args.is_done() {
-        Ok(record)
+        record
     } else {
-        Err(Misread::Form)
+        record.and(Err(Misread::Form))
     }
 }
 
@@ -93,14 +93,19 @@ pub fn record_name(input: &Record) -> &'static str
     }
 }
 
-/// Tells a record's fields in order.
+/// Tells a record's fields in order. What stands behind one that could not be told is told all the same: nobody reads it.
 pub fn tell_record<S: Shows>(input: &Record, out: &mut S) -> Result<(), OutOfMemory>
     ensures { IfOk result (λ _. out.new ≡ put_all S.put out.old (args_of_record input.now)) }
 {
     match input {
         Record::Key(key) => tell_key(*key, out),
-        Record::Mouse(mouse) => tell_mouse(*mouse, out),
-        Record::Size(size) => tell_size(*size, out),
+        Record::Mouse(mouse) => out
+            .signed(mouse.x)
+            .and(out.signed(mouse.y))
+            .and(out.number(mouse.buttons))
+            .and(out.number(mouse.state))
+            .and(out.number(mouse.flags)),
+        Record::Size(size) => out.unit(size.w).and(out.unit(size.h)),
         Record::Menu(number) => out.number(*number),
         Record::Focus(set) => out.flag(*set),
     }
@@ -109,27 +114,10 @@ pub fn tell_record<S: Shows>(input: &Record, out: &mut S) -> Result<(), OutOfMem
 fn tell_key<S: Shows>(key: Key, out: &mut S) -> Result<(), OutOfMemory>
     ensures { IfOk result (λ _. out.new ≡ put_all S.put out.old (args_of_record (record_of.Key key))) }
 {
-    given!(out.flag(key.down));
-    given!(out.unit(key.repeat));
-    given!(out.unit(key.vk));
-    given!(out.unit(key.scan));
-    given!(out.unit(key.unit));
-    out.number(key.state)
-}
-
-fn tell_mouse<S: Shows>(mouse: Mouse, out: &mut S) -> Result<(), OutOfMemory>
-    ensures { IfOk result (λ _. out.new ≡ put_all S.put out.old (args_of_record (record_of.Mouse mouse))) }
-{
-    given!(out.signed(mouse.x));
-    given!(out.signed(mouse.y));
-    given!(out.number(mouse.buttons));
-    given!(out.number(mouse.state));
-    out.number(mouse.flags)
-}
-
-fn tell_size<S: Shows>(size: Size, out: &mut S) -> Result<(), OutOfMemory>
-    ensures { IfOk result (λ _. out.new ≡ put_all S.put out.old (args_of_record (record_of.Size size))) }
-{
-    given!(out.unit(size.w));
-    out.unit(size.h)
+    out.flag(key.down)
+        .and(out.unit(key.repeat))
+        .and(out.unit(key.vk))
+        .and(out.unit(key.scan))
+        .and(out.unit(key.unit))
+        .and(out.number(key.state))
 }

@@ -2,8 +2,10 @@
 
 ghost use Rattle.std.specs.Prelude.{◌≡◌, List, [], ◌∷◌, IfOk};
 ghost use Rattle.con_events.specs.Arg.{put_all, Arg, Number, Signed, OneUnit, Flag, Text, Area, Clip, WordsOf, WordList, Records};
+ghost use Rattle.con_events.specs.Shapes.{told};
 ghost use Rattle.con_events.specs.Table.{name_of, args_of};
 
+use crate::args::{Args, arguments_of};
 use crate::call::{Call, Words};
 use con_records::Taken;
 use con_units::{OutOfMemory, Rect, Units};
@@ -95,176 +97,56 @@ pub fn name(call: &Call) -> &'static str
     }
 }
 
-/// A call's arguments, in order.
-pub fn tell<S: Shows>(call: &Call, out: &mut S) -> Result<(), OutOfMemory>
-    ensures { IfOk result (λ _. out.new ≡ put_all S.put out.old (args_of call.now)) }
+/// Tells arguments. What stands behind one that could not be told is told all the same: nobody reads it.
+fn tell_args<S: Shows>(args: Args<'_>, out: &mut S) -> Result<(), OutOfMemory>
+    ensures { IfOk result (λ _. out.new ≡ put_all S.put out.old (told args.entry)) }
 {
-    match call {
-        Call::Title
-        | Call::HistoryInfo
-        | Call::HistoryList
-        | Call::HistoryClear
-        | Call::Processes => Ok(()),
-        Call::BufferCreate(a)
-        | Call::OpenOut(a)
-        | Call::OpenIn(a)
-        | Call::Close(a)
-        | Call::Activate(a)
-        | Call::Mode(a)
-        | Call::Info(a)
-        | Call::CursorInfo(a)
-        | Call::Count(a)
-        | Call::Flush(a)
-        | Call::HandlerAdd(a)
-        | Call::HandlerRemove(a) => out.number(*a),
-        Call::Duplicate(a, b) | Call::SetMode(a, b) | Call::Peek(a, b) | Call::Signal(a, b) =>
-            tell_two_numbers(*a, *b, out),
-        Call::SetSize(a, b, c) | Call::SetHistory(a, b, c) => tell_three_numbers(*a, *b, *c, out),
-        Call::SetCursor(a, b, c) | Call::SetOrigin(a, b, c) => tell_place(*a, *b, *c, out),
-        Call::SetCursorInfo(a, b, c) => tell_cursor_info(*a, *b, *c, out),
-        Call::SetAttr(a, b) => tell_attr(*a, *b, out),
-        Call::SetTitle(a) | Call::AliasList(a) => out.text(a),
-        Call::Write(a, b) => tell_write(*a, b, out),
-        Call::RectRead(a, b) => tell_rect(*a, *b, out),
-        Call::RectWrite(a, b, c, d) => tell_cells(*a, *b, c, d, out),
-        Call::RunReadUnits(a, b, c, d) | Call::RunReadAttrs(a, b, c, d) => tell_run(
-            *a, *b, *c, *d, out,
-        ),
-        Call::RunWriteUnits(a, b, c, d) => tell_units(*a, *b, *c, d, out),
-        Call::RunWriteAttrs(a, b, c, d) => tell_attrs(*a, *b, *c, d, out),
-        Call::FillUnits(a, b, c, d, e) | Call::FillAttrs(a, b, c, d, e) => tell_fill(
-            *a, *b, *c, *d, *e, out,
-        ),
-        Call::Scroll(a, b, c, d, e, f, g) => tell_scroll(*a, *b, *c, (*d, *e), (*f, *g), out),
-        Call::WriteInput(a, b) => tell_records(*a, b, out),
-        Call::AliasAdd(a, b, c) => tell_three_texts(a, b, c, out),
-        Call::AliasRemove(a, b) | Call::AliasGet(a, b) => tell_two_texts(a, b, out),
-        Call::Ignore(a) => out.flag(*a),
+    match args {
+        Args::Nothing => Ok(()),
+        Args::Number(a) => out.number(a),
+        Args::TwoNumbers(a, b) => out.number(a).and(out.number(b)),
+        Args::ThreeNumbers(a, b, c) => out.number(a).and(out.number(b)).and(out.number(c)),
+        Args::CursorInfo(a, b, shows) => out.number(a).and(out.number(b)).and(out.flag(shows)),
+        Args::Place(a, x, y) => out.number(a).and(out.signed(x)).and(out.signed(y)),
+        Args::Run(a, x, y, n) => out
+            .number(a)
+            .and(out.signed(x))
+            .and(out.signed(y))
+            .and(out.number(n)),
+        Args::Fill(a, x, y, n, with) => out
+            .number(a)
+            .and(out.signed(x))
+            .and(out.signed(y))
+            .and(out.number(n))
+            .and(out.unit(with)),
+        Args::Units(a, x, y, units) => out
+            .number(a)
+            .and(out.signed(x))
+            .and(out.signed(y))
+            .and(out.text(units)),
+        Args::Attrs(a, x, y, words) => out
+            .number(a)
+            .and(out.signed(x))
+            .and(out.signed(y))
+            .and(out.list(words)),
+        Args::Attr(a, word) => out.number(a).and(out.unit(word)),
+        Args::Write(a, units) => out.number(a).and(out.text(units)),
+        Args::Records(a, input) => out.number(a).and(out.records(input)),
+        Args::Area(a, area) => out.number(a).and(out.rect(area)),
+        Args::Cells(a, area, units, words) => out
+            .number(a)
+            .and(out.rect(area))
+            .and(out.text(units))
+            .and(out.words(words)),
+        Args::Scroll(a, source, clip, to, fill) => tell_scroll(a, source, clip, to, fill, out),
+        Args::Text(a) => out.text(a),
+        Args::TwoTexts(a, b) => out.text(a).and(out.text(b)),
+        Args::ThreeTexts(a, b, c) => out.text(a).and(out.text(b)).and(out.text(c)),
+        Args::Flag(a) => out.flag(a),
     }
 }
 
-fn tell_two_numbers<S: Shows>(a: u32, b: u32, out: &mut S) -> Result<(), OutOfMemory>
-    ensures { IfOk result (λ _. out.new ≡ put_all S.put out.old (Number a ∷ Number b ∷ [])) }
-{
-    given!(out.number(a));
-    out.number(b)
-}
-
-fn tell_three_numbers<S: Shows>(a: u32, b: u32, c: u32, out: &mut S) -> Result<(), OutOfMemory>
-    ensures { IfOk result (λ _. out.new ≡ put_all S.put out.old (Number a ∷ Number b ∷ Number c ∷ [])) }
-{
-    given!(tell_two_numbers(a, b, out));
-    out.number(c)
-}
-
-fn tell_place<S: Shows>(handle: u32, x: i16, y: i16, out: &mut S) -> Result<(), OutOfMemory>
-    ensures { IfOk result (λ _. out.new ≡ put_all S.put out.old (Number handle ∷ Signed x ∷ Signed y ∷ [])) }
-{
-    given!(out.number(handle));
-    given!(out.signed(x));
-    out.signed(y)
-}
-
-fn tell_cursor_info<S: Shows>(
-    handle: u32,
-    percent: u32,
-    shows: bool,
-    out: &mut S,
-) -> Result<(), OutOfMemory>
-    ensures { IfOk result (λ _. out.new ≡ put_all S.put out.old (Number handle ∷ Number percent ∷ Flag shows ∷ [])) }
-{
-    given!(tell_two_numbers(handle, percent, out));
-    out.flag(shows)
-}
-
-fn tell_attr<S: Shows>(handle: u32, word: u16, out: &mut S) -> Result<(), OutOfMemory>
-    ensures { IfOk result (λ _. out.new ≡ put_all S.put out.old (Number handle ∷ OneUnit word ∷ [])) }
-{
-    given!(out.number(handle));
-    out.unit(word)
-}
-
-fn tell_write<S: Shows>(handle: u32, units: &Units, out: &mut S) -> Result<(), OutOfMemory>
-    ensures { IfOk result (λ _. out.new ≡ put_all S.put out.old (Number handle ∷ Text units.now ∷ [])) }
-{
-    given!(out.number(handle));
-    out.text(units)
-}
-
-fn tell_rect<S: Shows>(handle: u32, area: Rect, out: &mut S) -> Result<(), OutOfMemory>
-    ensures { IfOk result (λ _. out.new ≡ put_all S.put out.old (Number handle ∷ Area area ∷ [])) }
-{
-    given!(out.number(handle));
-    out.rect(area)
-}
-
-fn tell_cells<S: Shows>(
-    handle: u32,
-    area: Rect,
-    units: &Units,
-    attrs: &Words,
-    out: &mut S,
-) -> Result<(), OutOfMemory>
-    ensures { IfOk result (λ _. out.new ≡ put_all S.put out.old (Number handle ∷ Area area ∷ Text units.now ∷ WordsOf attrs.now ∷ [])) }
-{
-    given!(tell_rect(handle, area, out));
-    given!(out.text(units));
-    out.words(attrs)
-}
-
-fn tell_run<S: Shows>(
-    handle: u32,
-    x: i16,
-    y: i16,
-    count: u32,
-    out: &mut S,
-) -> Result<(), OutOfMemory>
-    ensures { IfOk result (λ _. out.new ≡ put_all S.put out.old (Number handle ∷ Signed x ∷ Signed y ∷ Number count ∷ [])) }
-{
-    given!(tell_place(handle, x, y, out));
-    out.number(count)
-}
-
-fn tell_units<S: Shows>(
-    handle: u32,
-    x: i16,
-    y: i16,
-    units: &Units,
-    out: &mut S,
-) -> Result<(), OutOfMemory>
-    ensures { IfOk result (λ _. out.new ≡ put_all S.put out.old (Number handle ∷ Signed x ∷ Signed y ∷ Text units.now ∷ [])) }
-{
-    given!(tell_place(handle, x, y, out));
-    out.text(units)
-}
-
-fn tell_attrs<S: Shows>(
-    handle: u32,
-    x: i16,
-    y: i16,
-    attrs: &Units,
-    out: &mut S,
-) -> Result<(), OutOfMemory>
-    ensures { IfOk result (λ _. out.new ≡ put_all S.put out.old (Number handle ∷ Signed x ∷ Signed y ∷ WordList attrs.now ∷ [])) }
-{
-    given!(tell_place(handle, x, y, out));
-    out.list(attrs)
-}
-
-fn tell_fill<S: Shows>(
-    handle: u32,
-    x: i16,
-    y: i16,
-    count: u32,
-    with: u16,
-    out: &mut S,
-) -> Result<(), OutOfMemory>
-    ensures { IfOk result (λ _. out.new ≡ put_all S.put out.old (Number handle ∷ Signed x ∷ Signed y ∷ Number count ∷ OneUnit with ∷ [])) }
-{
-    given!(tell_run(handle, x, y, count, out));
-    out.unit(with)
-}
-
+/// Tells the arguments of a scroll.
 fn tell_scroll<S: Shows>(
     handle: u32,
     source: Rect,
@@ -276,36 +158,18 @@ fn tell_scroll<S: Shows>(
     ensures { IfOk result (λ _. out.new ≡ put_all S.put out.old
         (Number handle ∷ Area source ∷ Clip clip ∷ Signed to.0 ∷ Signed to.1 ∷ OneUnit fill.0 ∷ OneUnit fill.1 ∷ [])) }
 {
-    given!(tell_rect(handle, source, out));
-    given!(out.clip(clip));
-    given!(out.signed(to.0));
-    given!(out.signed(to.1));
-    given!(out.unit(fill.0));
-    out.unit(fill.1)
+    out.number(handle)
+        .and(out.rect(source))
+        .and(out.clip(clip))
+        .and(out.signed(to.0))
+        .and(out.signed(to.1))
+        .and(out.unit(fill.0))
+        .and(out.unit(fill.1))
 }
 
-fn tell_records<S: Shows>(handle: u32, input: &Taken, out: &mut S) -> Result<(), OutOfMemory>
-    ensures { IfOk result (λ _. out.new ≡ put_all S.put out.old (Number handle ∷ Records input.now ∷ [])) }
+/// A call's arguments, in order.
+pub fn tell<S: Shows>(call: &Call, out: &mut S) -> Result<(), OutOfMemory>
+    ensures { IfOk result (λ _. out.new ≡ put_all S.put out.old (args_of call.now)) }
 {
-    given!(out.number(handle));
-    out.records(input)
-}
-
-fn tell_two_texts<S: Shows>(a: &Units, b: &Units, out: &mut S) -> Result<(), OutOfMemory>
-    ensures { IfOk result (λ _. out.new ≡ put_all S.put out.old (Text a.now ∷ Text b.now ∷ [])) }
-{
-    given!(out.text(a));
-    out.text(b)
-}
-
-fn tell_three_texts<S: Shows>(
-    a: &Units,
-    b: &Units,
-    c: &Units,
-    out: &mut S,
-) -> Result<(), OutOfMemory>
-    ensures { IfOk result (λ _. out.new ≡ put_all S.put out.old (Text a.now ∷ Text b.now ∷ Text c.now ∷ [])) }
-{
-    given!(tell_two_texts(a, b, out));
-    out.text(c)
+    tell_args(arguments_of(call), out)
 }
