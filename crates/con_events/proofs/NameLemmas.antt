@@ -1,26 +1,19 @@
 -- A call is read by what its name stands for.
-use Rattle.std.proofs.Common.{◌≡◌, refl, sym, subst, ℕ, map, List, [], ◌∷◌, Option, None, Some, Result, Ok, Err, Bool, true, false, Bor, ◌++◌, ◌∙◌}
+use Rattle.std.proofs.Common.{◌≡◌, refl, sym, subst, ℕ, List, [], ◌∷◌, Option, None, Some, Result, Ok, Err, Bool, true, false, Bor, ◌++◌, ◌∙◌}
 use Rattle.std.specs.Prelude.{if◌then◌else◌, IfSome, IfNone, IfOk, IfErr}
 use Rattle.std.specs.Str.{bytes_eq}
 use Rattle.std.proofs.lemmas.Slice.Eq.{bytes_eq-Decides}
 use Rattle.con_events.specs.declared.call.Call.{Call}
-use Rattle.con_events.specs.declared.names.Bare.{Bare}
 use Rattle.con_events.specs.declared.names.Bare.TheVariants as of_bare
-use Rattle.con_events.specs.declared.names.OnNumber.{OnNumber}
 use Rattle.con_events.specs.declared.names.OnNumber.TheVariants as of_onnumber
-use Rattle.con_events.specs.declared.names.OnRun.{OnRun}
 use Rattle.con_events.specs.declared.names.OnRun.TheVariants as of_onrun
-use Rattle.con_events.specs.declared.names.OnPlace.{OnPlace}
 use Rattle.con_events.specs.declared.names.OnPlace.TheVariants as of_onplace
-use Rattle.con_events.specs.declared.names.OnArea.{OnArea}
 use Rattle.con_events.specs.declared.names.OnArea.TheVariants as of_onarea
-use Rattle.con_events.specs.declared.names.OnHandle.{OnHandle}
 use Rattle.con_events.specs.declared.names.OnHandle.TheVariants as of_onhandle
-use Rattle.con_events.specs.declared.names.OnText.{OnText}
 use Rattle.con_events.specs.declared.names.OnText.TheVariants as of_ontext
 use Rattle.con_events.specs.declared.names.Name.{Name}
 use Rattle.con_events.specs.declared.names.Name.TheVariants as of_name
-use Rattle.con_events.specs.Arg.{Arg, Kind}
+use Rattle.con_events.specs.Arg.{Kind}
 use Rattle.con_events.specs.Names.{word, kinds, looked_up}
 use Rattle.con_events.specs.Table.{name_of, args_of, Row, find, row_of, Tells, row_of_handles, row_of_screens, row_of_cells, row_of_lines, row_of_processes}
 use Rattle.con_events.specs.Table.{handles_rows, screens_rows, cells_rows, lines_rows, processes_rows}

@@ -1,10 +1,12 @@
 //! Whether two events are the same, or two of their parts, or two replies.
 ghost use Rattle.std.specs.Prelude.{◌≡◌, ◌↔◌, true};
-ghost use Rattle.con_events.specs.Same.{group_of};
+ghost use Rattle.con_events.specs.Shapes.{shape_of, told};
 
+use crate::args::{Args, arguments_of};
 use crate::call::{Call, Words};
 use crate::event::{Event, Wanted};
 use crate::reply::Reply;
+use crate::telling::name;
 use con_records::Record;
 use con_units::{Bytes, Cell, Rect, Units, View};
 
@@ -84,8 +86,8 @@ fn same_clip(a: &Option<Rect>, b: &Option<Rect>) -> bool
     }
 }
 
-// Whether two targets of a scroll are the same: column, row, and the unit and word of the fill.
-fn same_target(a: (i16, i16, u16, u16), b: (i16, i16, u16, u16)) -> bool
+// Whether two targets of a scroll are the same: column and row, and the unit and word of the fill.
+fn same_target(a: ((i16, i16), (u16, u16)), b: ((i16, i16), (u16, u16))) -> bool
     ensures { (result ≡ true) ↔ (a ≡ b) }
 {
     a == b
@@ -102,135 +104,80 @@ fn same_words(a: &Words, b: &Words) -> bool
     }
 }
 
-// Whether two calls are the same, and of handles and their modes.
-fn same_handles(call: &Call, other: &Call) -> bool
-    ensures { (result ≡ true) ↔ ((group_of call.now ≡ 0) × (call.now ≡ other.now)) }
+// Whether two calls' arguments are the same, and numbers alone.
+fn same_numbers_of(args: &Args<'_>, other: &Args<'_>) -> bool
+    ensures { (result ≡ true) ↔ ((shape_of args.now ≡ 0) × (told args.now ≡ told other.now)) }
 {
-    match (call, other) {
-        (Call::BufferCreate(a), Call::BufferCreate(h)) => *a == *h,
-        (Call::OpenOut(a), Call::OpenOut(h)) => *a == *h,
-        (Call::OpenIn(a), Call::OpenIn(h)) => *a == *h,
-        (Call::Close(a), Call::Close(h)) => *a == *h,
-        (Call::Duplicate(a, b), Call::Duplicate(h, i)) => *a == *h && *b == *i,
-        (Call::Activate(a), Call::Activate(h)) => *a == *h,
-        (Call::Mode(a), Call::Mode(h)) => *a == *h,
-        (Call::SetMode(a, b), Call::SetMode(h, i)) => *a == *h && *b == *i,
-        _ => false,
-    }
-}
-
-// Whether two calls are the same, and of a screen.
-fn same_screens(call: &Call, other: &Call) -> bool
-    ensures { (result ≡ true) ↔ ((group_of call.now ≡ 1) × (call.now ≡ other.now)) }
-{
-    match (call, other) {
-        (Call::Info(a), Call::Info(h)) => *a == *h,
-        (Call::SetSize(a, b, c), Call::SetSize(h, i, j)) => *a == *h && *b == *i && *c == *j,
-        (Call::SetCursor(a, b, c), Call::SetCursor(h, i, j)) => *a == *h && *b == *i && *c == *j,
-        (Call::CursorInfo(a), Call::CursorInfo(h)) => *a == *h,
-        (Call::SetCursorInfo(a, b, c), Call::SetCursorInfo(h, i, j)) => *a == *h
+    match (args, other) {
+        (Args::Nothing, Args::Nothing) => true,
+        (Args::Flag(a), Args::Flag(h)) => *a == *h,
+        (Args::Number(a), Args::Number(h)) => *a == *h,
+        (Args::Attr(a, b), Args::Attr(h, i)) => *a == *h && *b == *i,
+        (Args::TwoNumbers(a, b), Args::TwoNumbers(h, i)) => *a == *h && *b == *i,
+        (Args::ThreeNumbers(a, b, c), Args::ThreeNumbers(h, i, j)) => *a == *h
             && *b == *i
             && *c == *j,
-        (Call::SetOrigin(a, b, c), Call::SetOrigin(h, i, j)) => *a == *h && *b == *i && *c == *j,
-        (Call::SetAttr(a, b), Call::SetAttr(h, i)) => *a == *h && *b == *i,
-        (Call::Title, Call::Title) => true,
-        (Call::SetTitle(a), Call::SetTitle(h)) => same_units(a, h),
+        (Args::CursorInfo(a, b, c), Args::CursorInfo(h, i, j)) => *a == *h && *b == *i && *c == *j,
+        (Args::Place(a, b, c), Args::Place(h, i, j)) => *a == *h && *b == *i && *c == *j,
+        (Args::Run(a, b, c, d), Args::Run(h, i, j, k)) => *a == *h
+            && *b == *i
+            && *c == *j
+            && *d == *k,
+        (Args::Fill(a, b, c, d, e), Args::Fill(h, i, j, k, l)) => *a == *h
+            && *b == *i
+            && *c == *j
+            && *d == *k
+            && *e == *l,
         _ => false,
     }
 }
 
-// Whether two calls are the same, and of cells.
-fn same_cells(call: &Call, other: &Call) -> bool
-    ensures { (result ≡ true) ↔ ((group_of call.now ≡ 2) × (call.now ≡ other.now)) }
+// Whether two calls' arguments are the same, with a text, a rectangle or records among them.
+fn same_others_of(args: &Args<'_>, other: &Args<'_>) -> bool
+    ensures { (result ≡ true) ↔ ((shape_of args.now ≡ 1) × (told args.now ≡ told other.now)) }
 {
-    match (call, other) {
-        (Call::Write(a, b), Call::Write(h, i)) => *a == *h && same_units(b, i),
-        (Call::RectRead(a, b), Call::RectRead(h, i)) => *a == *h && same_rect(b, i),
-        (Call::RectWrite(a, b, c, d), Call::RectWrite(h, i, j, k)) => *a == *h
+    match (args, other) {
+        (Args::Text(a), Args::Text(h)) => same_units(a, h),
+        (Args::TwoTexts(a, b), Args::TwoTexts(h, i)) => same_units(a, h) && same_units(b, i),
+        (Args::ThreeTexts(a, b, c), Args::ThreeTexts(h, i, j)) => same_units(a, h)
+            && same_units(b, i)
+            && same_units(c, j),
+        (Args::Write(a, b), Args::Write(h, i)) => *a == *h && same_units(b, i),
+        (Args::Records(a, b), Args::Records(h, i)) => *a == *h
+            && same_records(b.0.as_slice(), i.0.as_slice()),
+        (Args::Units(a, b, c, d), Args::Units(h, i, j, k)) => *a == *h
+            && *b == *i
+            && *c == *j
+            && same_units(d, k),
+        (Args::Attrs(a, b, c, d), Args::Attrs(h, i, j, k)) => *a == *h
+            && *b == *i
+            && *c == *j
+            && same_units(d, k),
+        (Args::Area(a, b), Args::Area(h, i)) => *a == *h && same_rect(b, i),
+        (Args::Cells(a, b, c, d), Args::Cells(h, i, j, k)) => *a == *h
             && same_rect(b, i)
             && same_units(c, j)
             && same_words(d, k),
-        (Call::RunReadUnits(a, b, c, d), Call::RunReadUnits(h, i, j, k)) => *a == *h
-            && *b == *i
-            && *c == *j
-            && *d == *k,
-        (Call::RunReadAttrs(a, b, c, d), Call::RunReadAttrs(h, i, j, k)) => *a == *h
-            && *b == *i
-            && *c == *j
-            && *d == *k,
-        (Call::RunWriteUnits(a, b, c, d), Call::RunWriteUnits(h, i, j, k)) => *a == *h
-            && *b == *i
-            && *c == *j
-            && same_units(d, k),
-        (Call::RunWriteAttrs(a, b, c, d), Call::RunWriteAttrs(h, i, j, k)) => *a == *h
-            && *b == *i
-            && *c == *j
-            && same_units(d, k),
-        (Call::FillUnits(a, b, c, d, e), Call::FillUnits(h, i, j, k, l)) => *a == *h
-            && *b == *i
-            && *c == *j
-            && *d == *k
-            && *e == *l,
-        (Call::FillAttrs(a, b, c, d, e), Call::FillAttrs(h, i, j, k, l)) => *a == *h
-            && *b == *i
-            && *c == *j
-            && *d == *k
-            && *e == *l,
-        (Call::Scroll(a, b, c, d, e, f, g), Call::Scroll(h, i, j, k, l, m, n)) => *a == *h
+        (Args::Scroll(a, b, c, d, e), Args::Scroll(h, i, j, k, l)) => *a == *h
             && same_rect(b, i)
             && same_clip(c, j)
-            && same_target((*d, *e, *f, *g), (*k, *l, *m, *n)),
+            && same_target((*d, *e), (*k, *l)),
         _ => false,
     }
 }
 
-// Whether two calls are the same, and of the input, of lines and of aliases.
-fn same_lines(call: &Call, other: &Call) -> bool
-    ensures { (result ≡ true) ↔ ((group_of call.now ≡ 3) × (call.now ≡ other.now)) }
+// Whether two calls' arguments are the same.
+fn same_args(args: &Args<'_>, other: &Args<'_>) -> bool
+    ensures { (result ≡ true) ↔ (told args.now ≡ told other.now) }
 {
-    match (call, other) {
-        (Call::Peek(a, b), Call::Peek(h, i)) => *a == *h && *b == *i,
-        (Call::WriteInput(a, b), Call::WriteInput(h, i)) => *a == *h
-            && same_records(b.0.as_slice(), i.0.as_slice()),
-        (Call::Count(a), Call::Count(h)) => *a == *h,
-        (Call::Flush(a), Call::Flush(h)) => *a == *h,
-        (Call::HistoryInfo, Call::HistoryInfo) => true,
-        (Call::SetHistory(a, b, c), Call::SetHistory(h, i, j)) => *a == *h && *b == *i && *c == *j,
-        (Call::HistoryList, Call::HistoryList) => true,
-        (Call::HistoryClear, Call::HistoryClear) => true,
-        (Call::AliasAdd(a, b, c), Call::AliasAdd(h, i, j)) => same_units(a, h)
-            && same_units(b, i)
-            && same_units(c, j),
-        (Call::AliasRemove(a, b), Call::AliasRemove(h, i)) => same_units(a, h) && same_units(b, i),
-        (Call::AliasGet(a, b), Call::AliasGet(h, i)) => same_units(a, h) && same_units(b, i),
-        (Call::AliasList(a), Call::AliasList(h)) => same_units(a, h),
-        _ => false,
-    }
-}
-
-// Whether two calls are the same, and of processes.
-fn same_processes(call: &Call, other: &Call) -> bool
-    ensures { (result ≡ true) ↔ ((group_of call.now ≡ 4) × (call.now ≡ other.now)) }
-{
-    match (call, other) {
-        (Call::Processes, Call::Processes) => true,
-        (Call::Signal(a, b), Call::Signal(h, i)) => *a == *h && *b == *i,
-        (Call::Ignore(a), Call::Ignore(h)) => *a == *h,
-        (Call::HandlerAdd(a), Call::HandlerAdd(h)) => *a == *h,
-        (Call::HandlerRemove(a), Call::HandlerRemove(h)) => *a == *h,
-        _ => false,
-    }
+    same_numbers_of(args, other) || same_others_of(args, other)
 }
 
 /// Whether two calls are the same: of one name, with the same arguments.
 pub fn same_call(a: &Call, b: &Call) -> bool
     ensures { (result ≡ true) ↔ (a.now ≡ b.now) }
 {
-    same_handles(a, b)
-        || same_screens(a, b)
-        || same_cells(a, b)
-        || same_lines(a, b)
-        || same_processes(a, b)
+    name(a) == name(b) && same_args(&arguments_of(a), &arguments_of(b))
 }
 
 // Whether two lists of bytes are the same.
