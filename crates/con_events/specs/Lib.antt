@@ -8,6 +8,5 @@ pub mod Reading
 pub mod TableLaws
 pub mod Fits
 -- The code's own words.
-pub mod Same
 pub mod Names
 pub mod Shapes
