@@ -6,7 +6,7 @@ ghost use Rattle.con_machine.specs.Chain.{answers_to, asked_once, delivered_to, 
 ghost use Rattle.con_audit.specs.Links.{handlers_of};
 
 /// A handler: its place in the rack, its kind, and how often it was asked.
-#[derive(Clone, Copy, PartialEq, Eq, Debug)]
+#[derive(Clone, Copy, PartialEq, Eq)]
 pub struct Link {
     pub place: u32,
     pub kind: u8,

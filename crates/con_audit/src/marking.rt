@@ -14,7 +14,7 @@ use con_term::pen::{Layer, Place};
 use con_vtgram::{Csi, Found};
 
 /// Which of pen, visibility and cursor are known.
-#[derive(Clone, Copy, PartialEq, Eq, Debug)]
+#[derive(Clone, Copy, PartialEq, Eq)]
 pub struct Flags {
     pub pen: bool,
     pub visible: bool,

@@ -6,7 +6,7 @@ ghost use Rattle.con_cooked.specs.Cooked.{is_return};
 use con_records::{Key, Record};
 
 /// A key of an edited line, before the history is asked.
-#[derive(Clone, Copy, Debug, PartialEq, Eq)]
+#[derive(Clone, Copy, PartialEq, Eq)]
 pub enum LineKey {
     /// A unit.
     Unit(u16),

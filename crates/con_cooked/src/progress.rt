@@ -1,7 +1,7 @@
 //! What a press answers.
 
 /// What to draw of a line again: its units from `offset` to `end`, then `blanks` blanks, and the caret.
-#[derive(Clone, Copy, Debug, PartialEq, Eq)]
+#[derive(Clone, Copy, PartialEq, Eq)]
 pub struct Echo {
     /// The first place, from 0, at which the new line differs from the old one.
     pub offset: u16,
@@ -14,7 +14,7 @@ pub struct Echo {
 }
 
 /// Whether a read goes on after a press.
-#[derive(Clone, Copy, Debug, PartialEq, Eq)]
+#[derive(Clone, Copy, PartialEq, Eq)]
 pub enum Progress {
     /// It takes further records.
     Going(Echo),

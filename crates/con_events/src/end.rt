@@ -3,7 +3,7 @@
 use con_units::FrameFault;
 
 /// Why a session ended.
-#[derive(Clone, Copy, Debug, PartialEq, Eq, Drop)]
+#[derive(Clone, Copy, PartialEq, Eq, Drop)]
 pub enum End {
     /// Nobody had anything left to do.
     Done,

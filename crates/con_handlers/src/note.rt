@@ -5,7 +5,7 @@ ghost use Rattle.con_handlers.specs.Memory.{memory_of};
 use crate::handler::{CtrlHandler, one_more};
 
 /// Handles none, and only counts them.
-#[derive(Drop, Debug)]
+#[derive(Drop)]
 pub struct Note {
     asked: u64,
     last: u32,

@@ -5,7 +5,7 @@ ghost use Rattle.con_handlers.specs.Memory.{memory_of};
 use crate::handler::{CtrlHandler, one_more};
 
 /// Handles the first event that it is asked.
-#[derive(Drop, Debug)]
+#[derive(Drop)]
 pub struct Once {
     asked: u64,
     last: u32,

@@ -5,7 +5,7 @@ ghost use Rattle.con_handlers.specs.Memory.{memory_of};
 use crate::handler::{CtrlHandler, one_more};
 
 /// Handles every event.
-#[derive(Drop, Debug)]
+#[derive(Drop)]
 pub struct Swallow {
     asked: u64,
     last: u32,

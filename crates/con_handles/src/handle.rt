@@ -22,14 +22,14 @@ pub enum Kind {
 }
 
 /// An object and the rights to it: 1 to read (`GENERIC_READ`), 2 to write (`GENERIC_WRITE`), 3 for both.
-#[derive(Clone, Copy, PartialEq, Eq, Debug)]
+#[derive(Clone, Copy, PartialEq, Eq)]
 pub struct Held {
     pub object: Object,
     pub rights: u8,
 }
 
 /// A handle.
-#[derive(Clone, Copy, PartialEq, Eq, Debug)]
+#[derive(Clone, Copy, PartialEq, Eq)]
 pub struct Handle {
     /// The process that it belongs to, from 1 on.
     pub process: u8,

@@ -1,7 +1,7 @@
 //! The settings of line histories.
 
 /// The settings of line histories (`CONSOLE_HISTORY_INFO` of the Console API).
-#[derive(Clone, Copy, Debug, PartialEq, Eq)]
+#[derive(Clone, Copy, PartialEq, Eq)]
 pub struct HistoryInfo {
     /// How many lines a history keeps at most, from 1 to 999.
     pub lines: u32,

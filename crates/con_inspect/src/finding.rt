@@ -12,7 +12,7 @@ use con_trace::AuditLine;
 pub const NO_RUN: u8 = 13;
 
 /// What is found of four files, of which the first is a session's document.
-#[derive(Clone, Copy, Debug, PartialEq, Eq, Drop)]
+#[derive(Clone, Copy, PartialEq, Eq, Drop)]
 pub enum Finding {
     /// The report is none: its first line, from 0, that is wrong.
     WrongLine(u64),

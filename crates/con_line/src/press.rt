@@ -1,7 +1,7 @@
 //! The keys that edit a line.
 
 /// A key that edits a line.
-#[derive(Clone, Copy, Debug, PartialEq, Eq)]
+#[derive(Clone, Copy, PartialEq, Eq)]
 pub enum Press {
     /// Types this unit.
     Unit(u16),

@@ -3,7 +3,7 @@
 use con_units::FrameFault;
 
 /// Why no frame was read.
-#[derive(Clone, Copy, Debug, PartialEq, Eq, Drop)]
+#[derive(Clone, Copy, PartialEq, Eq, Drop)]
 pub enum LinkFault {
     /// The link's source failed.
     Failed,

@@ -11,7 +11,7 @@ use con_units::FrameFault;
 /// The most bytes that are taken from a link.
 pub const MOST: u64 = 16_777_216;
 
-#[derive(Clone, Copy, Debug, PartialEq, Eq, Drop)]
+#[derive(Clone, Copy, PartialEq, Eq, Drop)]
 pub enum Filled {
     Full,
     Cut,

@@ -13,7 +13,7 @@ use con_units::{Frame, Size};
 use std::alloc::Global;
 
 /// A frame of a link that may have a second terminal.
-#[derive(Debug, Drop)]
+#[derive(Drop)]
 pub enum MirrorFrame {
     /// A frame as every link has it.
     Plain(Frame),

@@ -7,7 +7,7 @@ use crate::report::Report;
 use con_records::Mouse;
 
 /// The buttons that are held.
-#[derive(Clone, Copy, Debug, PartialEq, Eq)]
+#[derive(Clone, Copy, PartialEq, Eq)]
 pub struct Buttons {
     /// The left one.
     pub left: bool,
@@ -18,7 +18,7 @@ pub struct Buttons {
 }
 
 /// A button that a report names.
-#[derive(Clone, Copy, Debug, PartialEq, Eq)]
+#[derive(Clone, Copy, PartialEq, Eq)]
 pub enum Button {
     Left,
     Middle,
@@ -26,7 +26,7 @@ pub enum Button {
 }
 
 /// What a report tells.
-#[derive(Clone, Copy, Debug, PartialEq, Eq)]
+#[derive(Clone, Copy, PartialEq, Eq)]
 pub enum Action {
     /// A wheel turned, by this motion in the high half.
     Wheel(u32),

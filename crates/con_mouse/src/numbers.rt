@@ -4,7 +4,7 @@ ghost use Rattle.std.specs.List.{list_all};
 ghost use Rattle.con_mouse.specs.Reports as spec;
 
 /// A number, and how many bytes it took.
-#[derive(Clone, Copy, Debug, PartialEq, Eq)]
+#[derive(Clone, Copy, PartialEq, Eq)]
 pub(crate) struct Front {
     pub value: u16,
     pub len: usize,

@@ -6,7 +6,7 @@ ghost use Rattle.con_mouse.specs.Reports.{IsReport};
 use crate::numbers::{field, number};
 
 /// What a terminal tells of the mouse.
-#[derive(Clone, Copy, Debug, PartialEq, Eq)]
+#[derive(Clone, Copy, PartialEq, Eq)]
 pub struct Report {
     /// The button and its flags, below 128: 4 shift, 8 alt, 16 ctrl, 32 a move, 64 a wheel.
     pub b: u16,

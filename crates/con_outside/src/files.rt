@@ -11,7 +11,7 @@ use crate::traits::Fault;
 pub const MOST: usize = 16_777_216;
 
 /// What was found under a name.
-#[derive(Clone, Copy, Debug, PartialEq, Eq, Drop)]
+#[derive(Clone, Copy, PartialEq, Eq, Drop)]
 pub enum Found {
     /// The file, whole.
     Whole,

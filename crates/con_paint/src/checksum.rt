@@ -5,7 +5,7 @@ ghost use Rattle.con_paint.specs.Checksum.{shade_number, cell_number, next_check
 use con_units::{Cell, Shade};
 
 /// The checksums of a row: as it was painted last, and as it is in the view that is painted.
-#[derive(Clone, Copy, Debug)]
+#[derive(Clone, Copy)]
 pub struct Checksums {
     pub was: u64,
     pub now: u64,

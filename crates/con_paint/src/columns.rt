@@ -86,7 +86,7 @@ fn column(
 }
 
 /// What is known behind some columns of a row, and how many these are.
-#[derive(Clone, Copy, Debug)]
+#[derive(Clone, Copy)]
 pub struct Reached {
     pub columns: usize,
     pub state: State,

@@ -16,7 +16,7 @@ use crate::spot::{Spot, State, go};
 use con_units::{Cell, Size, View, index_of};
 
 /// A cursor, counted from 0.
-#[derive(Clone, Copy, Debug)]
+#[derive(Clone, Copy)]
 pub struct Caret {
     pub x: u16,
     pub y: u16,

@@ -24,7 +24,7 @@ use con_units::{Attr, Cell, Size};
 
 /// What a lift leaves: the attribute of the pen, the cursor's place, whether the rows were lifted, and how many rows at most are
 /// to be painted then.
-#[derive(Clone, Copy, Debug)]
+#[derive(Clone, Copy)]
 pub(crate) struct Lifting {
     pub(crate) attr: Attr,
     pub(crate) spot: Spot,

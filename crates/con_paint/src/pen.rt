@@ -15,7 +15,7 @@ use crate::span::plain_attr;
 use con_units::{Attr, Shade, near};
 
 /// What a control sequence changes of a pen: all of it to what a terminal starts with, and then single parts.
-#[derive(Clone, Copy, Debug)]
+#[derive(Clone, Copy)]
 pub struct Changes {
     pub reset: bool,
     pub bold: bool,

@@ -17,7 +17,7 @@ use crate::spot::{Spot, State, go};
 use con_units::{Attr, Cell};
 
 /// The columns of a row that are printed, and whether those behind them are erased.
-#[derive(Clone, Copy, Debug)]
+#[derive(Clone, Copy)]
 pub struct Span {
     pub from: usize,
     pub upto: usize,

@@ -12,7 +12,7 @@ use crate::width::is_trusted;
 use con_units::Attr;
 
 /// A place, counted from 0, where the cursor stands with no wrap pending, if that is known.
-#[derive(Clone, Copy, Debug)]
+#[derive(Clone, Copy)]
 pub struct Spot {
     pub known: bool,
     pub x: u16,
@@ -20,7 +20,7 @@ pub struct Spot {
 }
 
 /// What is known between two rows: the attribute of the pen, and the cursor's place.
-#[derive(Clone, Copy, Debug)]
+#[derive(Clone, Copy)]
 pub struct State {
     pub attr: Attr,
     pub spot: Spot,

@@ -5,7 +5,7 @@ ghost use Rattle.con_readers.specs.Steps.{is_idle};
 use con_cooked::Echo;
 
 /// What happened in one step, and to which process's read.
-#[derive(Clone, Copy, PartialEq, Eq, Debug)]
+#[derive(Clone, Copy, PartialEq, Eq)]
 pub enum ReadStep {
     /// Nothing.
     Idle,

@@ -3,7 +3,7 @@
 use con_units::Size;
 
 /// A key that went down or up, as `KEY_EVENT_RECORD` of the Console API documentation.
-#[derive(Clone, Copy, Debug, PartialEq, Eq)]
+#[derive(Clone, Copy, PartialEq, Eq)]
 pub struct Key {
     /// Whether the key went down.
     pub down: bool,
@@ -20,7 +20,7 @@ pub struct Key {
 }
 
 /// What the mouse did, as `MOUSE_EVENT_RECORD` of the Console API documentation.
-#[derive(Clone, Copy, Debug, PartialEq, Eq)]
+#[derive(Clone, Copy, PartialEq, Eq)]
 pub struct Mouse {
     /// The column, from 0.
     pub x: i16,
@@ -36,7 +36,7 @@ pub struct Mouse {
 }
 
 /// One record of the input queue, as `INPUT_RECORD` of the Console API documentation.
-#[derive(Clone, Copy, Debug, PartialEq, Eq)]
+#[derive(Clone, Copy, PartialEq, Eq)]
 pub enum Record {
     /// A key went down or up.
     Key(Key),

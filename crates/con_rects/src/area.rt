@@ -7,7 +7,7 @@ ghost use Rattle.con_rects.specs.Area.{past, area_in, area_size, is_within, has_
 use con_units::{Coord, Rect, Size};
 
 /// Columns and rows of a buffer, up to those at its right and bottom and without these.
-#[derive(Clone, Copy, Debug, PartialEq, Eq)]
+#[derive(Clone, Copy, PartialEq, Eq)]
 pub struct Area {
     pub left: usize,
     pub top: usize,

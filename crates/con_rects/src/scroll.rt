@@ -12,7 +12,7 @@ use con_grid::Grid;
 use con_units::{Cell, Coord, Rect};
 
 /// How far cells move to each side.
-#[derive(Clone, Copy, Debug, PartialEq, Eq)]
+#[derive(Clone, Copy, PartialEq, Eq)]
 pub struct Shift {
     pub right: usize,
     pub left: usize,

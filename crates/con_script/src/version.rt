@@ -7,7 +7,7 @@ ghost use Rattle.con_script.specs.Session.{version_in, most_clients};
 use serde_json::Value;
 
 /// How a document is to be read.
-#[derive(Clone, Copy, Debug, PartialEq, Eq)]
+#[derive(Clone, Copy, PartialEq, Eq)]
 pub enum Version {
     /// At most 16 clients.
     One,

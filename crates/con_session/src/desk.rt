@@ -23,7 +23,7 @@ pub struct Desk {
 }
 
 /// What a client looks at in a reply.
-#[derive(Clone, Copy, PartialEq, Eq, Debug)]
+#[derive(Clone, Copy, PartialEq, Eq)]
 pub enum Brief {
     /// An answer.
     Fine,

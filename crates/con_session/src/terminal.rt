@@ -15,7 +15,7 @@ use con_outside::Source;
 use con_units::{Frame, OutOfMemory};
 
 /// The terminal's side: whether it has ended, and how the session ends where a fault of the link ended it.
-#[derive(Clone, Copy, PartialEq, Eq, Debug)]
+#[derive(Clone, Copy, PartialEq, Eq)]
 pub struct Side {
     pub ended: bool,
     pub end: End,

@@ -17,7 +17,7 @@ use con_units::OutOfMemory;
 pub const CTRL_EXIT: u32 = 3221225786;
 
 /// How far a client is in its script.
-#[derive(Clone, Copy, PartialEq, Eq, Debug)]
+#[derive(Clone, Copy, PartialEq, Eq)]
 pub struct Worker {
     /// The steps that it entered.
     pub at: usize,

@@ -14,7 +14,7 @@ pub const MOST: u64 = 16_777_216;
 const PIECE: usize = 4096;
 
 /// How the reading of a link ended.
-#[derive(Clone, Copy, Debug, PartialEq, Eq, Drop)]
+#[derive(Clone, Copy, PartialEq, Eq, Drop)]
 pub enum ReadEnd {
     /// The link was read to its end.
     End,

@@ -29,7 +29,7 @@ pub fn stored(unit: u16) -> u16
 }
 
 /// A cell of a screen: a unit that it shows, and an attribute.
-#[derive(Clone, Copy, Debug, PartialEq, Eq)]
+#[derive(Clone, Copy, PartialEq, Eq)]
 pub struct Cell {
     unit: u16,
     attr: Attr,

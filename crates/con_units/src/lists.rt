@@ -6,7 +6,7 @@ use crate::code::OutOfMemory;
 use std::marker::Model;
 
 /// The UTF-16 code units of a text.
-#[derive(Drop, Debug)]
+#[derive(Drop)]
 pub struct Units(pub Vec<u16>);
 
 impl Model for Units {
@@ -51,7 +51,7 @@ impl Units {
 }
 
 /// Bytes as they go over a wire.
-#[derive(Drop, Debug)]
+#[derive(Drop)]
 pub struct Bytes(pub Vec<u8>);
 
 impl Model for Bytes {
@@ -96,7 +96,7 @@ impl Bytes {
 }
 
 /// The cells of rows of one width, row by row from the top, each from the left.
-#[derive(Drop, Debug)]
+#[derive(Drop)]
 pub struct Rows(pub Vec<Cell>);
 
 impl Model for Rows {
@@ -142,7 +142,7 @@ impl Rows {
 }
 
 /// A mark for each row of a view, from the top: a row without one is as it was.
-#[derive(Drop, Debug)]
+#[derive(Drop)]
 pub struct Marks(pub Vec<bool>);
 
 impl Model for Marks {

@@ -3,7 +3,7 @@ ghost use Rattle.std.specs.Prelude.{◌≡◌, ◌<◌, ◌≤◌, if◌then◌e
 ghost use Rattle.con_units.specs.Shade.{near as near_to, near_in_cube, near_grey, shade_of, IsNearSo};
 
 /// What a cell keeps of a colour beside the four bits of it in an attribute word.
-#[derive(Clone, Copy, Debug, PartialEq, Eq)]
+#[derive(Clone, Copy, PartialEq, Eq)]
 pub enum Shade {
     /// One of the sixteen colours of the word.
     Plain,

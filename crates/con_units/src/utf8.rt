@@ -10,7 +10,7 @@ ghost use Rattle.std.specs.Option.{option_map};
 use std::marker::Model;
 
 /// The bytes of a character that is not whole yet.
-#[derive(Clone, Copy, Debug)]
+#[derive(Clone, Copy)]
 enum Held {
     Nothing,
     One(u8),
@@ -19,7 +19,7 @@ enum Held {
 }
 
 /// A decoder that is fed byte by byte. Contracts see it as the bytes that it holds.
-#[derive(Debug, Drop)]
+#[derive(Drop)]
 pub struct Utf8 {
     held: Held,
 }
@@ -37,7 +37,7 @@ impl Model for Utf8 {
 }
 
 /// The characters that a byte completes, the earlier one first.
-#[derive(Clone, Copy, Debug, PartialEq, Eq)]
+#[derive(Clone, Copy, PartialEq, Eq)]
 pub struct Decoded {
     pub first: Option<char>,
     pub second: Option<char>,

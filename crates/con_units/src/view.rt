@@ -9,7 +9,7 @@ use crate::place::{Coord, Size};
 pub struct BufferId(pub u32);
 
 /// The window of a screen, as a terminal is to show it.
-#[derive(Debug, Drop)]
+#[derive(Drop)]
 pub struct View {
     /// The window's size, in cells.
     pub size: Size,
@@ -22,7 +22,7 @@ pub struct View {
 }
 
 /// What a terminal's size or picture becomes.
-#[derive(Debug, Drop)]
+#[derive(Drop)]
 pub enum Sight {
     /// The terminal has this size from here on.
     Resize(Size),
@@ -31,7 +31,7 @@ pub enum Sight {
 }
 
 /// A frame of the link, by which a terminal sends its input.
-#[derive(Debug, Drop)]
+#[derive(Drop)]
 pub enum Frame {
     /// Bytes that were typed: 1 to 4,096 of them.
     Bytes(Bytes),
@@ -48,7 +48,7 @@ pub enum Frame {
 }
 
 /// Why bytes of the link are no frame.
-#[derive(Clone, Copy, Debug, PartialEq, Eq, Drop)]
+#[derive(Clone, Copy, PartialEq, Eq, Drop)]
 pub enum FrameFault {
     /// The first byte begins no frame.
     Tag,

@@ -15,7 +15,7 @@ use crate::found::Found;
 use crate::item::Csi;
 
 /// A control sequence so far.
-#[derive(Clone, Copy, Debug)]
+#[derive(Clone, Copy)]
 pub(crate) struct Sequence {
     /// Its count of parameters is 17 where there are more than 16 so far.
     pub(crate) csi: Csi,
@@ -26,7 +26,7 @@ pub(crate) struct Sequence {
 }
 
 /// What a string has so far of the front of a title.
-#[derive(Clone, Copy, Debug)]
+#[derive(Clone, Copy)]
 pub(crate) enum Name {
     Start,
     Digit,
@@ -35,7 +35,7 @@ pub(crate) enum Name {
 }
 
 /// What stands in the units that are no item yet.
-#[derive(Clone, Copy, Debug)]
+#[derive(Clone, Copy)]
 pub(crate) enum Phase {
     Ground,
     Escape,
@@ -49,7 +49,7 @@ pub(crate) enum Phase {
 }
 
 /// The next phase, and what the unit completes.
-#[derive(Clone, Copy, Debug)]
+#[derive(Clone, Copy)]
 pub(crate) struct Next {
     pub(crate) phase: Phase,
     pub(crate) found: Found,

@@ -5,7 +5,7 @@ ghost use Rattle.con_vtgram.specs.State.{item_of};
 use crate::item::{Csi, Item};
 
 /// The kind of the item that a unit completes. What else it holds is the unit, or in the splitter.
-#[derive(Clone, Copy, Debug, PartialEq, Eq)]
+#[derive(Clone, Copy, PartialEq, Eq)]
 pub enum Found {
     /// No item.
     Nothing,

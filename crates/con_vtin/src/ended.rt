@@ -4,7 +4,7 @@ ghost use Rattle.std.specs.Prelude.{◌≡◌, ℕ, ◌+◌, ◌<◌, ◌≤◌,
 use std::marker::Model;
 
 /// The bytes of a control sequence, at most 33, or none.
-#[derive(Debug, Drop)]
+#[derive(Drop)]
 pub(crate) struct Ended {
     count: u8,
     bytes: [u8; 33],

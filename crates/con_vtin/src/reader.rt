@@ -16,7 +16,7 @@ use std::marker::Model;
 
 /// A reader of keys. Contracts see the bytes that it holds, which are no key yet, at most 32 of them, and the control sequence
 /// that the last byte ended and that gave no key.
-#[derive(Debug, Drop)]
+#[derive(Drop)]
 pub struct KeyReader {
     sequence: Unfinished,
     text: Utf8,

@@ -5,7 +5,7 @@ ghost use Rattle.con_vtin.specs.Sequences as spec;
 use con_records::Key;
 
 /// The units that a key sends, and zeros behind them.
-#[derive(Clone, Copy, Debug, PartialEq, Eq)]
+#[derive(Clone, Copy, PartialEq, Eq)]
 pub struct Sequence {
     /// How many units there are: 0 to 7.
     pub count: u8,
@@ -14,7 +14,7 @@ pub struct Sequence {
 }
 
 /// Where in the table a key without a unit stands.
-#[derive(Clone, Copy, Debug, PartialEq, Eq)]
+#[derive(Clone, Copy, PartialEq, Eq)]
 pub enum Row {
     /// One of the six keys whose letter this is.
     Letter(u8),

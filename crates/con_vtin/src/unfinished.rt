@@ -13,7 +13,7 @@ use std::marker::Model;
 const ROOM: usize = 30;
 
 /// What stands in a sequence.
-#[derive(Clone, Copy, Debug, PartialEq, Eq)]
+#[derive(Clone, Copy, PartialEq, Eq)]
 pub(crate) enum Phase {
     /// No byte.
     Nothing,
@@ -28,7 +28,7 @@ pub(crate) enum Phase {
 }
 
 /// What one more byte is to a sequence.
-#[derive(Clone, Copy, Debug)]
+#[derive(Clone, Copy)]
 pub(crate) enum Step {
     GoesOn(Phase),
     Ends(Option<Key>),
@@ -36,7 +36,7 @@ pub(crate) enum Step {
 }
 
 /// What one more byte was to a sequence.
-#[derive(Clone, Copy, Debug)]
+#[derive(Clone, Copy)]
 pub(crate) enum Advance {
     /// It stands in the sequence now.
     GoesOn,
@@ -170,7 +170,7 @@ fn is_keyless_end(phase: Phase, bytes: &[u8], byte: u8) -> bool
 }
 
 /// A sequence that begins with ESC and is not whole yet, or nothing. Contracts see its bytes, of which there are 32 at most.
-#[derive(Debug, Drop)]
+#[derive(Drop)]
 pub(crate) struct Unfinished {
     phase: Phase,
     count: u8,

@@ -11,7 +11,7 @@ use con_units::{OutOfMemory, Size};
 use std::alloc::Global;
 
 /// What the words ask for.
-#[derive(Clone, Copy, Debug, PartialEq, Eq, Drop)]
+#[derive(Clone, Copy, PartialEq, Eq, Drop)]
 pub enum Form<'a> {
     /// `type`: the link's bytes are a text; one frame that shows it goes to the terminal.
     Type,
