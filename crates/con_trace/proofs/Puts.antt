@@ -101,4 +101,9 @@ array_seven w a b c d e f g = array_is w (a ∷ b ∷ c ∷ d ∷ e ∷ f ∷ g 
 pub array_more : (w : Written) (a : Data) (ds : List Data) → shut (put_each (put (opened w) a) ds) ≡ put w (list_of (a ∷ ds))
 array_more w a ds = array_is w (a ∷ ds)
 
+-- an array whose third value is a text that is JSON already
+pub shown_third : (w : Written) (a b : Data) (text shown : List ℕ) → shown ≡ quoted text
+    → shut (more (parted (put (put (opened w) a) b)) shown) ≡ put w (list_of (a ∷ b ∷ string text ∷ []))
+shown_third w a b text shown e = rw e (ap shut (quoted_is (put (put (opened w) a) b) text) ∙ array_three w a b (string text))
+
 pub ruleset arrays = (array_is, array_one, array_two, array_three, array_four, array_six, array_seven, array_more)

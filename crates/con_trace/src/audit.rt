@@ -6,7 +6,7 @@ ghost use Rattle.serde_json.specs.Data.{string};
 ghost use Rattle.con_outside.specs.Outside.{Rose, then_written, WroteFront, WrotePart};
 ghost use Rattle.con_trace.specs.Audit.{a_run, no_run, found_of, found_data, found_text};
 ghost use Rattle.con_trace.specs.Line.{ended};
-ghost use Rattle.con_trace.specs.Writing.{put};
+ghost use Rattle.con_trace.specs.Writing.{put, nothing_written};
 
 use crate::ending::owned;
 use crate::line::Line;
@@ -35,13 +35,13 @@ impl Line {
     }
 
     /// It is none.
-    fn no_run(&mut self, alloc: Global, place: u64, part: String) -> Result<(), OutOfMemory>
-        ensures { IfOk result (λ _. self.new ≡ put self.old (found_data (no_run place (string_bytes part)))) }
+    fn no_run(&mut self, alloc: Global, place: u64, part: &str) -> Result<(), OutOfMemory>
+        ensures { IfOk result (λ _. self.new ≡ put self.old (found_data (no_run place part.now))) }
     {
         self.open_with("audit")?;
         self.word("no")?;
         self.natural(place)?;
-        self.any_text(alloc, part)?;
+        self.any_text(alloc, owned(alloc, part)?)?;
         self.shut()
     }
 
@@ -51,20 +51,19 @@ impl Line {
     {
         match found {
             AuditLine::Yes => self.a_run(),
-            AuditLine::No { place, part } => self.no_run(alloc, *place, owned(alloc, part)?),
+            AuditLine::No { place, part } => self.no_run(alloc, *place, part),
         }
     }
-}
 
-/// What an audit found, with its line feed.
-#[tactic(auto, unfolding(crate::specs::Audit::found_text, crate::specs::Writing::put, crate::specs::Writing::more))]
-fn ended_line(alloc: Global, found: &AuditLine) -> Result<Line, OutOfMemory>
-    ensures { IfOk result (λ line. line.bytes ≡ ended (found_text (found_of found.now))) }
-{
-    let mut line = Line::new(alloc);
-    line.audit_line(alloc, found)?;
-    line.append(b"\n")?;
-    Ok(line)
+    /// What an audit found, with its line feed, where nothing is written yet.
+    #[tactic(auto, unfolding(crate::specs::Audit::found_text, crate::specs::Writing::put, crate::specs::Writing::more))]
+    fn ended_audit(&mut self, alloc: Global, found: &AuditLine) -> Result<(), OutOfMemory>
+        requires { self.old ≡ nothing_written }
+        ensures { IfOk result (λ _. self.new.bytes ≡ ended (found_text (found_of found.now))) }
+    {
+        self.audit_line(alloc, found)?;
+        self.append(b"\n")
+    }
 }
 
 /// Writes the line that tells what an audit found, with its line feed. After a refusal a front of the line was written, and never all of it.
@@ -76,7 +75,8 @@ pub fn write_audit<R: Sink>(alloc: Global, out: &mut R, found: &AuditLine) -> Re
     ensures failed { result ≡ Err Fault.Failed → Rose (R.faults out.old) (R.faults out.new) }
     ensures never_falls { R.faults out.old ≤ R.faults out.new }
 {
-    let Ok(line) = ended_line(alloc, found) else {
+    let mut line = Line::new(alloc);
+    let Ok(()) = line.ended_audit(alloc, found) else {
         return Err(Fault::OutOfMemory);
     };
     write_whole(out, line.as_slice())

@@ -1,6 +1,6 @@
 //! The last line of a report.
 
-ghost use Rattle.std.specs.Prelude.{string_bytes, ◌≡◌, ◌≤◌, List, [], ◌∷◌, ◌++◌, IfOk, OnOk, OnErr, length, take, Option};
+ghost use Rattle.std.specs.Prelude.{string_bytes, codes, ◌≡◌, ◌≤◌, List, [], ◌∷◌, ◌++◌, IfOk, OnOk, OnErr, length, take, Option};
 ghost use Rattle.std.specs.Char.Utf16.{utf16_lossy_chars};
 ghost use Rattle.std.specs.Str.{encode_utf8_all};
 ghost use Rattle.json.specs.Print.{escape};
@@ -10,7 +10,8 @@ ghost use Rattle.con_outside.specs.Outside.{Rose, then_written, WroteFront, Wrot
 ghost use Rattle.con_trace.specs.Ending.{alone as alone_ending, worded as worded_ending, at_frame as frame_ending};
 ghost use Rattle.con_trace.specs.Ending.{kind_text, ending_of, ending_data, ending_text};
 ghost use Rattle.con_trace.specs.Line.{ended};
-ghost use Rattle.con_trace.specs.Writing.{put};
+ghost use Rattle.con_trace.specs.Shown.{natural as natural_data};
+ghost use Rattle.con_trace.specs.Writing.{put, more, parted, opened, shut as shut_array, nothing_written};
 
 use crate::line::Line;
 use con_outside::{Fault, Sink, write_whole};
@@ -64,27 +65,34 @@ impl Line {
         ensures { IfOk result (λ _. self.new ≡ put self.old (string (string_bytes text))) }
     {
         let shown = quoted(alloc, text)?;
-        self.comma()?;
-        self.append(shown.as_bytes())
+        self.value(shown.as_bytes())
     }
 
     /// A status alone.
     pub fn alone(&mut self, status: u8) -> Result<(), OutOfMemory>
         ensures { IfOk result (λ _. self.new ≡ put self.old (ending_data (alone_ending status))) }
     {
+        self.named("end", &[status as i64])
+    }
+
+    /// A status and a text that is JSON already.
+    #[tactic(auto, using(crate::proofs::Puts::shown_third))]
+    fn status_and_shown(&mut self, status: u8, shown: &str) -> Result<(), OutOfMemory>
+        ensures { IfOk result (λ _. self.new ≡ shut_array (more (parted (put (put (opened self.old) (string (codes "end"))) (natural_data status))) shown.now)) }
+    {
         self.open_with("end")?;
         self.natural(status as u64)?;
+        self.value(shown.as_bytes())?;
         self.shut()
     }
 
     /// A status and a text.
+    #[tactic(auto, using(crate::proofs::Puts::shown_third))]
     pub fn worded(&mut self, alloc: Global, status: u8, text: String) -> Result<(), OutOfMemory>
         ensures { IfOk result (λ _. self.new ≡ put self.old (ending_data (worded_ending status (string_bytes text)))) }
     {
-        self.open_with("end")?;
-        self.natural(status as u64)?;
-        self.any_text(alloc, text)?;
-        self.shut()
+        let shown = quoted(alloc, text)?;
+        self.status_and_shown(status, shown.as_str())
     }
 
     /// Status 8, with the place and kind of a fault of the link.
@@ -109,6 +117,16 @@ impl Line {
             EndLine::Frame(place, kind) => self.at_frame(*place, *kind),
         }
     }
+
+    /// The last line, with its line feed, where nothing is written yet.
+    #[tactic(auto, unfolding(crate::specs::Ending::ending_text, crate::specs::Writing::put, crate::specs::Writing::more))]
+    fn ended_end(&mut self, alloc: Global, end: &EndLine) -> Result<(), OutOfMemory>
+        requires { self.old ≡ nothing_written }
+        ensures { IfOk result (λ _. self.new.bytes ≡ ended (ending_text (ending_of end.now))) }
+    {
+        self.end_line(alloc, end)?;
+        self.append(b"\n")
+    }
 }
 
 /// The same text in memory of its own.
@@ -131,17 +149,6 @@ fn spelled(alloc: Global, units: &Units) -> Result<String, OutOfMemory>
     }
 }
 
-/// The last line, with its line feed.
-#[tactic(auto, unfolding(crate::specs::Ending::ending_text, crate::specs::Writing::put, crate::specs::Writing::more))]
-fn ended_line(alloc: Global, end: &EndLine) -> Result<Line, OutOfMemory>
-    ensures { IfOk result (λ line. line.bytes ≡ ended (ending_text (ending_of end.now))) }
-{
-    let mut line = Line::new(alloc);
-    line.end_line(alloc, end)?;
-    line.append(b"\n")?;
-    Ok(line)
-}
-
 /// Writes the last line, with its line feed. After a refusal a front of the line was written, and never all of it.
 #[tactic(auto, using(crate::proofs::Ended::nothing_yet))]
 pub fn write_end<R: Sink>(alloc: Global, out: &mut R, end: &EndLine) -> Result<(), Fault>
@@ -151,7 +158,8 @@ pub fn write_end<R: Sink>(alloc: Global, out: &mut R, end: &EndLine) -> Result<(
     ensures failed { result ≡ Err Fault.Failed → Rose (R.faults out.old) (R.faults out.new) }
     ensures never_falls { R.faults out.old ≤ R.faults out.new }
 {
-    let Ok(line) = ended_line(alloc, end) else {
+    let mut line = Line::new(alloc);
+    let Ok(()) = line.ended_end(alloc, end) else {
         return Err(Fault::OutOfMemory);
     };
     write_whole(out, line.as_slice())

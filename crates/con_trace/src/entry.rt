@@ -6,7 +6,7 @@ ghost use Rattle.serde_json.specs.Data.{string};
 ghost use Rattle.con_outside.specs.Outside.{Rose, then_written, WroteFront, WrotePart};
 ghost use Rattle.con_trace.specs.Shown.{list_of};
 ghost use Rattle.con_trace.specs.Line.{actor_text, wanted_name, event_name, wanted_data, event_data, line_data, line_text, ended};
-ghost use Rattle.con_trace.specs.Writing.{put, put_each};
+ghost use Rattle.con_trace.specs.Writing.{put, put_each, nothing_written};
 
 use crate::line::Line;
 use con_events::{Actor, Call, Entry, Event, Reply, Shows, Wanted, name, tell};
@@ -161,6 +161,16 @@ impl Line {
         self.answer(&entry.event, reply, end)?;
         self.shut()
     }
+
+    /// The line of an event and its answer, with its line feed, where nothing is written yet.
+    #[tactic(auto, unfolding(crate::specs::Line::line_text, crate::specs::Writing::put, crate::specs::Writing::more))]
+    fn ended_entry(&mut self, entry: &Entry, reply: &Reply, end: u64) -> Result<(), OutOfMemory>
+        requires { self.old ≡ nothing_written }
+        ensures { IfOk result (λ _. self.new.bytes ≡ ended (line_text entry.now reply.now end)) }
+    {
+        self.entry(entry, reply, end)?;
+        self.append(b"\n")
+    }
 }
 
 /// The line of an event and its answer, with no line feed.
@@ -189,18 +199,9 @@ pub fn write_entry<R: Sink>(
     ensures failed { result ≡ Err Fault.Failed → Rose (R.faults out.old) (R.faults out.new) }
     ensures never_falls { R.faults out.old ≤ R.faults out.new }
 {
-    let Ok(line) = ended_line(alloc, entry, reply, end) else {
+    let mut line = Line::new(alloc);
+    let Ok(()) = line.ended_entry(entry, reply, end) else {
         return Err(Fault::OutOfMemory);
     };
     write_whole(out, line.as_slice())
-}
-
-/// The line of an event and its answer, with its line feed.
-#[tactic(auto, unfolding(crate::specs::Writing::more))]
-fn ended_line(alloc: Global, entry: &Entry, reply: &Reply, end: u64) -> Result<Line, OutOfMemory>
-    ensures { IfOk result (λ line. line.bytes ≡ ended (line_text entry.now reply.now end)) }
-{
-    let mut line = line_of(alloc, entry, reply, end)?;
-    line.append(b"\n")?;
-    Ok(line)
 }

@@ -174,20 +174,12 @@ impl Line {
     }
 }
 
-/// The bytes of a last line, without the line feed.
-#[tactic(auto, unfolding(crate::specs::Ending::ending_text, crate::specs::Writing::put))]
-fn last_line(alloc: Global, last: &Last<'_>) -> Result<Line, OutOfMemory>
-    ensures { IfOk result (λ line. line.bytes ≡ ending_text (last_of last.now)) }
-{
-    let mut line = Line::new(alloc);
-    line.last(alloc, last)?;
-    Ok(line)
-}
-
 /// Whether the line is this last line.
+#[tactic(auto, unfolding(crate::specs::Ending::ending_text, crate::specs::Writing::put))]
 pub fn is_ending_of(alloc: Global, last: &Last<'_>, line: &[u8]) -> Result<bool, OutOfMemory>
     ensures { IfOk result (λ b. IsTrue b ↔ (line.now ≡ ending_text (last_of last.now))) }
 {
-    let written = last_line(alloc, last)?;
+    let mut written = Line::new(alloc);
+    written.last(alloc, last)?;
     Ok(written.as_slice() == line)
 }

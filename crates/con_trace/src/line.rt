@@ -72,33 +72,38 @@ impl Line {
         }
     }
 
+    /// Makes ready for one more value, and writes its bytes or their front.
+    pub fn value(&mut self, bytes: &[u8]) -> Result<(), OutOfMemory>
+        ensures { IfOk result (λ _. self.new ≡ more (parted self.old) bytes.now) }
+    {
+        self.comma()?;
+        self.append(bytes)
+    }
+
     /// A number of 0 or more.
     pub fn natural(&mut self, n: u64) -> Result<(), OutOfMemory>
         ensures { IfOk result (λ _. self.new ≡ put self.old (natural_data n)) }
     {
-        self.comma()?;
         let mut buffer = Buffer::new();
-        self.append(buffer.format(n).as_bytes())
+        self.value(buffer.format(n).as_bytes())
     }
 
     /// A number with its sign.
     pub fn whole(&mut self, n: i64) -> Result<(), OutOfMemory>
         ensures { IfOk result (λ _. self.new ≡ put self.old (whole_data n)) }
     {
-        self.comma()?;
         let mut buffer = Buffer::new();
-        self.append(buffer.format(n).as_bytes())
+        self.value(buffer.format(n).as_bytes())
     }
 
     /// True or false.
     pub fn truth(&mut self, b: bool) -> Result<(), OutOfMemory>
         ensures { IfOk result (λ _. self.new ≡ put self.old (boolean b)) }
     {
-        self.comma()?;
         if b {
-            self.append(b"true")
+            self.value(b"true")
         } else {
-            self.append(b"false")
+            self.value(b"false")
         }
     }
 
@@ -106,8 +111,7 @@ impl Line {
     pub fn null(&mut self) -> Result<(), OutOfMemory>
         ensures { IfOk result (λ _. self.new ≡ put self.old null_data) }
     {
-        self.comma()?;
-        self.append(b"null")
+        self.value(b"null")
     }
 
     /// A text in which no character is escaped.
@@ -115,8 +119,7 @@ impl Line {
         requires { escape text.now ≡ text.now }
         ensures { IfOk result (λ _. self.new ≡ put self.old (string text.now)) }
     {
-        self.comma()?;
-        self.append(b"\"")?;
+        self.value(b"\"")?;
         self.append(text.as_bytes())?;
         self.append(b"\"")
     }
@@ -146,8 +149,7 @@ impl Line {
     pub fn units(&mut self, units: &[u16]) -> Result<(), OutOfMemory>
         ensures { IfOk result (λ _. self.new ≡ put self.old (units_text units.now)) }
     {
-        self.comma()?;
-        self.append(b"\"")?;
+        self.value(b"\"")?;
         self.append_units(units)?;
         self.append(b"\"")
     }
@@ -156,8 +158,7 @@ impl Line {
     pub fn bytes(&mut self, bytes: &[u8]) -> Result<(), OutOfMemory>
         ensures { IfOk result (λ _. self.new ≡ put self.old (string (hex_bytes bytes.now))) }
     {
-        self.comma()?;
-        self.append(b"\"")?;
+        self.value(b"\"")?;
         self.append_bytes(bytes)?;
         self.append(b"\"")
     }
@@ -166,8 +167,7 @@ impl Line {
     pub fn cells(&mut self, cells: &[Cell]) -> Result<(), OutOfMemory>
         ensures { IfOk result (λ _. self.new ≡ put self.old (units_text (cell_words cells.now))) }
     {
-        self.comma()?;
-        self.append(b"\"")?;
+        self.value(b"\"")?;
         self.append_cells(cells)?;
         self.append(b"\"")
     }
@@ -177,8 +177,7 @@ impl Line {
     pub fn open(&mut self) -> Result<(), OutOfMemory>
         ensures { IfOk result (λ _. self.new ≡ opened self.old) }
     {
-        self.comma()?;
-        self.append(b"[")?;
+        self.value(b"[")?;
         self.later = false;
         Ok(())
     }

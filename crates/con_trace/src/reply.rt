@@ -15,16 +15,6 @@ use con_units::{OutOfMemory, Rect, Rows, Units};
 
 #[tactic(auto, using(crate::proofs::Puts::arrays), unfolding(json::specs::Print::escape_byte))]
 impl Line {
-    /// Numbers one after another.
-    fn each_number(&mut self, numbers: &[i64]) -> Result<(), OutOfMemory>
-        ensures { IfOk result (λ _. self.new ≡ put_each self.old (map whole_data numbers.now)) }
-    {
-        for n in numbers {
-            self.whole(*n)?;
-        }
-        Ok(())
-    }
-
     /// Texts one after another.
     fn each_line(&mut self, lines: &[Units]) -> Result<(), OutOfMemory>
         ensures { IfOk result (λ _. self.new ≡ put_each self.old (map units_text lines.now)) }
@@ -33,6 +23,15 @@ impl Line {
             self.units(line.as_slice())?;
         }
         Ok(())
+    }
+
+    /// An array of texts.
+    fn all_lines(&mut self, lines: &[Units]) -> Result<(), OutOfMemory>
+        ensures { IfOk result (λ _. self.new ≡ put self.old (list_of (map units_text lines.now))) }
+    {
+        self.open()?;
+        self.each_line(lines)?;
+        self.shut()
     }
 
     /// A number, whether something is so, and further numbers.
@@ -50,7 +49,7 @@ impl Line {
         }
     }
 
-    /// A number, behind the word `fail`, `ctrl` or `painted`.
+    /// A number of any size, behind a word.
     fn word_and_number(&mut self, word: &'static str, n: u64) -> Result<(), OutOfMemory>
         requires { escape word.now ≡ word.now }
         ensures { IfOk result (λ _. self.new ≡ put self.old (list_of (string word.now ∷ natural_data n ∷ []))) }
@@ -63,16 +62,7 @@ impl Line {
     fn done(&mut self) -> Result<(), OutOfMemory>
         ensures { IfOk result (λ _. self.new ≡ put self.old (ok_data [])) }
     {
-        self.open_with("ok")?;
-        self.shut()
-    }
-
-    fn fields(&mut self, numbers: &[i64]) -> Result<(), OutOfMemory>
-        ensures { IfOk result (λ _. self.new ≡ put self.old (ok_data (map whole_data numbers.now))) }
-    {
-        self.open_with("ok")?;
-        self.each_number(numbers)?;
-        self.shut()
+        self.named("ok", &[])
     }
 
     fn size_and_flag(&mut self, numbers: &[i64]) -> Result<(), OutOfMemory>
@@ -87,9 +77,7 @@ impl Line {
         ensures { IfOk result (λ _. self.new ≡ put self.old (ok_data (list_of (map whole_data numbers.now) ∷ []))) }
     {
         self.open_with("ok")?;
-        self.open()?;
-        self.each_number(numbers)?;
-        self.shut()?;
+        self.all_numbers(numbers)?;
         self.shut()
     }
 
@@ -122,17 +110,7 @@ impl Line {
         ensures { IfOk result (λ _. self.new ≡ put self.old (ok_data (list_of (map units_text lines.now) ∷ []))) }
     {
         self.open_with("ok")?;
-        self.open()?;
-        self.each_line(lines)?;
-        self.shut()?;
-        self.shut()
-    }
-
-    fn ok_number(&mut self, n: u32) -> Result<(), OutOfMemory>
-        ensures { IfOk result (λ _. self.new ≡ put self.old (ok_data (natural_data n ∷ []))) }
-    {
-        self.open_with("ok")?;
-        self.natural(n as u64)?;
+        self.all_lines(lines)?;
         self.shut()
     }
 
@@ -141,7 +119,7 @@ impl Line {
         ensures { IfOk result (λ _. self.new ≡ put self.old (numbers_data form numbers.now)) }
     {
         match form {
-            Form::Fields(_) => self.fields(numbers),
+            Form::Fields(_) => self.named("ok", numbers),
             Form::NumberAndFlag => self.size_and_flag(numbers),
             _ => self.ids(numbers),
         }
@@ -153,14 +131,14 @@ impl Line {
     {
         match reply {
             Reply::Done => self.done(),
-            Reply::Fail(code) => self.word_and_number("fail", code.number() as u64),
-            Reply::Number(n) => self.ok_number(*n),
+            Reply::Fail(code) => self.named("fail", &[code.number() as i64]),
+            Reply::Number(n) => self.named("ok", &[*n as i64]),
             Reply::Numbers(numbers) => self.numbers(form, numbers.0.as_slice()),
             Reply::Units(units) => self.ok_units(units),
             Reply::Records(records) => self.ok_records(records),
             Reply::Cells(rect, cells) => self.ok_cells(*rect, cells),
             Reply::Lines(lines) => self.ok_lines(lines.0.as_slice()),
-            Reply::Ctrl(n) => self.word_and_number("ctrl", *n as u64),
+            Reply::Ctrl(n) => self.named("ctrl", &[*n as i64]),
             Reply::View(_, _, _) => self.null(),
         }
     }

@@ -1,77 +1,105 @@
 //! Arguments of calls, and records, in a line.
 
 ghost use Rattle.std.specs.Prelude.{◌≡◌, List, [], ◌∷◌, IfOk, map};
+ghost use Rattle.json.specs.Print.{escape};
+ghost use Rattle.serde_json.specs.Data.{boolean, string};
 ghost use Rattle.con_events.specs.Arg.{Number, Signed, OneUnit, Flag, Text, Area, Clip, WordsOf, WordList, Records};
-ghost use Rattle.con_trace.specs.Shown.{rect_data, record_data, records_data};
+ghost use Rattle.con_trace.specs.Shown.{list_of, whole as whole_data, rect_data, record_data, records_data};
 ghost use Rattle.con_trace.specs.Writing.{put, put_each, put_arg};
 
 use crate::line::Line;
 use con_events::{Shows, Words};
 use con_records::{Key, Mouse, Record, Taken};
-use con_units::{OutOfMemory, Rect, Size, Units};
+use con_units::{OutOfMemory, Rect, Units};
 
 #[tactic(auto, using(crate::proofs::Puts::arrays), unfolding(json::specs::Print::escape_byte))]
 impl Line {
+    /// Numbers one after another.
+    pub fn each_number(&mut self, numbers: &[i64]) -> Result<(), OutOfMemory>
+        ensures { IfOk result (λ _. self.new ≡ put_each self.old (map whole_data numbers.now)) }
+    {
+        for n in numbers {
+            self.whole(*n)?;
+        }
+        Ok(())
+    }
+
+    /// An array of numbers.
+    pub fn all_numbers(&mut self, numbers: &[i64]) -> Result<(), OutOfMemory>
+        ensures { IfOk result (λ _. self.new ≡ put self.old (list_of (map whole_data numbers.now))) }
+    {
+        self.open()?;
+        self.each_number(numbers)?;
+        self.shut()
+    }
+
+    /// An array of a word and numbers.
+    pub fn named(&mut self, word: &'static str, numbers: &[i64]) -> Result<(), OutOfMemory>
+        requires { escape word.now ≡ word.now }
+        ensures { IfOk result (λ _. self.new ≡ put self.old (list_of (string word.now ∷ map whole_data numbers.now))) }
+    {
+        self.open_with(word)?;
+        self.each_number(numbers)?;
+        self.shut()
+    }
+
+    /// An array of a word, whether something is so, and numbers.
+    fn flagged(
+        &mut self,
+        word: &'static str,
+        set: bool,
+        numbers: &[i64],
+    ) -> Result<(), OutOfMemory>
+        requires { escape word.now ≡ word.now }
+        ensures { IfOk result (λ _. self.new ≡ put self.old (list_of (string word.now ∷ boolean set ∷ map whole_data numbers.now))) }
+    {
+        self.open_with(word)?;
+        self.truth(set)?;
+        self.each_number(numbers)?;
+        self.shut()
+    }
+
     /// The four sides of a rectangle, as an array.
     pub fn sides(&mut self, rect: Rect) -> Result<(), OutOfMemory>
         ensures { IfOk result (λ _. self.new ≡ put self.old (rect_data rect)) }
     {
-        self.open()?;
-        self.signed(rect.left)?;
-        self.signed(rect.top)?;
-        self.signed(rect.right)?;
-        self.signed(rect.bottom)?;
-        self.shut()
+        self.all_numbers(&[
+            rect.left as i64,
+            rect.top as i64,
+            rect.right as i64,
+            rect.bottom as i64,
+        ])
     }
 
-    fn key(&mut self, key: Key) -> Result<(), OutOfMemory>
-        ensures { IfOk result (λ _. self.new ≡ put self.old (record_data (Record.Key key))) }
+    fn key(&mut self, key: &Key) -> Result<(), OutOfMemory>
+        ensures { IfOk result (λ _. self.new ≡ put self.old (record_data (Record.Key key.now))) }
     {
-        self.open_with("key")?;
-        self.truth(key.down)?;
-        self.natural(key.repeat as u64)?;
-        self.natural(key.vk as u64)?;
-        self.natural(key.scan as u64)?;
-        self.natural(key.unit as u64)?;
-        self.natural(key.state as u64)?;
-        self.shut()
+        self.flagged(
+            "key",
+            key.down,
+            &[
+                key.repeat as i64,
+                key.vk as i64,
+                key.scan as i64,
+                key.unit as i64,
+                key.state as i64,
+            ],
+        )
     }
 
-    fn mouse(&mut self, mouse: Mouse) -> Result<(), OutOfMemory>
-        ensures { IfOk result (λ _. self.new ≡ put self.old (record_data (Record.Mouse mouse))) }
+    fn mouse(&mut self, mouse: &Mouse) -> Result<(), OutOfMemory>
+        ensures { IfOk result (λ _. self.new ≡ put self.old (record_data (Record.Mouse mouse.now))) }
     {
-        self.open_with("mouse")?;
-        self.whole(mouse.x as i64)?;
-        self.whole(mouse.y as i64)?;
-        self.natural(mouse.buttons as u64)?;
-        self.natural(mouse.state as u64)?;
-        self.natural(mouse.flags as u64)?;
-        self.shut()
-    }
-
-    fn size(&mut self, size: Size) -> Result<(), OutOfMemory>
-        ensures { IfOk result (λ _. self.new ≡ put self.old (record_data (Record.Size size))) }
-    {
-        self.open_with("size")?;
-        self.natural(size.w as u64)?;
-        self.natural(size.h as u64)?;
-        self.shut()
-    }
-
-    fn menu(&mut self, id: u32) -> Result<(), OutOfMemory>
-        ensures { IfOk result (λ _. self.new ≡ put self.old (record_data (Record.Menu id))) }
-    {
-        self.open_with("menu")?;
-        self.natural(id as u64)?;
-        self.shut()
-    }
-
-    fn focus(&mut self, set: bool) -> Result<(), OutOfMemory>
-        ensures { IfOk result (λ _. self.new ≡ put self.old (record_data (Record.Focus set))) }
-    {
-        self.open_with("focus")?;
-        self.truth(set)?;
-        self.shut()
+        self.named(
+            "mouse",
+            &[
+                mouse.x as i64,
+                mouse.y as i64,
+                mouse.buttons as i64,
+                mouse.state as i64,
+                mouse.flags as i64,
+            ],
+        )
     }
 
     /// A record of the input, as an array of its name and its fields.
@@ -79,11 +107,11 @@ impl Line {
         ensures { IfOk result (λ _. self.new ≡ put self.old (record_data one.now)) }
     {
         match one {
-            Record::Key(key) => self.key(*key),
-            Record::Mouse(mouse) => self.mouse(*mouse),
-            Record::Size(size) => self.size(*size),
-            Record::Menu(id) => self.menu(*id),
-            Record::Focus(set) => self.focus(*set),
+            Record::Key(key) => self.key(key),
+            Record::Mouse(mouse) => self.mouse(mouse),
+            Record::Size(size) => self.named("size", &[size.w as i64, size.h as i64]),
+            Record::Menu(id) => self.named("menu", &[*id as i64]),
+            Record::Focus(set) => self.flagged("focus", *set, &[]),
         }
     }
 
