@@ -1,7 +1,7 @@
 -- Arrays, value by value.
 use Rattle.std.specs.Prelude.{ℤ, pos, negsuc, codes, decimal}
 use Rattle.std.specs.Fmt.{signed_decimal}
-use Rattle.std.proofs.Common.{◌≡◌, ℕ, List, [], ◌∷◌, ◌++◌, map, true, false, refl, ap, sym, ◌∙◌, append_assoc}
+use Rattle.std.proofs.Common.{◌≡◌, ℕ, ◌<◌, arith, List, [], ◌∷◌, ◌++◌, map, true, false, refl, ap, sym, ◌∙◌, append_assoc}
 use Rattle.json.specs.Print.{escape, quoted}
 use Rattle.serde_json.specs.Data.{Data, null, boolean, string}
 use Rattle.serde_json.specs.Written.{compact_text, comma_if, items_text}
@@ -9,7 +9,7 @@ use Rattle.con_events.specs.Arg.{Arg, put_all}
 use Rattle.con_trace.specs.Hex.{hex_units, hex_bytes}
 use Rattle.con_trace.specs.Shown.{shown, items, list_of, natural, whole, units_text}
 use Rattle.con_trace.specs.Writing.{Written, more, parted, put, opened, shut, put_each, put_arg}
-use Rattle.con_trace.proofs.Plain.{units_plain, bytes_plain}
+use Rattle.con_trace.proofs.Plain.{units_plain, bytes_plain, client_plain}
 
 -- one more value is its bytes, behind a comma where one is due
 put_is : (w : Written) (d : Data) (text : List ℕ) → text ≡ compact_text d → more (parted w) text ≡ put w d
@@ -50,14 +50,17 @@ units_are w us = text_is w (hex_units us) (units_plain us)
 pub bytes_are : (w : Written) (bs : List ℕ) → more (more (more (parted w) (34 ∷ [])) (hex_bytes bs)) (34 ∷ []) ≡ put w (string (hex_bytes bs))
 bytes_are w bs = text_is w (hex_bytes bs) (bytes_plain bs)
 
-pub parts_are : (w : Written) (a b : List ℕ) → escape (a ++ b) ≡ a ++ b → more (more (more (more (parted w) (34 ∷ [])) a) b) (34 ∷ []) ≡ put w (string (a ++ b))
-parts_are w a b plain = ap (λ v. more v (34 ∷ [])) (two_are (more (parted w) (34 ∷ [])) a b) ∙ text_is w (a ++ b) plain
+-- a client's number behind a `c`
+pub client_is : (w : Written) (n : ℕ) → n < 256 → more (more (more (parted w) (34 ∷ 99 ∷ [])) (decimal n)) (34 ∷ []) ≡ put w (string (99 ∷ decimal n))
+client_is w n small =
+    ap (λ v. more v (34 ∷ [])) (two_are (parted w) (34 ∷ 99 ∷ []) (decimal n) ∙ sym (two_are (parted w) (34 ∷ []) (99 ∷ decimal n)))
+    ∙ text_is w (99 ∷ decimal n) (client_plain n (omega arith))
 
 -- a text between quotes
 pub quoted_is : (w : Written) (text : List ℕ) → more (parted w) (quoted text) ≡ put w (string text)
 quoted_is w text = put_is w (string text) (quoted text) refl
 
-pub ruleset values = (quoted_is, natural_is, whole_is, true_is, false_is, null_is, text_is, units_are, bytes_are, parts_are)
+pub ruleset values = (quoted_is, natural_is, whole_is, true_is, false_is, null_is, text_is, units_are, bytes_are)
 
 -- values one after another, and then the end of their array
 each_is : (w : Written) (ds : List Data) → (put_each w ds).bytes ++ 93 ∷ [] ≡ w.bytes ++ items_text w.later (items ds)
@@ -92,18 +95,10 @@ array_three w a b c = array_is w (a ∷ b ∷ c ∷ [])
 pub array_four : (w : Written) (a b c d : Data) → shut (put (put (put (put (opened w) a) b) c) d) ≡ put w (list_of (a ∷ b ∷ c ∷ d ∷ []))
 array_four w a b c d = array_is w (a ∷ b ∷ c ∷ d ∷ [])
 
-pub array_six : (w : Written) (a b c d e f : Data) → shut (put (put (put (put (put (put (opened w) a) b) c) d) e) f) ≡ put w (list_of (a ∷ b ∷ c ∷ d ∷ e ∷ f ∷ []))
-array_six w a b c d e f = array_is w (a ∷ b ∷ c ∷ d ∷ e ∷ f ∷ [])
-
-pub array_seven : (w : Written) (a b c d e f g : Data) → shut (put (put (put (put (put (put (put (opened w) a) b) c) d) e) f) g) ≡ put w (list_of (a ∷ b ∷ c ∷ d ∷ e ∷ f ∷ g ∷ []))
-array_seven w a b c d e f g = array_is w (a ∷ b ∷ c ∷ d ∷ e ∷ f ∷ g ∷ [])
-
 pub array_more : (w : Written) (a : Data) (ds : List Data) → shut (put_each (put (opened w) a) ds) ≡ put w (list_of (a ∷ ds))
 array_more w a ds = array_is w (a ∷ ds)
 
--- an array whose third value is a text that is JSON already
-pub shown_third : (w : Written) (a b : Data) (text shown : List ℕ) → shown ≡ quoted text
-    → shut (more (parted (put (put (opened w) a) b)) shown) ≡ put w (list_of (a ∷ b ∷ string text ∷ []))
-shown_third w a b text shown e = rw e (ap shut (quoted_is (put (put (opened w) a) b) text) ∙ array_three w a b (string text))
+pub array_two_more : (w : Written) (a b : Data) (ds : List Data) → shut (put_each (put (put (opened w) a) b) ds) ≡ put w (list_of (a ∷ b ∷ ds))
+array_two_more w a b ds = array_is w (a ∷ b ∷ ds)
 
-pub ruleset arrays = (array_is, array_one, array_two, array_three, array_four, array_six, array_seven, array_more)
+pub ruleset arrays = (array_is, array_one, array_two, array_three, array_four, array_more)

@@ -1,11 +1,14 @@
 -- Arrays of another length than the one that is wanted.
-use Rattle.std.proofs.Common.{◌≡◌, ◌≢◌, ℕ, ◌<◌, ◌≤◌, List, [], ◌∷◌, length, refl, arith, None, true, false, nat_lt}
-use Rattle.std.specs.Prelude.{◌==◌}
+use Rattle.std.proofs.Common.{◌≡◌, ℕ, ◌<◌, ◌≤◌, List, [], ◌∷◌, length, get_or, refl, ap, ◌∙◌, arith, None, true, false, nat_lt}
+use Rattle.std.specs.Prelude.{◌==◌, option_map, option_and_then}
 use Rattle.std.proofs.lemmas.Bool.Decides.{nat_tests}
 use Rattle.con_events.specs.Reading.{nothing_left}
-use Rattle.serde_json.specs.View.{items_view}
+use Rattle.serde_json.specs.Data.{item, no_items}
+use Rattle.serde_json.specs.Find.{as_str}
+use Rattle.serde_json.specs.View.{view, items_view}
 use Rattle.serde_json.specs.declared.value.Value.{Value}
-use Rattle.con_trace.specs.Told.{only, is_bare, number_and_flag_in, cells_in, painted_in, number_pair_in, unit_pair_in, read_with_in, said_items, ending_items, as_told, unhex_units, unhex_bytes, cells_from}
+use Rattle.con_trace.specs.Ending.{at_frame}
+use Rattle.con_trace.specs.Told.{alone_in, worded_in, kind_in, length_in, only, is_bare, number_and_flag_in, cells_in, painted_in, number_pair_in, unit_pair_in, read_with_in, said_items, ending_items, as_told, unhex_units, unhex_bytes, cells_from}
 
 pub less : (a b : ℕ) → nat_lt a b ≡ true → a < b
 less a b h = grind (arith, nat_tests)
@@ -115,13 +118,61 @@ said_long (a ∷ b ∷ c ∷ []) h = absurd (omega arith)
 said_long (a ∷ b ∷ c ∷ d ∷ []) h = absurd (omega arith)
 said_long (a ∷ b ∷ c ∷ d ∷ e ∷ vs) h = refl
 
-pub no_ending : (vs : List Value) → length vs ≢ 2 → length vs ≢ 3 → length vs ≢ 4 → None ≡ ending_items (items_view vs)
-no_ending [] a b c = refl
-no_ending (d ∷ []) a b c = refl
-no_ending (d ∷ e ∷ []) a b c = absurd (a refl)
-no_ending (d ∷ e ∷ f ∷ []) a b c = absurd (b refl)
-no_ending (d ∷ e ∷ f ∷ g ∷ []) a b c = absurd (c refl)
-no_ending (d ∷ e ∷ f ∷ g ∷ h ∷ vs) a b c = refl
+pub four_items : (vs : List Value) (a b c d : Value) → 4 ≤ length vs → length vs < 5 → a ≡ get_or vs 0 a → b ≡ get_or vs 1 b → c ≡ get_or vs 2 c
+    → d ≡ get_or vs 3 d → item (view a) (item (view b) (item (view c) (item (view d) no_items))) ≡ items_view vs
+four_items [] a b c d l u ea eb ec ed = absurd (omega arith)
+four_items (p ∷ []) a b c d l u ea eb ec ed = absurd (omega arith)
+four_items (p ∷ q ∷ []) a b c d l u ea eb ec ed = absurd (omega arith)
+four_items (p ∷ q ∷ r ∷ []) a b c d l u ea eb ec ed = absurd (omega arith)
+four_items (p ∷ q ∷ r ∷ s ∷ []) a b c d l u ea eb ec ed =
+    ap (λ v. item (view v) (item (view b) (item (view c) (item (view d) no_items)))) ea
+    ∙ (ap (λ v. item (view p) (item (view v) (item (view c) (item (view d) no_items)))) eb
+    ∙ (ap (λ v. item (view p) (item (view q) (item (view v) (item (view d) no_items)))) ec
+    ∙ ap (λ v. item (view p) (item (view q) (item (view r) (item (view v) no_items)))) ed))
+four_items (p ∷ q ∷ r ∷ s ∷ t ∷ vs) a b c d l u ea eb ec ed = absurd (omega arith)
+
+-- last lines by the count of their values, of which the first tells nothing
+
+pub ending_of_two : (vs : List Value) (s : Value) → 2 ≤ length vs → length vs < 3 → s ≡ get_or vs 1 s
+    → option_and_then alone_in (length_in (view s)) ≡ ending_items (items_view vs)
+ending_of_two [] s l u e = absurd (omega arith)
+ending_of_two (p ∷ []) s l u e = absurd (omega arith)
+ending_of_two (p ∷ q ∷ []) s l u e = ap (λ v. option_and_then alone_in (length_in (view v))) e
+ending_of_two (p ∷ q ∷ r ∷ vs) s l u e = absurd (omega arith)
+
+pub ending_of_three : (vs : List Value) (s t : Value) → 3 ≤ length vs → length vs < 4 → s ≡ get_or vs 1 s → t ≡ get_or vs 2 t
+    → option_and_then (λ n. option_and_then (worded_in n) (as_str (view t))) (length_in (view s)) ≡ ending_items (items_view vs)
+ending_of_three [] s t l u e f = absurd (omega arith)
+ending_of_three (p ∷ []) s t l u e f = absurd (omega arith)
+ending_of_three (p ∷ q ∷ []) s t l u e f = absurd (omega arith)
+ending_of_three (p ∷ q ∷ r ∷ []) s t l u e f =
+    ap (λ v. option_and_then (λ n. option_and_then (worded_in n) (as_str (view t))) (length_in (view v))) e
+    ∙ ap (λ v. option_and_then (λ n. option_and_then (worded_in n) (as_str (view v))) (length_in (view q))) f
+ending_of_three (p ∷ q ∷ r ∷ w ∷ vs) s t l u e f = absurd (omega arith)
+
+pub ending_of_four : (vs : List Value) (s t : Value) → 4 ≤ length vs → length vs < 5 → s ≡ get_or vs 2 s → t ≡ get_or vs 3 t
+    → option_and_then (λ place. option_map (at_frame place) (option_and_then kind_in (as_str (view t)))) (length_in (view s)) ≡ ending_items (items_view vs)
+ending_of_four [] s t l u e f = absurd (omega arith)
+ending_of_four (p ∷ []) s t l u e f = absurd (omega arith)
+ending_of_four (p ∷ q ∷ []) s t l u e f = absurd (omega arith)
+ending_of_four (p ∷ q ∷ r ∷ []) s t l u e f = absurd (omega arith)
+ending_of_four (p ∷ q ∷ r ∷ w ∷ []) s t l u e f =
+    ap (λ v. option_and_then (λ place. option_map (at_frame place) (option_and_then kind_in (as_str (view t)))) (length_in (view v))) e
+    ∙ ap (λ v. option_and_then (λ place. option_map (at_frame place) (option_and_then kind_in (as_str (view v)))) (length_in (view r))) f
+ending_of_four (p ∷ q ∷ r ∷ w ∷ x ∷ vs) s t l u e f = absurd (omega arith)
+
+pub ending_short : (vs : List Value) → length vs < 2 → None ≡ ending_items (items_view vs)
+ending_short [] h = refl
+ending_short (d ∷ []) h = refl
+ending_short (d ∷ e ∷ vs) h = absurd (omega arith)
+
+pub ending_long : (vs : List Value) → 5 ≤ length vs → None ≡ ending_items (items_view vs)
+ending_long [] h = absurd (omega arith)
+ending_long (d ∷ []) h = absurd (omega arith)
+ending_long (d ∷ e ∷ []) h = absurd (omega arith)
+ending_long (d ∷ e ∷ f ∷ []) h = absurd (omega arith)
+ending_long (d ∷ e ∷ f ∷ g ∷ []) h = absurd (omega arith)
+ending_long (d ∷ e ∷ f ∷ g ∷ h ∷ vs) l = refl
 
 -- too few digits
 pub few_digits : (text : List ℕ) → length text < 4 → 0 < length text → unhex_units text ≡ None

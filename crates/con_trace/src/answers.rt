@@ -37,14 +37,14 @@ fn kept_length(n: u64) -> Option<u64>
 fn whole(value: &Value) -> Option<i64>
     ensures { result ≡ whole_in (view value.now) }
 {
-    kept_whole(value.as_i64()?)
+    kept_whole(found!(value.as_i64()))
 }
 
 /// A number of 64 bits.
 pub fn length(value: &Value) -> Option<u64>
     ensures { result ≡ length_in (view value.now) }
 {
-    kept_length(value.as_u64()?)
+    kept_length(found!(value.as_u64()))
 }
 
 /// The one item.
@@ -216,8 +216,8 @@ fn waited(alloc: Global, value: &Value) -> Result<Reply, Misread>
     ensures form { IfErr result (λ e. IsForm e → wait_in (view value.now) ≡ None) }
 {
     match value.as_str() {
-        Some(text) => Ok(Reply::Units(units_from(alloc, text.as_bytes())?)),
-        None => Ok(Reply::Records(records(alloc, value)?)),
+        Some(text) => Ok(Reply::Units(given!(units_from(alloc, text.as_bytes())))),
+        None => Ok(Reply::Records(given!(records(alloc, value)))),
     }
 }
 
@@ -241,19 +241,19 @@ fn value(alloc: Global, form: Form, items: &[Value]) -> Result<Reply, Misread>
             },
             None => Err(Misread::Form),
         },
-        Form::Fields(count) => Ok(Reply::Numbers(many(alloc, count, items)?)),
-        Form::NumberAndFlag => Ok(Reply::Numbers(number_and_flag(alloc, items)?)),
-        Form::Sides => Ok(Reply::Numbers(sides(alloc, items)?)),
-        Form::Ids => Ok(Reply::Numbers(ids(alloc, items)?)),
-        Form::Lines => Ok(Reply::Lines(lines(alloc, items)?)),
+        Form::Fields(count) => Ok(Reply::Numbers(given!(many(alloc, count, items)))),
+        Form::NumberAndFlag => Ok(Reply::Numbers(given!(number_and_flag(alloc, items)))),
+        Form::Sides => Ok(Reply::Numbers(given!(sides(alloc, items)))),
+        Form::Ids => Ok(Reply::Numbers(given!(ids(alloc, items)))),
+        Form::Lines => Ok(Reply::Lines(given!(lines(alloc, items)))),
         Form::Cells => cells(alloc, items),
         Form::Control => Err(Misread::Form),
         Form::Units => match only(items) {
-            Some(one) => Ok(Reply::Units(units(alloc, one)?)),
+            Some(one) => Ok(Reply::Units(given!(units(alloc, one)))),
             None => Err(Misread::Form),
         },
         Form::Records => match only(items) {
-            Some(one) => Ok(Reply::Records(records(alloc, one)?)),
+            Some(one) => Ok(Reply::Records(given!(records(alloc, one)))),
             None => Err(Misread::Form),
         },
         Form::Wait => match only(items) {

@@ -25,33 +25,23 @@ pub enum AuditLine {
 
 #[tactic(auto, using(crate::proofs::Puts::arrays), unfolding(json::specs::Print::escape_byte))]
 impl Line {
-    /// It is a run.
-    fn a_run(&mut self) -> Result<(), OutOfMemory>
-        ensures { IfOk result (λ _. self.new ≡ put self.old (found_data a_run)) }
-    {
-        self.open_with("audit")?;
-        self.word("yes")?;
-        self.shut()
-    }
-
-    /// It is none.
-    fn no_run(&mut self, alloc: Global, place: u64, part: &str) -> Result<(), OutOfMemory>
-        ensures { IfOk result (λ _. self.new ≡ put self.old (found_data (no_run place part.now))) }
-    {
-        self.open_with("audit")?;
-        self.word("no")?;
-        self.natural(place)?;
-        self.any_text(alloc, owned(alloc, part)?)?;
-        self.shut()
-    }
-
     /// What an audit found.
     fn audit_line(&mut self, alloc: Global, found: &AuditLine) -> Result<(), OutOfMemory>
         ensures { IfOk result (λ _. self.new ≡ put self.old (found_data (found_of found.now))) }
     {
         match found {
-            AuditLine::Yes => self.a_run(),
-            AuditLine::No { place, part } => self.no_run(alloc, *place, part),
+            AuditLine::Yes => {
+                given!(self.open_with("audit"));
+                given!(self.word("yes"));
+                self.shut()
+            }
+            AuditLine::No { place, part } => {
+                given!(self.open_with("audit"));
+                given!(self.word("no"));
+                given!(self.natural(*place));
+                given!(self.any_text(alloc, given!(owned(alloc, part))));
+                self.shut()
+            }
         }
     }
 
@@ -61,7 +51,7 @@ impl Line {
         requires { self.old ≡ nothing_written }
         ensures { IfOk result (λ _. self.new.bytes ≡ ended (found_text (found_of found.now))) }
     {
-        self.audit_line(alloc, found)?;
+        given!(self.audit_line(alloc, found));
         self.append(b"\n")
     }
 }

@@ -30,7 +30,7 @@ fn words(alloc: Global, value: &Value) -> Result<Words, Misread>
     ensures form { IfErr result (λ e. IsForm e → words_in (view value.now) ≡ None) }
 {
     match value.as_str() {
-        Some(text) => Ok(Words::Each(units_from(alloc, text.as_bytes())?)),
+        Some(text) => Ok(Words::Each(given!(units_from(alloc, text.as_bytes())))),
         None => match unit(value) {
             Some(word) => Ok(Words::One(word)),
             None => Err(Misread::Form),

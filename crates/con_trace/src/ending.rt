@@ -1,6 +1,6 @@
 //! The last line of a report.
 
-ghost use Rattle.std.specs.Prelude.{string_bytes, codes, ◌≡◌, ◌≤◌, List, [], ◌∷◌, ◌++◌, IfOk, OnOk, OnErr, length, take, Option};
+ghost use Rattle.std.specs.Prelude.{string_bytes, ◌≡◌, ◌≤◌, List, [], ◌∷◌, ◌++◌, IfOk, OnOk, OnErr, length, take, Option};
 ghost use Rattle.std.specs.Char.Utf16.{utf16_lossy_chars};
 ghost use Rattle.std.specs.Str.{encode_utf8_all};
 ghost use Rattle.json.specs.Print.{escape};
@@ -10,8 +10,7 @@ ghost use Rattle.con_outside.specs.Outside.{Rose, then_written, WroteFront, Wrot
 ghost use Rattle.con_trace.specs.Ending.{alone as alone_ending, worded as worded_ending, at_frame as frame_ending};
 ghost use Rattle.con_trace.specs.Ending.{kind_text, ending_of, ending_data, ending_text};
 ghost use Rattle.con_trace.specs.Line.{ended};
-ghost use Rattle.con_trace.specs.Shown.{natural as natural_data};
-ghost use Rattle.con_trace.specs.Writing.{put, more, parted, opened, shut as shut_array, nothing_written};
+ghost use Rattle.con_trace.specs.Writing.{put, nothing_written};
 
 use crate::line::Line;
 use con_outside::{Fault, Sink, write_whole};
@@ -51,7 +50,9 @@ fn quoted(alloc: Global, text: String) -> Result<String, OutOfMemory>
     ensures { IfOk result (λ s. string_bytes s ≡ compact_text (string (string_bytes text))) }
 {
     let value = Value::String(text);
-    match value.to_string(alloc) {
+    let shown = value.to_string(alloc);
+    drop(value);
+    match shown {
         Ok(shown) => Ok(shown),
         Err(_) => Err(OutOfMemory),
     }
@@ -64,7 +65,7 @@ impl Line {
     pub fn any_text(&mut self, alloc: Global, text: String) -> Result<(), OutOfMemory>
         ensures { IfOk result (λ _. self.new ≡ put self.old (string (string_bytes text))) }
     {
-        let shown = quoted(alloc, text)?;
+        let shown = given!(quoted(alloc, text));
         self.value(shown.as_bytes())
     }
 
@@ -75,34 +76,24 @@ impl Line {
         self.named("end", &[status as i64])
     }
 
-    /// A status and a text that is JSON already.
-    #[tactic(auto, using(crate::proofs::Puts::shown_third))]
-    fn status_and_shown(&mut self, status: u8, shown: &str) -> Result<(), OutOfMemory>
-        ensures { IfOk result (λ _. self.new ≡ shut_array (more (parted (put (put (opened self.old) (string (codes "end"))) (natural_data status))) shown.now)) }
-    {
-        self.open_with("end")?;
-        self.natural(status as u64)?;
-        self.value(shown.as_bytes())?;
-        self.shut()
-    }
-
     /// A status and a text.
-    #[tactic(auto, using(crate::proofs::Puts::shown_third))]
     pub fn worded(&mut self, alloc: Global, status: u8, text: String) -> Result<(), OutOfMemory>
         ensures { IfOk result (λ _. self.new ≡ put self.old (ending_data (worded_ending status (string_bytes text)))) }
     {
-        let shown = quoted(alloc, text)?;
-        self.status_and_shown(status, shown.as_str())
+        given!(self.open_with("end"));
+        given!(self.natural(status as u64));
+        given!(self.any_text(alloc, text));
+        self.shut()
     }
 
     /// Status 8, with the place and kind of a fault of the link.
     pub fn at_frame(&mut self, place: u64, kind: FrameFault) -> Result<(), OutOfMemory>
         ensures { IfOk result (λ _. self.new ≡ put self.old (ending_data (frame_ending place kind))) }
     {
-        self.open_with("end")?;
-        self.natural(8)?;
-        self.natural(place)?;
-        self.word(kind_word(kind))?;
+        given!(self.open_with("end"));
+        given!(self.natural(8));
+        given!(self.natural(place));
+        given!(self.word(kind_word(kind)));
         self.shut()
     }
 
@@ -112,8 +103,8 @@ impl Line {
     {
         match end {
             EndLine::Plain(status) => self.alone(*status),
-            EndLine::Word(status, text) => self.worded(alloc, *status, owned(alloc, text)?),
-            EndLine::Path(units) => self.worded(alloc, 3, spelled(alloc, units)?),
+            EndLine::Word(status, text) => self.worded(alloc, *status, given!(owned(alloc, text))),
+            EndLine::Path(units) => self.worded(alloc, 3, given!(spelled(alloc, units))),
             EndLine::Frame(place, kind) => self.at_frame(*place, *kind),
         }
     }
@@ -124,7 +115,7 @@ impl Line {
         requires { self.old ≡ nothing_written }
         ensures { IfOk result (λ _. self.new.bytes ≡ ended (ending_text (ending_of end.now))) }
     {
-        self.end_line(alloc, end)?;
+        given!(self.end_line(alloc, end));
         self.append(b"\n")
     }
 }

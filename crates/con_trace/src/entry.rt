@@ -9,7 +9,7 @@ ghost use Rattle.con_trace.specs.Line.{actor_text, wanted_name, event_name, want
 ghost use Rattle.con_trace.specs.Writing.{put, put_each, nothing_written};
 
 use crate::line::Line;
-use con_events::{Actor, Call, Entry, Event, Reply, Shows, Wanted, name, tell};
+use con_events::{Actor, Entry, Event, Reply, Shows, Wanted, name, tell};
 use con_outside::{Fault, Sink, write_whole};
 use con_units::OutOfMemory;
 use itoa::Buffer;
@@ -28,23 +28,14 @@ fn wanted_name_of(wanted: &Wanted) -> &'static str
     }
 }
 
-/// A call's name.
-#[tactic(auto, using(crate::proofs::Names::call_name_plain))]
-fn call_name(call: &Call) -> &'static str
-    ensures name { result.now ≡ event_name (Event.Call call.now) }
-    ensures plain { escape result.now ≡ result.now }
-{
-    name(call)
-}
-
 /// An event's name.
-#[tactic(auto, unfolding(json::specs::Print::escape_byte))]
+#[tactic(auto, using(crate::proofs::Names::call_name_plain), unfolding(json::specs::Print::escape_byte))]
 fn name_of_event(event: &Event) -> &'static str
     ensures name { result.now ≡ event_name event.now }
     ensures plain { escape result.now ≡ result.now }
 {
     match event {
-        Event::Call(call) => call_name(call),
+        Event::Call(call) => name(call),
         Event::Begin(wanted) => wanted_name_of(wanted),
         Event::Collect => "collect",
         Event::TakeCtrl => "take-ctrl",
@@ -62,23 +53,13 @@ fn name_of_event(event: &Event) -> &'static str
 #[tactic(auto, using(crate::proofs::Puts::arrays), unfolding(json::specs::Print::escape_byte))]
 impl Line {
     /// A client's number behind a `c`.
+    #[tactic(auto, using(crate::proofs::Puts::client_is))]
     fn client(&mut self, client: u8) -> Result<(), OutOfMemory>
         ensures { IfOk result (λ _. self.new ≡ put self.old (string (actor_text (Actor.Client client)))) }
     {
         let mut buffer = Buffer::new();
-        self.letter_and_digits("c", buffer.format(client))
-    }
-
-    /// A letter and digits.
-    #[tactic(auto, using(crate::proofs::Puts::values))]
-    fn letter_and_digits(&mut self, letter: &str, digits: &str) -> Result<(), OutOfMemory>
-        requires { escape (letter.now ++ digits.now) ≡ letter.now ++ digits.now }
-        ensures { IfOk result (λ _. self.new ≡ put self.old (string (letter.now ++ digits.now))) }
-    {
-        self.comma()?;
-        self.append(b"\"")?;
-        self.append(letter.as_bytes())?;
-        self.append(digits.as_bytes())?;
+        given!(self.value(b"\"c"));
+        given!(self.append(buffer.format(client).as_bytes()));
         self.append(b"\"")
     }
 
@@ -96,12 +77,8 @@ impl Line {
         ensures { IfOk result (λ _. self.new ≡ put_each self.old (wanted_data wanted.now)) }
     {
         match wanted {
-            Wanted::Read { handle, n } => {
-                self.number(*handle)?;
-                self.number(*n)
-            }
-            Wanted::ReadInput { handle, n } => {
-                self.number(*handle)?;
+            Wanted::Read { handle, n } | Wanted::ReadInput { handle, n } => {
+                given!(self.number(*handle));
                 self.number(*n)
             }
             Wanted::ReadWith {
@@ -110,18 +87,12 @@ impl Line {
                 initial,
                 mask,
             } => {
-                self.number(*handle)?;
-                self.number(*n)?;
-                self.text(initial)?;
+                given!(self.number(*handle));
+                given!(self.number(*n));
+                given!(self.text(initial));
                 self.number(*mask)
             }
         }
-    }
-
-    fn call(&mut self, call: &Call) -> Result<(), OutOfMemory>
-        ensures { IfOk result (λ _. self.new ≡ put_each self.old (event_data (Event.Call call.now))) }
-    {
-        tell(call, self)
     }
 
     /// An event's arguments, one after another.
@@ -129,12 +100,12 @@ impl Line {
         ensures { IfOk result (λ _. self.new ≡ put_each self.old (event_data event.now)) }
     {
         match event {
-            Event::Call(call) => self.call(call),
+            Event::Call(call) => tell(call, self),
             Event::Begin(wanted) => self.wanted(wanted),
             Event::Exit(status) => self.number(*status),
             Event::Feed(bytes) => self.bytes(bytes.as_slice()),
             Event::Resize(size) => {
-                self.unit(size.w)?;
+                given!(self.unit(size.w));
                 self.unit(size.h)
             }
             _ => Ok(()),
@@ -145,8 +116,8 @@ impl Line {
     fn all_arguments(&mut self, event: &Event) -> Result<(), OutOfMemory>
         ensures { IfOk result (λ _. self.new ≡ put self.old (list_of (event_data event.now))) }
     {
-        self.open()?;
-        self.arguments(event)?;
+        given!(self.open());
+        given!(self.arguments(event));
         self.shut()
     }
 
@@ -154,11 +125,11 @@ impl Line {
     pub fn entry(&mut self, entry: &Entry, reply: &Reply, end: u64) -> Result<(), OutOfMemory>
         ensures { IfOk result (λ _. self.new ≡ put self.old (line_data entry.now reply.now end)) }
     {
-        self.open()?;
-        self.actor(entry.actor)?;
-        self.word(name_of_event(&entry.event))?;
-        self.all_arguments(&entry.event)?;
-        self.answer(&entry.event, reply, end)?;
+        given!(self.open());
+        given!(self.actor(entry.actor));
+        given!(self.word(name_of_event(&entry.event)));
+        given!(self.all_arguments(&entry.event));
+        given!(self.answer(&entry.event, reply, end));
         self.shut()
     }
 
@@ -168,7 +139,7 @@ impl Line {
         requires { self.old ≡ nothing_written }
         ensures { IfOk result (λ _. self.new.bytes ≡ ended (line_text entry.now reply.now end)) }
     {
-        self.entry(entry, reply, end)?;
+        given!(self.entry(entry, reply, end));
         self.append(b"\n")
     }
 }
@@ -179,7 +150,7 @@ pub fn line_of(alloc: Global, entry: &Entry, reply: &Reply, end: u64) -> Result<
     ensures { IfOk result (λ line. line.bytes ≡ line_text entry.now reply.now end) }
 {
     let mut line = Line::new(alloc);
-    line.entry(entry, reply, end)?;
+    given!(line.entry(entry, reply, end));
     Ok(line)
 }
 

@@ -20,7 +20,7 @@ fn number_pair(items: &[Value]) -> Option<(u32, u32)>
     ensures { result ≡ number_pair_in (items_view items.now) }
 {
     match items {
-        [first, last] => Some((number(first)?, number(last)?)),
+        [first, last] => Some((found!(number(first)), found!(number(last)))),
         _ => None,
     }
 }
@@ -30,7 +30,7 @@ fn unit_pair(items: &[Value]) -> Option<(u16, u16)>
     ensures { result ≡ unit_pair_in (items_view items.now) }
 {
     match items {
-        [first, last] => Some((unit(first)?, unit(last)?)),
+        [first, last] => Some((found!(unit(first)), found!(unit(last)))),
         _ => None,
     }
 }
@@ -50,7 +50,7 @@ fn read_with(alloc: Global, items: &[Value]) -> Result<Event, Misread>
             let Some(mask) = number(mask) else {
                 return Err(Misread::Form);
             };
-            let initial = units(alloc, initial)?;
+            let initial = given!(units(alloc, initial));
             Ok(Event::Begin(Wanted::ReadWith {
                 handle,
                 n,
@@ -67,7 +67,7 @@ fn feed(alloc: Global, value: &Value) -> Result<Event, Misread>
     ensures form { IfErr result (λ e. IsForm e → feed_in (view value.now) ≡ None) }
 {
     match value.as_str() {
-        Some(text) => Ok(Event::Feed(bytes_from(alloc, text.as_bytes())?)),
+        Some(text) => Ok(Event::Feed(given!(bytes_from(alloc, text.as_bytes())))),
         None => Err(Misread::Form),
     }
 }
@@ -81,7 +81,7 @@ fn call(alloc: Global, name: &str, items: &[Value]) -> Result<Event, Misread>
         alloc,
         items: ItemsLeft { left: items },
     };
-    Ok(Event::Call(whole_call(name, &mut cursor)?))
+    Ok(Event::Call(given!(whole_call(name, &mut cursor))))
 }
 
 #[tactic(auto, unfolding(crate::specs::Told::of_terminal))]

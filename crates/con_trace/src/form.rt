@@ -6,7 +6,7 @@ ghost use Rattle.con_trace.specs.Form.{form_of, call_form};
 use con_events::{Call, Event};
 
 /// What an event is answered with, where it is not refused.
-#[derive(Clone, Copy, PartialEq, Eq, Debug, Drop)]
+#[derive(Clone, Copy, Drop)]
 pub enum Form {
     /// Nothing but that it is done.
     Nothing,

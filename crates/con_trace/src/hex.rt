@@ -56,7 +56,7 @@ pub fn push_cells(out: &mut Vec<u8>, cells: &[Cell]) -> Result<(), OutOfMemory>
     ensures { IfOk result (λ _. out.new.items ≡ out.old.items ++ hex_units (cell_words cells.now)) }
 {
     for cell in cells {
-        push_units(out, &[cell.unit(), cell.attr().bits()])?;
+        given!(push_units(out, &[cell.unit(), cell.attr().bits()]));
     }
     Ok(())
 }

@@ -1,11 +1,12 @@
 //! The last line, read.
 
-ghost use Rattle.std.specs.Prelude.{◌≡◌, length, Some, None, IfOk, IfSome, IsTrue, ◌↔◌, option_map, option_and_then};
+ghost use Rattle.std.specs.Prelude.{◌≡◌, Some, None, IfOk, IfSome, IsTrue, ◌↔◌, option_map, option_and_then};
+ghost use Rattle.serde_json.specs.Find.{as_str};
 ghost use Rattle.serde_json.specs.View.{view, items_view};
-ghost use Rattle.con_trace.specs.Ending.{IsEnding, ending_data, ending_text, status_of};
+ghost use Rattle.con_trace.specs.Ending.{at_frame, IsEnding, ending_data, ending_text, status_of};
 ghost use Rattle.con_trace.specs.Writing.{put};
 ghost use Rattle.con_trace.specs.Last.{last_of, TextFits};
-ghost use Rattle.con_trace.specs.Told.{kind_in, alone_in, is_worded, worded_in, ending_items, ending_in};
+ghost use Rattle.con_trace.specs.Told.{length_in, kind_in, alone_in, is_worded, worded_in, ending_items, ending_in};
 
 use crate::answers::length as number;
 use crate::ending::owned;
@@ -91,56 +92,42 @@ fn worded(status: u64, text: &str) -> Option<Last<'_>>
     }
 }
 
-fn of_two(items: &[Value]) -> Option<Last<'static>>
-    requires { length items.now ≡ 2 }
-    ensures told { option_map last_of result ≡ ending_items (items_view items.now) }
+/// A last line from a status alone.
+fn of_status(status: &Value) -> Option<Last<'static>>
+    ensures told { option_map last_of result ≡ option_and_then alone_in (length_in (view status.now)) }
     ensures text { IfSome result (λ last. TextFits (last_of last)) }
 {
-    match items {
-        [_, status] => alone(number(status)?),
-        _ => None,
-    }
+    alone(found!(number(status)))
 }
 
-fn of_three(items: &[Value]) -> Option<Last<'_>>
-    requires { length items.now ≡ 3 }
-    ensures told { option_map last_of result ≡ ending_items (items_view items.now) }
+/// A last line from a status and a text.
+fn of_text<'v>(status: &Value, text: &'v Value) -> Option<Last<'v>>
+    ensures told { option_map last_of result ≡ option_and_then (λ n. option_and_then (worded_in n) (as_str (view text.now))) (length_in (view status.now)) }
     ensures text { IfSome result (λ last. TextFits (last_of last)) }
 {
-    match items {
-        [_, status, text] => {
-            let status = number(status)?;
-            let text = text.as_str()?;
-            worded(status, text)
-        }
-        _ => None,
-    }
+    let status = found!(number(status));
+    worded(status, found!(text.as_str()))
 }
 
-fn of_four(items: &[Value]) -> Option<Last<'static>>
-    requires { length items.now ≡ 4 }
-    ensures told { option_map last_of result ≡ ending_items (items_view items.now) }
+/// A last line from a place and a word.
+fn of_frame(place: &Value, word: &Value) -> Option<Last<'static>>
+    ensures told { option_map last_of result
+        ≡ option_and_then (λ place. option_map (at_frame place) (option_and_then kind_in (as_str (view word.now)))) (length_in (view place.now)) }
     ensures text { IfSome result (λ last. TextFits (last_of last)) }
 {
-    match items {
-        [_, _, place, word] => {
-            let place = number(place)?;
-            let word = word.as_str()?;
-            Some(Last::Frame(place, kind(word)?))
-        }
-        _ => None,
-    }
+    let place = found!(number(place));
+    let word = found!(word.as_str());
+    Some(Last::Frame(place, found!(kind(word))))
 }
 
-#[tactic(auto, using(crate::proofs::Shapes::no_ending))]
 fn last_of_items(items: &[Value]) -> Option<Last<'_>>
     ensures told { option_map last_of result ≡ ending_items (items_view items.now) }
     ensures text { IfSome result (λ last. TextFits (last_of last)) }
 {
-    match items.len() {
-        2 => of_two(items),
-        3 => of_three(items),
-        4 => of_four(items),
+    match items {
+        [_, alone] => of_status(alone),
+        [_, status, text] => of_text(status, text),
+        [_, _, place, word] => of_frame(place, word),
         _ => None,
     }
 }
@@ -150,7 +137,7 @@ fn ending_told(value: &Value) -> Option<Last<'_>>
     ensures told { option_map last_of result ≡ ending_in (view value.now) }
     ensures text { IfSome result (λ last. TextFits (last_of last)) }
 {
-    last_of_items(value.as_array()?.as_slice())
+    last_of_items(found!(value.as_array()).as_slice())
 }
 
 /// The last line that a value is.
@@ -168,7 +155,7 @@ impl Line {
     {
         match last {
             Last::Alone(status) => self.alone(*status),
-            Last::Worded(status, text) => self.worded(alloc, *status, owned(alloc, text)?),
+            Last::Worded(status, text) => self.worded(alloc, *status, given!(owned(alloc, text))),
             Last::Frame(place, kind) => self.at_frame(*place, *kind),
         }
     }
@@ -180,6 +167,6 @@ pub fn is_ending_of(alloc: Global, last: &Last<'_>, line: &[u8]) -> Result<bool,
     ensures { IfOk result (λ b. IsTrue b ↔ (line.now ≡ ending_text (last_of last.now))) }
 {
     let mut written = Line::new(alloc);
-    written.last(alloc, last)?;
+    given!(written.last(alloc, last));
     Ok(written.as_slice() == line)
 }

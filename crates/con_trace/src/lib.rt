@@ -15,6 +15,27 @@
 //! Never promised: that memory is there, what a real sink holds, and that a console gives the replies of a report.
 #![tactic(auto)]
 
+/// What a call gave. Where it gave a fault, the function ends with that fault, as by `?`, which calls two more functions to convert it, to be
+/// proved at each such call.
+macro_rules! given {
+    ($call:expr) => {
+        match $call {
+            Ok(value) => value,
+            Err(fault) => return Err(fault),
+        }
+    };
+}
+
+/// What a call found. Where it found nothing, the function ends with nothing, as by `?`.
+macro_rules! found {
+    ($call:expr) => {
+        match $call {
+            Some(value) => value,
+            None => return None,
+        }
+    };
+}
+
 pub mod answers;
 pub mod audit;
 pub mod cursor;

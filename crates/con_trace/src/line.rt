@@ -73,10 +73,10 @@ impl Line {
     }
 
     /// Makes ready for one more value, and writes its bytes or their front.
-    pub fn value(&mut self, bytes: &[u8]) -> Result<(), OutOfMemory>
+    pub(crate) fn value(&mut self, bytes: &[u8]) -> Result<(), OutOfMemory>
         ensures { IfOk result (λ _. self.new ≡ more (parted self.old) bytes.now) }
     {
-        self.comma()?;
+        given!(self.comma());
         self.append(bytes)
     }
 
@@ -119,8 +119,8 @@ impl Line {
         requires { escape text.now ≡ text.now }
         ensures { IfOk result (λ _. self.new ≡ put self.old (string text.now)) }
     {
-        self.value(b"\"")?;
-        self.append(text.as_bytes())?;
+        given!(self.value(b"\""));
+        given!(self.append(text.as_bytes()));
         self.append(b"\"")
     }
 
@@ -149,8 +149,8 @@ impl Line {
     pub fn units(&mut self, units: &[u16]) -> Result<(), OutOfMemory>
         ensures { IfOk result (λ _. self.new ≡ put self.old (units_text units.now)) }
     {
-        self.value(b"\"")?;
-        self.append_units(units)?;
+        given!(self.value(b"\""));
+        given!(self.append_units(units));
         self.append(b"\"")
     }
 
@@ -158,8 +158,8 @@ impl Line {
     pub fn bytes(&mut self, bytes: &[u8]) -> Result<(), OutOfMemory>
         ensures { IfOk result (λ _. self.new ≡ put self.old (string (hex_bytes bytes.now))) }
     {
-        self.value(b"\"")?;
-        self.append_bytes(bytes)?;
+        given!(self.value(b"\""));
+        given!(self.append_bytes(bytes));
         self.append(b"\"")
     }
 
@@ -167,8 +167,8 @@ impl Line {
     pub fn cells(&mut self, cells: &[Cell]) -> Result<(), OutOfMemory>
         ensures { IfOk result (λ _. self.new ≡ put self.old (units_text (cell_words cells.now))) }
     {
-        self.value(b"\"")?;
-        self.append_cells(cells)?;
+        given!(self.value(b"\""));
+        given!(self.append_cells(cells));
         self.append(b"\"")
     }
 
@@ -177,7 +177,7 @@ impl Line {
     pub fn open(&mut self) -> Result<(), OutOfMemory>
         ensures { IfOk result (λ _. self.new ≡ opened self.old) }
     {
-        self.value(b"[")?;
+        given!(self.value(b"["));
         self.later = false;
         Ok(())
     }
@@ -187,7 +187,7 @@ impl Line {
         requires { escape text.now ≡ text.now }
         ensures { IfOk result (λ _. self.new ≡ put (opened self.old) (string text.now)) }
     {
-        self.open()?;
+        given!(self.open());
         self.word(text)
     }
 
@@ -196,7 +196,7 @@ impl Line {
     pub fn shut(&mut self) -> Result<(), OutOfMemory>
         ensures { IfOk result (λ _. self.new ≡ shut_array self.old) }
     {
-        self.append(b"]")?;
+        given!(self.append(b"]"));
         self.later = true;
         Ok(())
     }

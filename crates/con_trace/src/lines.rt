@@ -3,6 +3,7 @@
 ghost use Rattle.std.specs.Prelude.{◌≡◌, Some, None, IfOk, IfErr, IsTrue, ◌↔◌, option_map, option_and_then};
 ghost use Rattle.con_events.specs.Reading.{IsForm};
 ghost use Rattle.serde_json.specs.Read.{read as read_json};
+ghost use Rattle.serde_json.specs.Data.{item, no_items};
 ghost use Rattle.serde_json.specs.View.{view, items_view};
 ghost use Rattle.con_trace.specs.Told.{one_digit, digits_after, client_in, actor_in, answer_in, answered, said_by, said_items, said_in};
 ghost use Rattle.con_trace.specs.Cut.{IsLineRead};
@@ -25,7 +26,7 @@ fn small_number(digits: &[u8]) -> Option<u8>
 {
     let mut n: u8 = 0;
     for digit in digits {
-        n = more_by(n, *digit)?;
+        n = found!(more_by(n, *digit));
     }
     Some(n)
 }
@@ -78,7 +79,7 @@ fn answer(alloc: Global, event: &Event, value: &Value) -> Result<(Reply, u64), M
             Some(end) => Ok((Reply::Done, end)),
             None => Err(Misread::Form),
         },
-        _ => Ok((reply(alloc, form_of_event(event), value)?, 0)),
+        _ => Ok((given!(reply(alloc, form_of_event(event), value)), 0)),
     }
 }
 
@@ -93,7 +94,8 @@ fn said_of(
     ensures ok { IfOk result (λ s. said_by actor name.now (items_view arguments.now) (view value.now) ≡ Some s) }
     ensures form { IfErr result (λ e. IsForm e → said_by actor name.now (items_view arguments.now) (view value.now) ≡ None) }
 {
-    with_answer(alloc, actor, event(alloc, actor, name, arguments)?, value)
+    let event = given!(event(alloc, actor, name, arguments));
+    with_answer(alloc, actor, event, value)
 }
 
 /// An event with its answer.
@@ -101,12 +103,45 @@ fn with_answer(alloc: Global, actor: Actor, event: Event, value: &Value) -> Resu
     ensures ok { IfOk result (λ s. option_map (λ p. answered actor event p) (answer_in event (view value.now)) ≡ Some s) }
     ensures form { IfErr result (λ e. IsForm e → option_map (λ p. answered actor event p) (answer_in event (view value.now)) ≡ None) }
 {
-    let (reply, end) = answer(alloc, &event, value)?;
-    Ok(Said {
-        entry: Entry { actor, event },
-        reply,
-        end,
-    })
+    match answer(alloc, &event, value) {
+        Ok((reply, end)) => Ok(Said {
+            entry: Entry { actor, event },
+            reply,
+            end,
+        }),
+        Err(misread) => {
+            drop(event);
+            Err(misread)
+        }
+    }
+}
+
+/// An event and its answer from who acts, a name, arguments and an answer.
+fn said_by_parts(
+    alloc: Global,
+    who: &Value,
+    name: &Value,
+    arguments: &Value,
+    answer: &Value,
+) -> Result<Said, Misread>
+    ensures ok { IfOk result (λ s.
+        said_items (item (view who.now) (item (view name.now) (item (view arguments.now) (item (view answer.now) no_items)))) ≡ Some s) }
+    ensures form { IfErr result (λ e. IsForm e →
+        said_items (item (view who.now) (item (view name.now) (item (view arguments.now) (item (view answer.now) no_items)))) ≡ None) }
+{
+    let Some(who) = who.as_str() else {
+        return Err(Misread::Form);
+    };
+    let Some(actor) = actor(who) else {
+        return Err(Misread::Form);
+    };
+    let Some(name) = name.as_str() else {
+        return Err(Misread::Form);
+    };
+    let Some(arguments) = arguments.as_array() else {
+        return Err(Misread::Form);
+    };
+    said_of(alloc, actor, name, arguments.as_slice(), answer)
 }
 
 /// An event and its answer from the four items of a line.
@@ -115,21 +150,7 @@ fn four(alloc: Global, items: &[Value]) -> Result<Said, Misread>
     ensures form { IfErr result (λ e. IsForm e → said_items (items_view items.now) ≡ None) }
 {
     match items {
-        [who, name, arguments, answer] => {
-            let Some(who) = who.as_str() else {
-                return Err(Misread::Form);
-            };
-            let Some(actor) = actor(who) else {
-                return Err(Misread::Form);
-            };
-            let Some(name) = name.as_str() else {
-                return Err(Misread::Form);
-            };
-            let Some(arguments) = arguments.as_array() else {
-                return Err(Misread::Form);
-            };
-            said_of(alloc, actor, name, arguments.as_slice(), answer)
-        }
+        [who, name, arguments, answer] => said_by_parts(alloc, who, name, arguments, answer),
         _ => Err(Misread::Form),
     }
 }
@@ -149,7 +170,7 @@ fn said(alloc: Global, value: &Value) -> Result<Said, Misread>
 pub fn is_line_of(alloc: Global, said: &Said, line: &[u8]) -> Result<bool, OutOfMemory>
     ensures { IfOk result (λ b. IsTrue b ↔ (line.now ≡ line_text said.now.entry said.now.reply said.now.end)) }
 {
-    let written = line_of(alloc, &said.entry, &said.reply, said.end)?;
+    let written = given!(line_of(alloc, &said.entry, &said.reply, said.end));
     Ok(written.as_slice() == line)
 }
 
@@ -169,9 +190,14 @@ fn event_told(alloc: Global, said: Said, line: &[u8]) -> Result<LineRead, OutOfM
     requires { option_and_then said_in (read_json line.now) ≡ Some said }
     ensures { IfOk result (λ r. IsLineRead r line.now) }
 {
-    if is_line_of(alloc, &said, line)? {
+    let Ok(same) = is_line_of(alloc, &said, line) else {
+        drop(said);
+        return Err(OutOfMemory);
+    };
+    if same {
         Ok(LineRead::Event(said))
     } else {
+        drop(said);
         Ok(LineRead::Neither)
     }
 }

@@ -56,24 +56,6 @@ impl Gathered {
         }
     }
 
-    fn push_entry(&mut self, entry: Entry) -> Result<(), OutOfMemory>
-        ensures { IfOk result (λ _. self.new ≡ record { entries = self.old.entries ++ entry ∷ []; replies = self.old.replies; ends = self.old.ends }) }
-    {
-        match self.entries.push(entry) {
-            Ok(()) => Ok(()),
-            Err(_) => Err(OutOfMemory),
-        }
-    }
-
-    fn push_reply(&mut self, reply: Reply) -> Result<(), OutOfMemory>
-        ensures { IfOk result (λ _. self.new ≡ record { entries = self.old.entries; replies = self.old.replies ++ reply ∷ []; ends = self.old.ends }) }
-    {
-        match self.replies.push(reply) {
-            Ok(()) => Ok(()),
-            Err(_) => Err(OutOfMemory),
-        }
-    }
-
     /// An event and its answer.
     fn push_both(&mut self, entry: Entry, reply: Reply) -> Result<(), OutOfMemory>
         ensures { IfOk result (λ _. self.new ≡ record {
@@ -82,16 +64,32 @@ impl Gathered {
           ends = self.old.ends;
         }) }
     {
-        self.push_entry(entry)?;
-        self.push_reply(reply)
+        if self.entries.reserve(1).is_err() {
+            drop(entry);
+            drop(reply);
+            return Err(OutOfMemory);
+        }
+        if self.replies.reserve(1).is_err() {
+            drop(entry);
+            drop(reply);
+            return Err(OutOfMemory);
+        }
+        self.entries.push_reserved(entry);
+        self.replies.push_reserved(reply);
+        Ok(())
     }
 
     /// One line more.
     fn push(&mut self, said: Said) -> Result<(), OutOfMemory>
         ensures { IfOk result (λ _. self.new ≡ with_said self.old said) }
     {
-        self.push_end(&said.entry.event, said.end)?;
-        self.push_both(said.entry, said.reply)
+        match self.push_end(&said.entry.event, said.end) {
+            Ok(()) => self.push_both(said.entry, said.reply),
+            Err(_) => {
+                drop(said);
+                Err(OutOfMemory)
+            }
+        }
     }
 
     /// All that was read, with the status.

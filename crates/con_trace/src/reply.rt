@@ -10,8 +10,7 @@ ghost use Rattle.con_trace.specs.Writing.{put, put_each};
 use crate::form::{Form, form_of_event};
 use crate::line::Line;
 use con_events::{Event, Reply};
-use con_records::Taken;
-use con_units::{OutOfMemory, Rect, Rows, Units};
+use con_units::{OutOfMemory, Units};
 
 #[tactic(auto, using(crate::proofs::Puts::arrays), unfolding(json::specs::Print::escape_byte))]
 impl Line {
@@ -20,7 +19,7 @@ impl Line {
         ensures { IfOk result (λ _. self.new ≡ put_each self.old (map units_text lines.now)) }
     {
         for line in lines {
-            self.units(line.as_slice())?;
+            given!(self.units(line.as_slice()));
         }
         Ok(())
     }
@@ -29,8 +28,8 @@ impl Line {
     fn all_lines(&mut self, lines: &[Units]) -> Result<(), OutOfMemory>
         ensures { IfOk result (λ _. self.new ≡ put self.old (list_of (map units_text lines.now))) }
     {
-        self.open()?;
-        self.each_line(lines)?;
+        given!(self.open());
+        given!(self.each_line(lines));
         self.shut()
     }
 
@@ -42,8 +41,8 @@ impl Line {
             [] => Ok(()),
             [first] => self.whole(*first),
             [first, flag, rest @ ..] => {
-                self.whole(*first)?;
-                self.truth(*flag != 0)?;
+                given!(self.whole(*first));
+                given!(self.truth(*flag != 0));
                 self.each_number(rest)
             }
         }
@@ -54,8 +53,8 @@ impl Line {
         requires { escape word.now ≡ word.now }
         ensures { IfOk result (λ _. self.new ≡ put self.old (list_of (string word.now ∷ natural_data n ∷ []))) }
     {
-        self.open_with(word)?;
-        self.natural(n)?;
+        given!(self.open_with(word));
+        given!(self.natural(n));
         self.shut()
     }
 
@@ -65,63 +64,22 @@ impl Line {
         self.named("ok", &[])
     }
 
-    fn size_and_flag(&mut self, numbers: &[i64]) -> Result<(), OutOfMemory>
-        ensures { IfOk result (λ _. self.new ≡ put self.old (ok_data (number_and_flag_data numbers.now))) }
-    {
-        self.open_with("ok")?;
-        self.number_and_flag(numbers)?;
-        self.shut()
-    }
-
-    fn ids(&mut self, numbers: &[i64]) -> Result<(), OutOfMemory>
-        ensures { IfOk result (λ _. self.new ≡ put self.old (ok_data (list_of (map whole_data numbers.now) ∷ []))) }
-    {
-        self.open_with("ok")?;
-        self.all_numbers(numbers)?;
-        self.shut()
-    }
-
-    fn ok_units(&mut self, units: &Units) -> Result<(), OutOfMemory>
-        ensures { IfOk result (λ _. self.new ≡ put self.old (ok_data (units_text units.now ∷ []))) }
-    {
-        self.open_with("ok")?;
-        self.units(units.as_slice())?;
-        self.shut()
-    }
-
-    fn ok_records(&mut self, records: &Taken) -> Result<(), OutOfMemory>
-        ensures { IfOk result (λ _. self.new ≡ put self.old (ok_data (records_data records.now ∷ []))) }
-    {
-        self.open_with("ok")?;
-        self.all_records(records.0.as_slice())?;
-        self.shut()
-    }
-
-    fn ok_cells(&mut self, rect: Rect, cells: &Rows) -> Result<(), OutOfMemory>
-        ensures { IfOk result (λ _. self.new ≡ put self.old (ok_data (rect_data rect ∷ units_text (cell_words cells.now) ∷ []))) }
-    {
-        self.open_with("ok")?;
-        self.sides(rect)?;
-        self.cells(cells.as_slice())?;
-        self.shut()
-    }
-
-    fn ok_lines(&mut self, lines: &[Units]) -> Result<(), OutOfMemory>
-        ensures { IfOk result (λ _. self.new ≡ put self.old (ok_data (list_of (map units_text lines.now) ∷ []))) }
-    {
-        self.open_with("ok")?;
-        self.all_lines(lines)?;
-        self.shut()
-    }
-
     /// Numbers, as the form has them.
     fn numbers(&mut self, form: Form, numbers: &[i64]) -> Result<(), OutOfMemory>
         ensures { IfOk result (λ _. self.new ≡ put self.old (numbers_data form numbers.now)) }
     {
         match form {
             Form::Fields(_) => self.named("ok", numbers),
-            Form::NumberAndFlag => self.size_and_flag(numbers),
-            _ => self.ids(numbers),
+            Form::NumberAndFlag => {
+                given!(self.open_with("ok"));
+                given!(self.number_and_flag(numbers));
+                self.shut()
+            }
+            _ => {
+                given!(self.open_with("ok"));
+                given!(self.all_numbers(numbers));
+                self.shut()
+            }
         }
     }
 
@@ -134,10 +92,27 @@ impl Line {
             Reply::Fail(code) => self.named("fail", &[code.number() as i64]),
             Reply::Number(n) => self.named("ok", &[*n as i64]),
             Reply::Numbers(numbers) => self.numbers(form, numbers.0.as_slice()),
-            Reply::Units(units) => self.ok_units(units),
-            Reply::Records(records) => self.ok_records(records),
-            Reply::Cells(rect, cells) => self.ok_cells(*rect, cells),
-            Reply::Lines(lines) => self.ok_lines(lines.0.as_slice()),
+            Reply::Units(units) => {
+                given!(self.open_with("ok"));
+                given!(self.units(units.as_slice()));
+                self.shut()
+            }
+            Reply::Records(records) => {
+                given!(self.open_with("ok"));
+                given!(self.all_records(records.0.as_slice()));
+                self.shut()
+            }
+            Reply::Cells(rect, cells) => {
+                given!(self.open_with("ok"));
+                given!(self.sides(*rect));
+                given!(self.cells(cells.as_slice()));
+                self.shut()
+            }
+            Reply::Lines(lines) => {
+                given!(self.open_with("ok"));
+                given!(self.all_lines(lines.0.as_slice()));
+                self.shut()
+            }
             Reply::Ctrl(n) => self.named("ctrl", &[*n as i64]),
             Reply::View(_, _, _) => self.null(),
         }

@@ -9,53 +9,49 @@ ghost use Rattle.con_trace.specs.Writing.{put, put_each, put_arg};
 
 use crate::line::Line;
 use con_events::{Shows, Words};
-use con_records::{Key, Mouse, Record, Taken};
+use con_records::{Record, Taken};
 use con_units::{OutOfMemory, Rect, Units};
 
 #[tactic(auto, using(crate::proofs::Puts::arrays), unfolding(json::specs::Print::escape_byte))]
 impl Line {
     /// Numbers one after another.
-    pub fn each_number(&mut self, numbers: &[i64]) -> Result<(), OutOfMemory>
+    pub(crate) fn each_number(&mut self, numbers: &[i64]) -> Result<(), OutOfMemory>
         ensures { IfOk result (λ _. self.new ≡ put_each self.old (map whole_data numbers.now)) }
     {
         for n in numbers {
-            self.whole(*n)?;
+            given!(self.whole(*n));
         }
         Ok(())
     }
 
     /// An array of numbers.
-    pub fn all_numbers(&mut self, numbers: &[i64]) -> Result<(), OutOfMemory>
+    pub(crate) fn all_numbers(&mut self, numbers: &[i64]) -> Result<(), OutOfMemory>
         ensures { IfOk result (λ _. self.new ≡ put self.old (list_of (map whole_data numbers.now))) }
     {
-        self.open()?;
-        self.each_number(numbers)?;
+        given!(self.open());
+        given!(self.each_number(numbers));
         self.shut()
     }
 
     /// An array of a word and numbers.
-    pub fn named(&mut self, word: &'static str, numbers: &[i64]) -> Result<(), OutOfMemory>
+    pub(crate) fn named(&mut self, word: &'static str, numbers: &[i64]) -> Result<(), OutOfMemory>
         requires { escape word.now ≡ word.now }
         ensures { IfOk result (λ _. self.new ≡ put self.old (list_of (string word.now ∷ map whole_data numbers.now))) }
     {
-        self.open_with(word)?;
-        self.each_number(numbers)?;
+        given!(self.open_with(word));
+        given!(self.each_number(numbers));
         self.shut()
     }
 
     /// An array of a word, whether something is so, and numbers.
-    fn flagged(
-        &mut self,
-        word: &'static str,
-        set: bool,
-        numbers: &[i64],
-    ) -> Result<(), OutOfMemory>
+    #[tactic(auto, using(crate::proofs::Puts::array_two_more))]
+    fn flagged(&mut self, word: &'static str, set: bool, numbers: &[i64]) -> Result<(), OutOfMemory>
         requires { escape word.now ≡ word.now }
         ensures { IfOk result (λ _. self.new ≡ put self.old (list_of (string word.now ∷ boolean set ∷ map whole_data numbers.now))) }
     {
-        self.open_with(word)?;
-        self.truth(set)?;
-        self.each_number(numbers)?;
+        given!(self.open_with(word));
+        given!(self.truth(set));
+        given!(self.each_number(numbers));
         self.shut()
     }
 
@@ -71,44 +67,32 @@ impl Line {
         ])
     }
 
-    fn key(&mut self, key: &Key) -> Result<(), OutOfMemory>
-        ensures { IfOk result (λ _. self.new ≡ put self.old (record_data (Record.Key key.now))) }
-    {
-        self.flagged(
-            "key",
-            key.down,
-            &[
-                key.repeat as i64,
-                key.vk as i64,
-                key.scan as i64,
-                key.unit as i64,
-                key.state as i64,
-            ],
-        )
-    }
-
-    fn mouse(&mut self, mouse: &Mouse) -> Result<(), OutOfMemory>
-        ensures { IfOk result (λ _. self.new ≡ put self.old (record_data (Record.Mouse mouse.now))) }
-    {
-        self.named(
-            "mouse",
-            &[
-                mouse.x as i64,
-                mouse.y as i64,
-                mouse.buttons as i64,
-                mouse.state as i64,
-                mouse.flags as i64,
-            ],
-        )
-    }
-
     /// A record of the input, as an array of its name and its fields.
     pub fn record(&mut self, one: &Record) -> Result<(), OutOfMemory>
         ensures { IfOk result (λ _. self.new ≡ put self.old (record_data one.now)) }
     {
         match one {
-            Record::Key(key) => self.key(key),
-            Record::Mouse(mouse) => self.mouse(mouse),
+            Record::Key(key) => self.flagged(
+                "key",
+                key.down,
+                &[
+                    key.repeat as i64,
+                    key.vk as i64,
+                    key.scan as i64,
+                    key.unit as i64,
+                    key.state as i64,
+                ],
+            ),
+            Record::Mouse(mouse) => self.named(
+                "mouse",
+                &[
+                    mouse.x as i64,
+                    mouse.y as i64,
+                    mouse.buttons as i64,
+                    mouse.state as i64,
+                    mouse.flags as i64,
+                ],
+            ),
             Record::Size(size) => self.named("size", &[size.w as i64, size.h as i64]),
             Record::Menu(id) => self.named("menu", &[*id as i64]),
             Record::Focus(set) => self.flagged("focus", *set, &[]),
@@ -120,7 +104,7 @@ impl Line {
         ensures { IfOk result (λ _. self.new ≡ put_each self.old (map record_data records.now)) }
     {
         for one in records {
-            self.record(one)?;
+            given!(self.record(one));
         }
         Ok(())
     }
@@ -129,8 +113,8 @@ impl Line {
     pub fn all_records(&mut self, records: &[Record]) -> Result<(), OutOfMemory>
         ensures { IfOk result (λ _. self.new ≡ put self.old (records_data records.now)) }
     {
-        self.open()?;
-        self.each_record(records)?;
+        given!(self.open());
+        given!(self.each_record(records));
         self.shut()
     }
 }

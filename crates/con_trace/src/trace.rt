@@ -13,7 +13,7 @@ pub struct Trace {
 }
 
 /// Why a text was not read.
-#[derive(Clone, Copy, Debug, PartialEq, Eq, Drop)]
+#[derive(Clone, Copy, Drop)]
 pub enum TraceFault {
     /// The first line, from 0, that is none of a report.
     Line(u64),

@@ -28,8 +28,8 @@ fn value_of(c: u8) -> Option<u8>
 fn byte_of(a: u8, b: u8) -> Option<u8>
     ensures { result ≡ byte_told a b }
 {
-    let high = value_of(a)?;
-    let low = value_of(b)?;
+    let high = found!(value_of(a));
+    let low = found!(value_of(b));
     Some(high * 16 + low)
 }
 
@@ -38,9 +38,9 @@ fn byte_of(a: u8, b: u8) -> Option<u8>
 fn unit_of(a: u8, b: u8, c: u8, d: u8) -> Option<u16>
     ensures { result ≡ unit_told a b c d }
 {
-    let high = byte_of(a, b)?;
-    let third = value_of(c)?;
-    let last = value_of(d)?;
+    let high = found!(byte_of(a, b));
+    let third = found!(value_of(c));
+    let last = found!(value_of(d));
     Some((high as u16 * 16 + third as u16) * 16 + last as u16)
 }
 
