@@ -1,19 +1,27 @@
 #!/usr/bin/env python3
-"""Session documents of a size, each read by `read_session` and by the kit's own reader of JSON, with the memory that both take.
+"""How long session documents take to read, beside the kit's own reading of the same bytes as JSON.
 
     documents.py [MEGABYTES]
 
-A document has 64 clients of 256 calls, each call as long as it takes. For each kind of call it prints both times and the
-peak memory of the program, which reads the file first by one and then by the other."""
+A document has 64 clients of 256 calls, each as long as it takes, 16 MB in all if it is not said. Its last call is none, so `solo` reads it to its end and
+refuses it there, and nothing runs. With version 0 the same document is refused as soon as its JSON stands: that run is the kit's reading alone, beside what
+both have, a file that is read and a tree that is let go. For each kind of call it prints the time of both and their ratio, the peak memory of both, and, where
+valgrind is there, instructions a byte of both (of a tenth of the size)."""
 import json
 import os
-import subprocess
 import sys
 import tempfile
+from concurrent.futures import ThreadPoolExecutor
 
-CRATE = os.path.join(os.path.dirname(os.path.abspath(__file__)), "..", "crates", "bench_parts")
-PROGRAM = os.path.join(CRATE, "out", "bench_parts")
-CALLS = 64 * 256
+sys.dont_write_bytecode = True
+
+import counts
+import runs
+
+CLIENTS, CALLS = 64, 256
+# The version of a document that is read to its end, and of one of which JSON alone is read. Both end with this status.
+WHOLE, JSON, REFUSED = 2, 0, 3
+LAST = {WHOLE: f"clients[{CLIENTS - 1}].calls[{CALLS - 1}]", JSON: "version"}
 
 
 def text(size):
@@ -36,26 +44,41 @@ def many(size):
     return ["write-input", 1, [["menu", 7]] * ((size - 20) // 11)]
 
 
-def made(name, kind, size):
-    client = {"program": "sh", "group": 1, "calls": [kind(size // CALLS)] * 256}
+KINDS = text, wide, words, records, many
+
+
+def made(folder, kind, version, size):
+    """The path of a document."""
+    calls = [kind(size // (CLIENTS * CALLS))] * CALLS
+    clients = [{"program": "sh", "group": 1, "calls": script} for script in [calls] * (CLIENTS - 1) + [calls[1:] + [["none"]]]]
+    name = os.path.join(folder, f"{kind.__name__}-{version}-{size}")
     with open(name, "w", encoding="utf-8") as out:
-        json.dump({"version": 2, "size": [80, 25], "clients": [client] * 64}, out, separators=(",", ":"), ensure_ascii=False)
+        json.dump({"version": version, "size": [80, 25], "clients": clients}, out, separators=(",", ":"), ensure_ascii=False)
+    return name
+
+
+def a_byte(folder, kind, version, size):
+    """Instructions a byte."""
+    name = made(folder, kind, version, size)
+    count, _, report = counts.counted([runs.PROGRAM, "solo", name], status=REFUSED)
+    if report.decode() != f'["end",{REFUSED},"{LAST[version]}"]\n':
+        sys.exit(f"{name}: {report.decode()}")
+    return count / os.path.getsize(name)
 
 
 def main():
     size = int(float(sys.argv[1]) * 1_000_000) if len(sys.argv) > 1 else 16_000_000
-    if not os.access(PROGRAM, os.X_OK):
-        sys.exit("build the program first: cd crates/bench_parts && rt run")
-    with tempfile.TemporaryDirectory() as folder:
-        for kind in (text, wide, words, records, many):
-            name = os.path.join(folder, kind.__name__)
-            made(name, kind, size)
-            child = subprocess.Popen([PROGRAM, "formats", name], stdout=subprocess.PIPE, text=True)
-            line = child.stdout.read().strip()
-            _, status, used = os.wait4(child.pid, 0)
-            if status != 0:
-                sys.exit(f"{PROGRAM} ended with {status}")
-            print(f"{kind.__name__:8} {line}, {used.ru_maxrss / 1024:.0f} MiB", flush=True)
+    runs.needs_program()
+    with tempfile.TemporaryDirectory() as folder, ThreadPoolExecutor(os.cpu_count()) as pool:
+        for kind in KINDS:
+            found = [counts.timed([runs.PROGRAM, "solo", made(folder, kind, version, size)], status=REFUSED) for version in LAST]
+            (whole, _, most), (alone, _, peak) = found
+            line = f"{kind.__name__:8} {whole:6.3f} s, JSON alone {alone:6.3f}: {whole / alone:.2f} times; {most >> 20} and {peak >> 20} MiB"
+            if counts.is_there():
+                here, there = pool.map(lambda version: a_byte(folder, kind, version, size // 10), LAST)
+                line += f"; {here:.1f} and {there:.1f} instructions a byte: {here / there:.2f} times"
+            print(line, flush=True)
 
 
-main()
+if __name__ == "__main__":
+    main()
