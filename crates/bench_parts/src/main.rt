@@ -1,8 +1,5 @@
-//! Parts of the program by themselves, for what `bench/` measures. Its first word names the part:
+//! What the program is measured beside, in `bench/`. Its first word names the part:
 //!
-//! - `trace [FILE]`: how long a report takes to read and to write
-//! - `formats [FILE]`: how long a session document takes to read
-//! - `machine [KIND [CROWD]]`: events of a kind, entered into a console
 //! - `threads [FILE]`: a session's calls, entered by threads at a mutex
 //! - `book [TURNS]`: turns of a book, beside a mutex
 //!
@@ -10,10 +7,7 @@
 #![tactic(auto)]
 
 mod book;
-mod formats;
-mod machine;
 mod threads;
-mod trace;
 
 use std::alloc::Global;
 use std::env::Env;
@@ -42,9 +36,6 @@ fn print_short<R: Threads + Wait + Print + Clock + Files + Sync>(
     rt: &R,
     alloc: Global,
 ) -> io::Result<()> {
-    trace::print(rt, alloc, None)?;
-    formats::print(rt, alloc, None)?;
-    machine::print(rt, alloc, None, None)?;
     threads::print(rt, alloc, None)?;
     book::print(rt, alloc, None)
 }
@@ -57,14 +48,9 @@ fn print<R: Threads + Wait + Print + Clock + Files + Sync>(
     let word = word_at(words, 1);
     match word_at(words, 0) {
         None => print_short(rt, alloc),
-        Some("trace") => trace::print(rt, alloc, word),
-        Some("formats") => formats::print(rt, alloc, word),
-        Some("machine") => machine::print(rt, alloc, word, word_at(words, 2)),
         Some("threads") => threads::print(rt, alloc, word),
         Some("book") => book::print(rt, alloc, word),
-        Some(_) => println!(rt;
-            "usage: bench_parts [trace [FILE]|formats [FILE]|machine [KIND [CROWD]]|threads [FILE]|book [TURNS]]"
-        ),
+        Some(_) => println!(rt; "usage: bench_parts [threads [FILE]|book [TURNS]]"),
     }
 }
 

@@ -1,12 +1,11 @@
 // A client's thread, at a console under a mutex.
-use con_events::{Actor, Event, Step};
+use con_events::{Actor, Call, Event, Step};
 use con_machine::Console;
 use con_session::copied_call;
 use con_units::OutOfMemory;
 use std::sync::{Mutex, Wait};
 
-/// A console, and how many events were entered.
-#[derive(Drop)]
+/// A console, and how many events were entered. Who takes it apart discards the console: nothing drops one here.
 pub struct Desk {
     pub console: Console,
     pub events: u64,
@@ -17,7 +16,7 @@ impl Desk {
     fn enter(&mut self, actor: Actor, event: &Event) -> Result<(), OutOfMemory> {
         if self.console.ready(actor, event) {
             let room = self.console.prepare(actor, event)?;
-            let _ = self.console.apply(actor, event, room);
+            drop(self.console.apply(actor, event, room));
             self.events = self.events.saturating_add(1);
         }
         Ok(())
@@ -32,16 +31,26 @@ pub struct Client<'a> {
 }
 
 impl Client<'_> {
+    // Enters an event of its own.
+    fn enter<R: Wait>(&self, rt: &R, desk: &Mutex<Desk>, event: Event) -> Result<(), OutOfMemory> {
+        let entered = desk.lock(rt).enter(Actor::Client(self.number), &event);
+        drop(event);
+        entered
+    }
+
+    fn make<R: Wait>(&self, rt: &R, desk: &Mutex<Desk>, call: &Call) -> Result<(), OutOfMemory> {
+        let copy = copied_call(call)?;
+        self.enter(rt, desk, Event::Call(copy))
+    }
+
     // Makes its calls, and exits.
     fn follow<R: Wait>(&self, rt: &R, desk: &Mutex<Desk>) -> Result<(), OutOfMemory> {
-        let actor = Actor::Client(self.number);
         for step in self.steps {
             if let Step::Call(call) = step {
-                let event = Event::Call(copied_call(call)?);
-                desk.lock(rt).enter(actor, &event)?;
+                self.make(rt, desk, call)?;
             }
         }
-        desk.lock(rt).enter(actor, &Event::Exit(0))
+        self.enter(rt, desk, Event::Exit(0))
     }
 
     /// Makes its calls, and exits; or fewer of them, where there is no memory.

@@ -5,6 +5,7 @@ use con_machine::Console;
 use con_script::{generated, read_session};
 use std::alloc::{AllocError, Global};
 use std::io::Read;
+use std::mem::forget;
 use std::rt::Files;
 use std::sync::{Mutex, Wait};
 use std::thread::{Threads, for_each_mut};
@@ -34,27 +35,52 @@ fn entered<R: Threads + Wait + Sync>(rt: &R, console: Console, clients: &mut [Cl
         threads,
         &|_, client: &mut Client<'_>| { client.work(rt, &desk) },
     );
-    desk.into_inner().events
+    let Desk { console, events } = desk.into_inner();
+    console.discard();
+    events
 }
 
-// Prints how many events the clients of a session enter.
+// How many events the clients of a session enter.
+fn played<R: Threads + Wait + Sync>(
+    rt: &R,
+    alloc: Global,
+    session: &Session,
+    clients: &mut [Client<'_>],
+) -> Option<u64> {
+    match Console::new(alloc, session, &[]) {
+        Ok(console) => Some(entered(rt, console, clients)),
+        Err(_) => None,
+    }
+}
+
+// Prints it.
 fn print<R: Threads + Wait + Print + Sync>(
     rt: &R,
     alloc: Global,
     session: &Session,
 ) -> io::Result<()> {
-    let Ok(console) = Console::new(alloc, session, &[]) else {
-        return println!(rt; "no memory");
-    };
     let mut clients = clients_of(alloc, session)?;
-    let events = entered(rt, console, clients.as_mut_slice());
-    println!(rt; "{events} events")
+    match played(rt, alloc, session, clients.as_mut_slice()) {
+        Some(events) => println!(rt; "{events} events"),
+        None => println!(rt; "no memory"),
+    }
+}
+
+// Prints it, and leaves the session's memory to the system: the program ends.
+fn print_last<R: Threads + Wait + Print + Sync>(
+    rt: &R,
+    alloc: Global,
+    session: Session,
+) -> io::Result<()> {
+    let printed = print(rt, alloc, &session);
+    forget(session);
+    printed
 }
 
 /// Prints it of the session that is generated from the number 1.
 pub fn print_generated<R: Threads + Wait + Print + Sync>(rt: &R, alloc: Global) -> io::Result<()> {
     match generated(alloc, 1) {
-        Ok(session) => print(rt, alloc, &session),
+        Ok(session) => print_last(rt, alloc, session),
         Err(_) => println!(rt; "no memory"),
     }
 }
@@ -68,7 +94,7 @@ pub fn print_file<R: Threads + Wait + Print + Files + Sync>(
     let mut bytes = Vec::new(alloc);
     fs::open(rt, name)?.read_to_end(&mut bytes)?;
     match read_session(alloc, bytes.as_slice()) {
-        Ok(session) => print(rt, alloc, &session),
+        Ok(session) => print_last(rt, alloc, session),
         Err(_) => println!(rt; "no session"),
     }
 }
