@@ -6,8 +6,9 @@
 For each kind there are two sessions that differ in how many events of it they have. It prints what one takes, from making its memory ready to its answer: what
 differs between the instructions of `Console::prepare` and `Console::apply` where `Desk::enter` calls them, for a Paint of all `Desk::paint`, by the number of
 events; the part that makes its memory ready; and how many that is for each unit, cell, record or byte that it touches. Then come ratios to the same events
-beside what they do not touch: a window of 512 by 256, 4,096 records more in the queue, 224 handles and 7 buffers more, a history of 100 lines, and 24 clients
-more that make the same calls. A read is a Begin and a Collect, and a Paint one of nothing new, which copies the window."""
+beside what they do not touch: a window of 512 by 256, 4,096 records more in the queue, 224 handles and 7 buffers more, a history of 100 lines, and for calls
+24 clients more that make the same. A larger window is touched by what paints or scrolls it. A read is a Begin and a Collect, and a Paint one of nothing new.
+An event of the terminal's side shows some 30 too few: beside it a client goes on, whose calls are dearer behind the link's end."""
 import os
 import sys
 import tempfile
@@ -20,7 +21,7 @@ import counts
 import hostile
 import runs
 
-FEW, MORE = 50, 100
+FEW, MORE = 100, 500
 # The rounds in which what stands beside the events is made.
 HEAD = 250
 IDLE = ["mode", 2]
@@ -49,7 +50,7 @@ KINDS = {
     "rect": Kind("rect-read", 100, ["rect-read", 2, [0, 0, 19, 4]]),
     "key": Kind("write-input", 1, ["write-input", 1, [RECORD]]),
     "peek": Kind("peek", 4, ["peek", 1, 4], before=["write-input", 1, [RECORD] * 4]),
-    "read": Kind("collect", 4, ["read-input", 1, 4], before=["write-input", 1, [RECORD] * 4 * MORE]),
+    "read": Kind("collect", 2, ["read-input", 1, 2], before=["write-input", 1, [RECORD] * 2 * MORE]),
     "feed": Kind("feed", 16, frame=hostile.typed(b"abcdefghijklmnop")),
     "quiet": Kind("quiet", frame=b"Q"),
     "ask": Kind("ask", frame=b"P"),
@@ -68,8 +69,13 @@ CROWDS = {
 
 
 def crowds(kind):
-    """What events of a kind are measured beside. Clients that only exit are gone before anything but the window is there."""
-    return list(CROWDS) if kind.call or kind.frame else ["plain", "window"]
+    """What events of a kind are measured beside. Clients that only exit do so before there is anything but the window."""
+    return list(CROWDS) if kind.call else list(CROWDS)[:5] if kind.frame else ["plain", "window"]
+
+
+def sizes(name):
+    """How many events of a kind its two sessions have. A Paint of a large window takes millions of instructions."""
+    return (FEW // 10, MORE // 10) if name in ("paint", "exit") else (FEW, MORE)
 
 
 def counted(job):
@@ -77,7 +83,7 @@ def counted(job):
     name, crowd, count = job
     kind, (window, calls, clients, typed) = KINDS[name], CROWDS[crowd]
     script = [*calls, kind.before, *([kind.call] * count if kind.call else [IDLE] * (HEAD + MORE))]
-    scripts = [script] * clients if kind.call or kind.frame else [[]] * (count // 5)
+    scripts = [script] * clients if kind.call or kind.frame else [[]] * count
     made = {"version": 2, "size": window, "clients": [{"program": "sh", "group": 1, "calls": calls} for calls in scripts]}
     link = hostile.typed(typed) + (b"Q" * HEAD + kind.frame * count if kind.frame else b"")
     with tempfile.TemporaryDirectory() as folder:
@@ -91,14 +97,14 @@ def main():
     if set(kinds) - set(KINDS):
         sys.exit(f"the kinds are {', '.join(KINDS)}")
     runs.needs_program()
-    jobs = [(kind, crowd, count) for kind in kinds for crowd in crowds(KINDS[kind]) for count in (FEW, MORE)]
+    jobs = [(kind, crowd, count) for kind in kinds for crowd in crowds(KINDS[kind]) for count in sizes(kind)]
     with ThreadPoolExecutor(int(os.environ.get("JOBS") or os.cpu_count())) as pool:
         found = dict(zip(jobs, pool.map(counted, jobs)))
     print(f"{'kind':8} {'events':>7} {'each':>9} {'memory':>8} {'a unit':>8}   beside " + ", ".join(list(CROWDS)[1:]))
     for kind in kinds:
         each = {}
         for crowd in crowds(KINDS[kind]):
-            *parts, events = (more - few for few, more in zip(found[kind, crowd, FEW], found[kind, crowd, MORE]))
+            *parts, events = (more - few for few, more in zip(*(found[kind, crowd, count] for count in sizes(kind))))
             each[crowd] = sum(parts) / events, sum(parts[:-1]) / events, events
         (plain, memory, events), units = each["plain"], KINDS[kind].units
         line = f"{kind:8} {events:7} {plain:9,.0f} {f'{memory:8,.0f}' if memory else '':8} {f'{plain / units:8.1f}' if units else '':8}  "
