@@ -3,7 +3,7 @@
 //! - `threads [FILE]`: a session's calls, entered by threads at a mutex
 //! - `book [TURNS]`: turns of a book, beside a mutex
 //!
-//! A part with no word behind it does something short that is the same each time, and prints a line. With no word at all each part does.
+//! With no word at all it is `threads` of a session that is generated, which prints the same each time.
 #![tactic(auto)]
 
 mod book;
@@ -32,14 +32,6 @@ fn word_at(words: &[String], at: usize) -> Option<&str> {
     }
 }
 
-fn print_short<R: Threads + Wait + Print + Clock + Files + Sync>(
-    rt: &R,
-    alloc: Global,
-) -> io::Result<()> {
-    threads::print(rt, alloc, None)?;
-    book::print(rt, alloc, None)
-}
-
 fn print<R: Threads + Wait + Print + Clock + Files + Sync>(
     rt: &R,
     alloc: Global,
@@ -47,8 +39,7 @@ fn print<R: Threads + Wait + Print + Clock + Files + Sync>(
 ) -> io::Result<()> {
     let word = word_at(words, 1);
     match word_at(words, 0) {
-        None => print_short(rt, alloc),
-        Some("threads") => threads::print(rt, alloc, word),
+        None | Some("threads") => threads::print(rt, alloc, word),
         Some("book") => book::print(rt, alloc, word),
         Some(_) => println!(rt; "usage: bench_parts [threads [FILE]|book [TURNS]]"),
     }

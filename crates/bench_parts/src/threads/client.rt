@@ -5,13 +5,14 @@ use con_session::copied_call;
 use con_units::OutOfMemory;
 use std::sync::{Mutex, Wait};
 
-/// A console, and how many events were entered. Who takes it apart discards the console: nothing drops one here.
-pub struct Desk {
-    pub console: Console,
+/// A console that is lent, and how many events were entered. A desk that owned it would have in its proof all that is dropped with one.
+#[derive(Drop)]
+pub struct Desk<'a> {
+    pub console: &'a mut Console,
     pub events: u64,
 }
 
-impl Desk {
+impl Desk<'_> {
     // Enters an event, where it is ready.
     fn enter(&mut self, actor: Actor, event: &Event) -> Result<(), OutOfMemory> {
         if self.console.ready(actor, event) {
@@ -32,19 +33,29 @@ pub struct Client<'a> {
 
 impl Client<'_> {
     // Enters an event of its own.
-    fn enter<R: Wait>(&self, rt: &R, desk: &Mutex<Desk>, event: Event) -> Result<(), OutOfMemory> {
+    fn enter<R: Wait>(
+        &self,
+        rt: &R,
+        desk: &Mutex<Desk<'_>>,
+        event: Event,
+    ) -> Result<(), OutOfMemory> {
         let entered = desk.lock(rt).enter(Actor::Client(self.number), &event);
         drop(event);
         entered
     }
 
-    fn make<R: Wait>(&self, rt: &R, desk: &Mutex<Desk>, call: &Call) -> Result<(), OutOfMemory> {
+    fn make<R: Wait>(
+        &self,
+        rt: &R,
+        desk: &Mutex<Desk<'_>>,
+        call: &Call,
+    ) -> Result<(), OutOfMemory> {
         let copy = copied_call(call)?;
         self.enter(rt, desk, Event::Call(copy))
     }
 
     // Makes its calls, and exits.
-    fn follow<R: Wait>(&self, rt: &R, desk: &Mutex<Desk>) -> Result<(), OutOfMemory> {
+    fn follow<R: Wait>(&self, rt: &R, desk: &Mutex<Desk<'_>>) -> Result<(), OutOfMemory> {
         for step in self.steps {
             if let Step::Call(call) = step {
                 self.make(rt, desk, call)?;
@@ -54,7 +65,7 @@ impl Client<'_> {
     }
 
     /// Makes its calls, and exits; or fewer of them, where there is no memory.
-    pub fn work<R: Wait>(&self, rt: &R, desk: &Mutex<Desk>) {
+    pub fn work<R: Wait>(&self, rt: &R, desk: &Mutex<Desk<'_>>) {
         let _ = self.follow(rt, desk);
     }
 }

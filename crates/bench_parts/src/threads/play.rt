@@ -5,7 +5,6 @@ use con_machine::Console;
 use con_script::{generated, read_session};
 use std::alloc::{AllocError, Global};
 use std::io::Read;
-use std::mem::forget;
 use std::rt::Files;
 use std::sync::{Mutex, Wait};
 use std::thread::{Threads, for_each_mut};
@@ -26,7 +25,11 @@ fn clients_of(alloc: Global, session: &Session) -> Result<Vec<Client<'_>>, Alloc
 }
 
 // How many events they enter into a console.
-fn entered<R: Threads + Wait + Sync>(rt: &R, console: Console, clients: &mut [Client<'_>]) -> u64 {
+fn entered<R: Threads + Wait + Sync>(
+    rt: &R,
+    console: &mut Console,
+    clients: &mut [Client<'_>],
+) -> u64 {
     let desk = Mutex::new(Desk { console, events: 0 });
     let threads = clients.len().max(1);
     for_each_mut(
@@ -35,9 +38,7 @@ fn entered<R: Threads + Wait + Sync>(rt: &R, console: Console, clients: &mut [Cl
         threads,
         &|_, client: &mut Client<'_>| { client.work(rt, &desk) },
     );
-    let Desk { console, events } = desk.into_inner();
-    console.discard();
-    events
+    desk.into_inner().events
 }
 
 // How many events the clients of a session enter.
@@ -48,12 +49,16 @@ fn played<R: Threads + Wait + Sync>(
     clients: &mut [Client<'_>],
 ) -> Option<u64> {
     match Console::new(alloc, session, &[]) {
-        Ok(console) => Some(entered(rt, console, clients)),
+        Ok(mut console) => {
+            let events = entered(rt, &mut console, clients);
+            console.discard();
+            Some(events)
+        }
         Err(_) => None,
     }
 }
 
-// Prints it.
+// Prints how many events the clients of a session enter.
 fn print<R: Threads + Wait + Print + Sync>(
     rt: &R,
     alloc: Global,
@@ -66,21 +71,10 @@ fn print<R: Threads + Wait + Print + Sync>(
     }
 }
 
-// Prints it, and leaves the session's memory to the system: the program ends.
-fn print_last<R: Threads + Wait + Print + Sync>(
-    rt: &R,
-    alloc: Global,
-    session: Session,
-) -> io::Result<()> {
-    let printed = print(rt, alloc, &session);
-    forget(session);
-    printed
-}
-
 /// Prints it of the session that is generated from the number 1.
 pub fn print_generated<R: Threads + Wait + Print + Sync>(rt: &R, alloc: Global) -> io::Result<()> {
     match generated(alloc, 1) {
-        Ok(session) => print_last(rt, alloc, session),
+        Ok(session) => print(rt, alloc, &session),
         Err(_) => println!(rt; "no memory"),
     }
 }
@@ -94,7 +88,7 @@ pub fn print_file<R: Threads + Wait + Print + Files + Sync>(
     let mut bytes = Vec::new(alloc);
     fs::open(rt, name)?.read_to_end(&mut bytes)?;
     match read_session(alloc, bytes.as_slice()) {
-        Ok(session) => print_last(rt, alloc, session),
+        Ok(session) => print(rt, alloc, &session),
         Err(_) => println!(rt; "no session"),
     }
 }
