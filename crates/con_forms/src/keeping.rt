@@ -47,6 +47,7 @@ fn bytes(coming: &[u8])
 fn whole(n: &i64)
     ensures { IsWhole n.now }
 {
+    // a number that is read tells its range
     let _n = *n;
 }
 
@@ -141,6 +142,7 @@ fn records(coming: &[Record])
 fn signed(n: &i16)
     ensures { IsSmall n.now }
 {
+    // a number that is read tells its range
     let _n = *n;
 }
 

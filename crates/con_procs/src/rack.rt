@@ -40,6 +40,7 @@ impl Rack {
             Err(_) => return Err(OutOfMemory),
         };
         for i in 0..count {
+            // the loop's invariant counts by it
             let _ = i;
             places.push_reserved(Place::Fresh);
         }

@@ -97,6 +97,7 @@ impl Records {
     {
         self.peek(n, out);
         for i in 0..n.min(self.count()) {
+            // the loop's invariant counts by it
             let _ = i;
             self.pop();
         }

@@ -91,6 +91,7 @@ pub fn call_add<D: Door>(
         → IsQuiet b p (D.history door.old)
         → HasTurned (D.may_between (Actor.Client p)) result b p steps.now (D.history door.old) (D.history door.new) worker.new memory hands.new }
 {
+    // The script stands in the clauses alone.
     let _ = steps.len();
     let call = Call::HandlerAdd(place);
     let brief = door.enter(Actor::Client(p), Event::Call(call))?;
@@ -124,6 +125,7 @@ pub fn call_remove<D: Door>(
         → IsQuiet b p (D.history door.old)
         → HasTurned (D.may_between (Actor.Client p)) result b p steps.now (D.history door.old) (D.history door.new) worker.new memory hands.new }
 {
+    // The script stands in the clauses alone.
     let _ = steps.len();
     let call = Call::HandlerRemove(place);
     let brief = door.enter(Actor::Client(p), Event::Call(call))?;
@@ -227,6 +229,7 @@ pub fn next_step<D: Door, G: Gate>(
         → IsQuiet b p (D.history door.old)
         → HasTurned (D.may_between (Actor.Client p)) result b p steps.now (D.history door.old) (D.history door.new) worker.new memory hands.new }
 {
+    // On the way that leaves, the handlers stand in the clauses alone.
     let _ = hands.places.len();
     let at = worker.at;
     if at >= steps.len() {

@@ -45,6 +45,7 @@ pub fn leave<D: Door>(
         → MayExit b p (D.history door.old) status
         → HasTurnedBy (D.may_between (Actor.Client p)) result b p steps.now (D.history door.old) (D.history door.new) worker.new places ms slots }
 {
+    // The script stands in the clauses alone.
     let _ = steps.len();
     door.enter(Actor::Client(p), Event::Exit(status))?;
     worker.gone = true;
@@ -69,6 +70,7 @@ pub fn collect<D: Door>(
         → IsQuiet b p (D.history door.old)
         → HasTurnedBy (D.may_between (Actor.Client p)) result b p steps.now (D.history door.old) (D.history door.new) worker.new places ms slots }
 {
+    // The script stands in the clauses alone.
     let _ = steps.len();
     match door.enter_if_ready(Actor::Client(p), Event::Collect)? {
         None => Ok(false),
@@ -105,6 +107,7 @@ pub fn take_ctrl<D: Door>(
         → ClientAt b p (D.history door.old) steps.now worker.old → HandsStand b p (D.history door.old) memory hands.old
         → HasTaken (D.may_between (Actor.Client p)) result b p steps.now (D.history door.old) (D.history door.new) worker.new memory hands.new }
 {
+    // The script stands in the clauses alone.
     let _ = steps.len();
     let Some(brief) = door.enter_if_ready(Actor::Client(p), Event::TakeCtrl)? else {
         return Ok(false);

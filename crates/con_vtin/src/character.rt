@@ -62,6 +62,7 @@ pub fn push_replacements(n: u8, out: &mut Vec<Key>)
     ensures room { vec_capacity out.new ≡ vec_capacity out.old }
 {
     for i in 0..n {
+        // the loop's invariant counts by it
         let _ = i;
         out.push_reserved(replacement());
     }
