@@ -1,12 +1,17 @@
-//! Runs cases: what sessions, texts and links show, as data. The words name files of cases; README.md says how they are written. A line is
-//! printed for each case. The status is 0 where all are right, 1 where one differs, and 2 where a file is none of cases.
+//! Runs cases: what sessions, texts and links show, as data. The words name files of cases; README.md says how they are written. The word
+//! `threads` stands for sessions that are no data, in an order that a gate makes. A line is printed for each. The status is 0 where all are
+//! right, 1 where one differs, and 2 where a file is none of cases.
 #![tactic(auto)]
 
 mod auditing;
+mod callers;
 mod each;
+mod ends;
 mod events;
 mod fault;
+mod hosted;
 mod judging;
+mod order;
 mod part;
 mod picture;
 mod reads;
@@ -20,6 +25,7 @@ use auditing::{audit_difference, is_session, left_difference};
 use each::{each_difference, other_difference};
 use events::events_difference;
 use fault::{Fault, Wrong};
+use hosted::{HOSTED, run_hosted};
 use judging::{Came, difference};
 use part::{Head, Line, Part, case_name, lines, parts};
 use reads::reads_difference;
@@ -125,14 +131,9 @@ fn run_text<R: Threads + Wait + Sync + Print>(
     Ok(right)
 }
 
-// Runs the cases of a file, and answers the status.
-fn run_file<R: Threads + Wait + Sync + Print + Files + AllocGlobal>(rt: &R, name: &str) -> u8 {
-    let Ok(text) = fs::read_to_string(rt, name) else {
-        let _ = println!(rt; "{name}: no file of cases");
-        return NO_CASES;
-    };
-    let file = name.strip_suffix(".cases").unwrap_or(name);
-    match run_text(rt, rt.alloc(), file, text.as_str()) {
+// The status of what was run.
+fn status_of<R: Print + AllocGlobal>(rt: &R, name: &str, right: Result<bool, Wrong>) -> u8 {
+    match right {
         Ok(true) => RIGHT,
         Ok(false) => DIFFERENT,
         Err(wrong) => {
@@ -143,10 +144,28 @@ fn run_file<R: Threads + Wait + Sync + Print + Files + AllocGlobal>(rt: &R, name
     }
 }
 
+// Runs the cases of a file, and answers the status.
+fn run_file<R: Threads + Wait + Sync + Print + Files + AllocGlobal>(rt: &R, name: &str) -> u8 {
+    let Ok(text) = fs::read_to_string(rt, name) else {
+        let _ = println!(rt; "{name}: no file of cases");
+        return NO_CASES;
+    };
+    let file = name.strip_suffix(".cases").unwrap_or(name);
+    status_of(rt, name, run_text(rt, rt.alloc(), file, text.as_str()))
+}
+
+// Runs what a word names, and answers the status.
+fn run_word<R: Threads + Wait + Sync + Print + Files + AllocGlobal>(rt: &R, name: &str) -> u8 {
+    if name == HOSTED {
+        return status_of(rt, name, run_hosted(rt, rt.alloc()));
+    }
+    run_file(rt, name)
+}
+
 fn main(rt: HostRuntime) -> io::Result<ExitCode> {
     let mut status = RIGHT;
     for name in env::args(&rt)?.skip(1) {
-        status = status.max(run_file(&rt, name.as_str()));
+        status = status.max(run_word(&rt, name.as_str()));
     }
     Ok(ExitCode::from(status))
 }

@@ -1,8 +1,12 @@
 //! A case is run, with its outside in memory.
-use crate::setup::Setup;
+ghost use Rattle.std.specs.Prelude.{◌≤◌, All, length};
+
+use crate::callers::status;
+use crate::ends::{OrderedSink, OrderedSource};
+use crate::order::{Order, Plan};
+use crate::setup::{Failing, Setup};
 use con_handlers::{CtrlHandler, Note, Once, Swallow, Tally};
-use con_host::console_host;
-use con_outside::{MemoryFiles, MemorySink, MemorySource, NoGate};
+use con_outside::{MemoryFiles, MemorySink, MemorySource};
 use con_units::Bytes;
 use std::alloc::{AllocError, Global};
 use std::sync::Wait;
@@ -10,6 +14,9 @@ use std::thread::Threads;
 
 /// How many clients a session may have, each with a rack of the four handlers.
 const CLIENTS: usize = 64;
+
+/// The handlers of each client.
+pub type Racks = Vec<Vec<Box<dyn CtrlHandler + Send>>>;
 
 /// What a case answered, wrote to the terminal and to the second one, and reported.
 #[derive(Drop)]
@@ -20,15 +27,39 @@ pub struct Ran {
     pub report: Bytes,
 }
 
-// A sink that takes at most so many bytes at once, and fails at a call.
-fn sink(alloc: Global, most: usize, fail: u64) -> Result<MemorySink, AllocError> {
-    Ok(MemorySink {
+// The calls that fail, as each end has them.
+#[derive(Drop)]
+struct FailLists {
+    files: Vec<u64>,
+    link: Vec<u64>,
+    term: Vec<u64>,
+    second: Vec<u64>,
+    report: Vec<u64>,
+}
+
+fn listed(alloc: Global, failing: Failing) -> Result<FailLists, AllocError> {
+    let files = Vec::from_elem(alloc, failing.files, 1)?;
+    let link = Vec::from_elem(alloc, failing.link, 1)?;
+    let term = Vec::from_elem(alloc, failing.term, 1)?;
+    let second = Vec::from_elem(alloc, failing.second, 1)?;
+    Ok(FailLists {
+        files,
+        link,
+        term,
+        second,
+        report: Vec::from_elem(alloc, failing.report, 1)?,
+    })
+}
+
+// A sink that takes at most so many bytes at once, and fails at these calls.
+fn sink(alloc: Global, most: usize, fail: Vec<u64>) -> MemorySink {
+    MemorySink {
         written: Bytes(Vec::new(alloc)),
         most,
-        fail: Vec::from_elem(alloc, fail, 1)?,
+        fail,
         calls: 0,
         faults: 0,
-    })
+    }
 }
 
 /// Runs what a case says, once, with a rack of the four handlers for each client.
@@ -46,25 +77,44 @@ pub fn host_case<T: Threads + Wait + Sync>(
         rack.push(Box::new(alloc, Tally::new())?)?;
         racks.push(rack)?;
     }
-    let failing = setup.failing;
+    host_ordered(rt, alloc, setup, racks, &Order::of(Plan::NONE))
+}
+
+/// Runs what a case says, once, with these handlers, of which no rack has more than 255, in an order.
+pub fn host_ordered<T: Threads + Wait + Sync>(
+    rt: &T,
+    alloc: Global,
+    setup: Setup,
+    racks: Racks,
+    order: &Order,
+) -> Result<Ran, AllocError>
+    requires { All (λ rack. length rack.items ≤ 255) racks.items }
+{
+    let fails = listed(alloc, setup.failing)?;
     let mut files = MemoryFiles {
         names: setup.names,
         texts: setup.texts,
-        fail: Vec::from_elem(alloc, failing.files, 1)?,
+        fail: fails.files,
         calls: 0,
         faults: 0,
     };
-    let mut link = MemorySource {
-        bytes: Bytes(setup.link),
-        at: 0,
-        fail: Vec::from_elem(alloc, failing.link, 1)?,
-        calls: 0,
-        faults: 0,
+    let mut link = OrderedSource {
+        inner: MemorySource {
+            bytes: Bytes(setup.link),
+            at: 0,
+            fail: fails.link,
+            calls: 0,
+            faults: 0,
+        },
+        order,
     };
-    let mut term = sink(alloc, setup.most, failing.term)?;
-    let mut second = sink(alloc, setup.most, failing.second)?;
-    let mut report = sink(alloc, setup.most, failing.report)?;
-    let status = console_host(
+    let mut term = OrderedSink {
+        inner: sink(alloc, setup.most, fails.term),
+        order,
+    };
+    let mut second = sink(alloc, setup.most, fails.second);
+    let mut report = sink(alloc, setup.most, fails.report);
+    let status = status(
         rt,
         alloc,
         setup.words.as_slice(),
@@ -74,11 +124,11 @@ pub fn host_case<T: Threads + Wait + Sync>(
         &mut second,
         &mut report,
         racks,
-        &NoGate,
+        order,
     );
     Ok(Ran {
         status,
-        written: term.written,
+        written: term.inner.written,
         second: second.written,
         report: report.written,
     })

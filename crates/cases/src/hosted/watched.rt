@@ -3,11 +3,10 @@ ghost use Rattle.con_handlers.specs.Memory.{memory_of};
 
 use con_handlers::CtrlHandler;
 use con_handlers::handler::one_more;
-use std::alloc::Global;
+use std::alloc::{AllocError, Global};
 use std::sync::Arc;
 use std::sync::atomic::AtomicU64;
 use std::sync::atomic::Ordering::SeqCst;
-use std::test::Fail;
 
 /// How many handlers are watched.
 pub const WATCHED: usize = 4;
@@ -72,7 +71,7 @@ pub struct Watched {
 
 impl Watched {
     /// One that was never asked.
-    pub fn of(seen: &Arc<Seen, Global>, handler: u32, answer: bool) -> Result<Watched, Fail> {
+    pub fn of(seen: &Arc<Seen, Global>, handler: u32, answer: bool) -> Result<Watched, AllocError> {
         Ok(Watched {
             handler,
             answer,
