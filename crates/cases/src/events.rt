@@ -156,7 +156,9 @@ fn run(
     match opened(alloc, &start)? {
         Some(console) => {
             let mut console = console;
-            enter_all(alloc, &mut console, wanted, came)
+            let entered = enter_all(alloc, &mut console, wanted, came);
+            console.discard();
+            entered
         }
         None => Err(head.wrong(Fault::Number)),
     }

@@ -29,8 +29,8 @@ use hosted::{HOSTED, run_hosted};
 use judging::{Came, difference};
 use part::{Head, Line, Part, case_name, lines, parts};
 use reads::reads_difference;
-use running::host_case;
-use setup::{Setup, failing_end, other_words, times};
+use running::{Ran, host_case};
+use setup::{Failing, Setup, failing_end, other_words, times};
 use std::alloc::Global;
 use std::process::ExitCode;
 use std::rt::Files;
@@ -47,6 +47,60 @@ const DIFFERENT: u8 = 1;
 /// A file is none of cases, or could not be read.
 const NO_CASES: u8 = 2;
 
+// What differs of what came of a run.
+fn came_difference(
+    alloc: Global,
+    parts: &[Part<'_>],
+    ran: &Ran,
+    failing: Failing,
+    is_played: bool,
+) -> Result<Option<String>, Wrong> {
+    let came = Came::of(alloc, ran, is_played)?;
+    difference(alloc, &came, parts, failing)
+}
+
+// What differs of what is tried with what a run left.
+fn tried_difference<T: Threads + Wait + Sync>(
+    rt: &T,
+    alloc: Global,
+    parts: &[Part<'_>],
+    ran: &Ran,
+    is_session: bool,
+) -> Result<Option<String>, Wrong> {
+    if is_session {
+        if let Some(text) = left_difference(rt, alloc, parts, ran)? {
+            return Ok(Some(text));
+        }
+    }
+    if let Some(text) = audit_difference(rt, alloc, parts, ran)? {
+        return Ok(Some(text));
+    }
+    if let Some(words) = other_words(alloc, parts)? {
+        return other_difference(rt, alloc, parts, words, ran);
+    }
+    match failing_end(parts)? {
+        Some(each) => each_difference(rt, alloc, parts, each, ran),
+        None => Ok(None),
+    }
+}
+
+// What differs where a case is run once, or `None`.
+fn run_difference<T: Threads + Wait + Sync>(
+    rt: &T,
+    alloc: Global,
+    parts: &[Part<'_>],
+) -> Result<Option<String>, Wrong> {
+    let setup = Setup::of(alloc, parts)?;
+    let failing = setup.failing;
+    let is_played = setup.form() == "play";
+    let is_session = is_session(setup.form());
+    let ran = host_case(rt, alloc, setup)?;
+    match came_difference(alloc, parts, &ran, failing, is_played) {
+        Ok(None) => tried_difference(rt, alloc, parts, &ran, is_session),
+        told => told,
+    }
+}
+
 // What differs where a case is run so often as it says, or `None`.
 fn case_difference<T: Threads + Wait + Sync>(
     rt: &T,
@@ -54,28 +108,8 @@ fn case_difference<T: Threads + Wait + Sync>(
     parts: &[Part<'_>],
 ) -> Result<Option<String>, Wrong> {
     for _ in 0..times(parts)? {
-        let setup = Setup::of(alloc, parts)?;
-        let failing = setup.failing;
-        let is_played = setup.form() == "play";
-        let is_session = is_session(setup.form());
-        let ran = host_case(rt, alloc, setup)?;
-        let came = Came::of(alloc, &ran, is_played)?;
-        if let Some(text) = difference(alloc, &came, parts, failing)? {
+        if let Some(text) = run_difference(rt, alloc, parts)? {
             return Ok(Some(text));
-        }
-        if is_session {
-            if let Some(text) = left_difference(rt, alloc, parts, &ran)? {
-                return Ok(Some(text));
-            }
-        }
-        if let Some(text) = audit_difference(rt, alloc, parts, &ran)? {
-            return Ok(Some(text));
-        }
-        if let Some(words) = other_words(alloc, parts)? {
-            return other_difference(rt, alloc, parts, words, &ran);
-        }
-        if let Some(each) = failing_end(parts)? {
-            return each_difference(rt, alloc, parts, each, &ran);
         }
     }
     Ok(None)
