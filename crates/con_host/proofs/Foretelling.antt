@@ -1,5 +1,6 @@
 -- The bytes of a link say one end of a session, and a session has it, unless something failed.
-use Rattle.std.proofs.Common.{◌≡◌, ◌⊎◌, inl, inr, refl, sym, subst, ap, ◌∙◌, arith, append_assoc, length-append, ℕ, ◌+◌, ◌<◌, ◌≤◌, true, false, List, [], ◌∷◌, ◌++◌, length, Option, Some, None}
+use Rattle.std.proofs.Common.{◌≡◌, ◌⊎◌, inl, inr, refl, sym, subst, ap, ◌∙◌, arith, append_assoc, length-append, ℕ, ◌+◌, ◌<◌, ◌≤◌, true, false, List}
+use Rattle.std.proofs.Common.{[], ◌∷◌, ◌++◌, length, Option, Some, None, append-nil}
 use Rattle.std.specs.Prelude.{flat_map, not, IfSome, Result, Ok, Err, unwrap_or}
 use Rattle.std.specs.List.{list_all}
 use Rattle.std.proofs.lemmas.Bool.{and_parts}
@@ -134,12 +135,8 @@ one_foretold R laws link c d f g = same_end R laws link c d (said R link c f) (s
 
 -- ---- the end of a session that ran
 
-append_none : (xs : List ℕ) → xs ++ [] ≡ xs
-append_none [] = refl
-append_none (x ∷ xs) = ap (λ ys. x ∷ ys) (append_none xs)
-
 ended_spelled : (R : LinkReading) (front : List R.One) (last : R.One) → spelled R (front ++ last ∷ []) ≡ spelled R front ++ R.spelling last
-ended_spelled R front last = flat_map-append R.spelling front (last ∷ []) ∙ ap (λ t. spelled R front ++ t) (append_none (R.spelling last))
+ended_spelled R front last = flat_map-append R.spelling front (last ∷ []) ∙ ap (λ t. spelled R front ++ t) (append-nil (R.spelling last))
 
 done_foretold : (R : LinkReading) → Certain R → (link : List ℕ) (frames : List R.One) (text rest : List ℕ) → list_all R.is_one frames ≡ true → link ≡ (spelled R frames ++ text) ++ rest → IsLinkBy R frames (Some rest) → text ≡ [] → length (spelled R frames) ≤ 16777216 → ForetellsBy R link ends.Done
 done_foretold R laws link frames text rest fine is l none few =
@@ -154,7 +151,8 @@ done_foretold R laws link frames text rest fine is l none few =
         frames = front;
         text = R.spelling last;
         rest = rest;
-        spelled = is ∙ (ap (λ t. (spelled R frames ++ t) ++ rest) none ∙ (ap (λ t. t ++ rest) (append_none (spelled R frames) ∙ all) ∙ append_assoc (spelled R front) (R.spelling last) rest));
+        spelled = is ∙ (ap (λ t. (spelled R frames ++ t) ++ rest) none ∙
+            (ap (λ t. t ++ rest) (append-nil (spelled R frames) ∙ all) ∙ append_assoc (spelled R front) (R.spelling last) rest));
         are_frames = apart.0;
         going = l.3;
         answers = laws.made last (length (spelled R front)) (Some rest) (and_parts (R.is_one last) true apart.1).0 l.5 (omega (arith, few, size));

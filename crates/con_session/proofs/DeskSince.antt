@@ -16,7 +16,6 @@ use Rattle.con_machine.specs.Step.{step, is_ready}
 use Rattle.con_session.specs.Desk.{Enters, Rests, Ran, brief_of, entry, is_painter, listed}
 use Rattle.con_session.specs.Door.{Saw, Entered}
 use Rattle.con_session.specs.DeskLaws.{run_one}
-use Rattle.con_session.specs.RanLaws.{append_none}
 use Rattle.con_session.specs.declared.desk.Brief.{Brief}
 use Rattle.con_session.specs.DeskDoor.{Since, IsNothing}
 
@@ -24,7 +23,7 @@ use Rattle.con_session.specs.DeskDoor.{Since, IsNothing}
 
 pub since_here : (s : State) (h : List Entry) (rs : List Reply) → Since s s h h rs rs
 since_here s h rs =
-    record { ran = record { entries = []; after' = sym (append_none h); state = refl; legal = refl; others = refl }; replies = sym (append-nil rs) }
+    record { ran = record { entries = []; after' = sym (append-nil h); state = refl; legal = refl; others = refl }; replies = sym (append-nil rs) }
 
 module _ (s t u : State) (h g l : List Entry) (rs qs ps : List Reply) (k : Since s t h g rs qs) where
   pub since_rests : Rests t u g l qs ps → Since s u h l rs ps
@@ -62,7 +61,7 @@ since_put s t u h g l rs qs ps a e (Err err) ready p x y k = since_rests s t u h
 -- ---- the door's clauses, by those of the desk
 
 pub saw_same : (h g : List Entry) → g ≡ h → Saw IsNothing h g
-saw_same h g e = record { between = []; may = refl; entries' = e ∙ sym (append_none h) }
+saw_same h g e = record { between = []; may = refl; entries' = e ∙ sym (append-nil h) }
 
 -- a console that is where its history leads from a state goes on so
 pub since_run : (s t z : State) (h g : List Entry) → Ran s t h g → s ≡ run z h → t ≡ run z g
@@ -72,11 +71,11 @@ pub desk_entered : (s t u z : State) (h g l : List Entry) (rs qs ps : List Reply
     → is_ready t a e ≡ true → Enters t u g l qs ps a e → brief ≡ brief_of (step t a e).reply
     → Since s t h g rs qs → s ≡ run z h → Entered IsNothing z a e brief g l
 desk_entered s t u z h g l rs qs ps a e brief ready n br k i =
-    let now : t ≡ run z (g ++ []) = since_run s t z h g k.ran i ∙ ap (λ (y : List Entry). run z y) (sym (append_none g)) in
+    let now : t ≡ run z (g ++ []) = since_run s t z h g k.ran i ∙ ap (λ (y : List Entry). run z y) (sym (append-nil g)) in
     record {
       between = [];
       may = refl;
-      entries' = n.entries ∙ ap (λ (y : List Entry). y ++ entry a e ∷ []) (sym (append_none g));
+      entries' = n.entries ∙ ap (λ (y : List Entry). y ++ entry a e ∷ []) (sym (append-nil g));
       ready = ap (λ (y : State). is_ready y a e) (sym now) ∙ ready;
       brief' = br ∙ ap (λ (y : State). brief_of (step y a e).reply) now;
     }
@@ -101,11 +100,11 @@ module _ (s t : State) (h g : List Entry) (rs qs : List Reply) (k : Since s t h 
   rests_since x =
       let same : g ≡ h ++ [] = x.entries' ∙ ap (λ (l : List Entry). h ++ l) x.may in
       let b = since_by [] same in
-      record { state = b.0; entries = same ∙ append_none h; replies = b.1 ∙ append-nil rs }
+      record { state = b.0; entries = same ∙ append-nil h; replies = b.1 ∙ append-nil rs }
 
   pub enters_since : (between : List Entry) (a : Actor) (e : Event) → between ≡ [] → g ≡ (h ++ between) ++ entry a e ∷ [] → Enters s t h g rs qs a e
   enters_since between a e may i =
       let same : g ≡ h ++ entry a e ∷ [] =
-      i ∙ (ap (λ (z : List Entry). (h ++ z) ++ entry a e ∷ []) may ∙ ap (λ (z : List Entry). z ++ entry a e ∷ []) (append_none h)) in
+      i ∙ (ap (λ (z : List Entry). (h ++ z) ++ entry a e ∷ []) may ∙ ap (λ (z : List Entry). z ++ entry a e ∷ []) (append-nil h)) in
       let b = since_by (entry a e ∷ []) same in
       record { state = b.0; entries = same; replies = b.1 }

@@ -1,5 +1,5 @@
 -- What a session leaves behind at its end.
-use Rattle.std.proofs.Common.{◌≡◌, ◌⊎◌, ℕ, ◌+◌, ◌<◌, Bool, true, false, List, [], ◌∷◌, ◌++◌, length}
+use Rattle.std.proofs.Common.{◌≡◌, ◌⊎◌, ℕ, ◌+◌, ◌<◌, Bool, true, false, List, [], ◌∷◌, ◌++◌, length, append-nil}
 use Rattle.std.proofs.Common.{Option, Some, None, refl, sym, ap, ◌∙◌, subst, inl, inr, arith}
 use Rattle.std.specs.Prelude.{not, ◌&&◌, if◌then◌else◌}
 use Rattle.con_link.specs.LinkReading.{LinkReading}
@@ -31,7 +31,6 @@ use Rattle.con_session.proofs.Going.{failing, fails_now}
 use Rattle.con_session.proofs.Rounding.{AllRest, all_rest, broken_all, client_rests, nobody_none, painter_rests}
 use Rattle.con_session.specs.SenderLaws.{fails_false}
 use Rattle.con_session.specs.EndLaws.{waits_or_gone, left_by_waits, leaves_whole_by, leaves_stops_by, leaves_none_by}
-use Rattle.con_session.specs.RanLaws.{append_none}
 
 -- ---- who has nothing to do
 
@@ -101,7 +100,7 @@ whole_outcome R M Then session racks scripts before old m goes (last, are, nobod
         rounds = rounds;
         last = last;
         parts = parts ∙ sym (ap (λ (z : List Entry). all_entries (all_order b) rounds ++ z) (nobody_none (all_order b) last nobody)
-            ∙ append_none (all_entries (all_order b) rounds));
+            ∙ append-nil (all_entries (all_order b) rounds));
         turns_are = whole_rounds;
         last_is = last_is (is_memory end) b (all_entries (all_order b) rounds) last (subst A parts are) nobody;
       };

@@ -1,5 +1,5 @@
 -- A round of a session, whole or broken off.
-use Rattle.std.proofs.Common.{◌≡◌, ◌⊎◌, ℕ, ◌+◌, ◌<◌, ◌≤◌, Bool, true, false, List, [], ◌∷◌, ◌++◌, length}
+use Rattle.std.proofs.Common.{◌≡◌, ◌⊎◌, ℕ, ◌+◌, ◌<◌, ◌≤◌, Bool, true, false, List, [], ◌∷◌, ◌++◌, length, append-nil}
 use Rattle.std.proofs.Common.{Option, Some, None, Result, Ok, Err, refl, sym, ap, ◌∙◌, subst, inl, inr, arith}
 use Rattle.std.specs.Prelude.{not, ◌||◌}
 use Rattle.std.specs.Result.{IsErr}
@@ -37,10 +37,6 @@ use Rattle.con_session.proofs.Rounding.{not_yet, fails_before, whole_round, brok
 use Rattle.con_session.proofs.SeatLaws.{all_other, all_still}
 use Rattle.con_session.proofs.Turning.{sent_holds, sent_turn, sent_paints, entered_holds, entered_paints, painted_holds}
 use Rattle.con_session.proofs.Turning.{painted_serves, painted_turn, painted_count, clients_keep, numbered_on, canvas_on, some_on}
-
-append_none : {A : Type 0} (xs : List A) → xs ++ [] ≡ xs
-append_none [] = refl
-append_none (x ∷ xs) = ap (λ ys. x ∷ ys) (append_none xs)
 
 -- ---- from which Paint on the terminal counts as failed
 
@@ -148,7 +144,7 @@ turn_by R M b scripts before old h m acted painted k x true n = (
   round_longer b h m.entries (all_order b) x.one x.are n x.entries,
 )
 turn_by R M b scripts before old h m acted painted k x false n =
-    let e : m.entries ≡ h = x.entries ∙ (ap (λ (z : List Entry). h ++ z) (nobody_none (all_order b) x.one n) ∙ append_none h) in
+    let e : m.entries ≡ h = x.entries ∙ (ap (λ (z : List Entry). h ++ z) (nobody_none (all_order b) x.one n) ∙ append-nil h) in
     let A : List Entry → Type 0 = λ z. AreTurns false b z (all_order b) x.one in
     let W : List Entry → Type 0 = λ z. HasRounds b z in
     (record { holds = x.holds; served = x.served; rounds = subst W (sym e) k }, (x.one, subst A (sym e) x.are, n))
@@ -214,7 +210,7 @@ sent_err R M0 Then b scripts before old m s h rs left e turn link follow all f k
       link = link before x.link;
       canvas = subst C (sym r.entries) (canvas_ends c m.entries b.session.size m.kept x.pieces m.ends m.end old m.written m.failed x.canvas);
       some = subst S (sym r.entries) x.some;
-      rounds = broken_by c m.entries h [] (all f was).rounds refl (r.entries ∙ sym (append_none m.entries));
+      rounds = broken_by c m.entries h [] (all f was).rounds refl (r.entries ∙ sym (append-nil m.entries));
     }
 
 -- among the clients

@@ -1,5 +1,5 @@
 -- The turns of a round, one after another.
-use Rattle.std.proofs.Common.{◌≡◌, ℕ, zero, suc, ◌+◌, ◌<◌, ◌≤◌, Bool, true, false, List, [], ◌∷◌, ◌++◌, Option, Some}
+use Rattle.std.proofs.Common.{◌≡◌, ℕ, zero, suc, ◌+◌, ◌<◌, ◌≤◌, Bool, true, false, List, [], ◌∷◌, ◌++◌, Option, Some, append-nil}
 use Rattle.std.proofs.Common.{None, Ok, refl, sym, ap, ◌∙◌, subst, append_assoc, arith, length, length-append}
 use Rattle.std.specs.Prelude.{not, ◌&&◌, ◌||◌, nat_le}
 use Rattle.std.proofs.lemmas.Bool.Decides.{nat_tests}
@@ -12,10 +12,6 @@ use Rattle.con_laws.specs.Rounds.{Begun, AreTurns, IsTurn, clients_from, entry_o
 use Rattle.con_session.specs.Painting.{PainterFails}
 use Rattle.con_session.specs.Sender.{FailsBy}
 use Rattle.con_session.specs.Solo.{HasRounds}
-
-append_none : {A : Type 0} (xs : List A) → xs ++ [] ≡ xs
-append_none [] = refl
-append_none (x ∷ xs) = ap (λ ys. x ∷ ys) (append_none xs)
 
 -- ---- from which Paint on the terminal counts as failed
 
@@ -132,7 +128,7 @@ pub all_rest : (b : Begun) (h : List Entry) (by : List Actor) (ts : List (Option
 all_rest b h [] ts are n = tt
 all_rest b h (a ∷ rest) [] are n = absurd (let e : false ≡ true = are in cc)
 all_rest b h (a ∷ rest) (None ∷ ts) are n =
-    (are.0, let P : List Entry → Type 0 = λ z. AreTurns false b z rest ts in all_rest b h rest ts (subst P (append_none h) are.1) n)
+    (are.0, let P : List Entry → Type 0 = λ z. AreTurns false b z rest ts in all_rest b h rest ts (subst P (append-nil h) are.1) n)
 all_rest b h (a ∷ rest) (Some e ∷ ts) are n = absurd (cc)
 
 pub client_rests : (b : Begun) (h : List Entry) (from n : ℕ) (more : List Actor) → AllRest b h (clients_from from n ++ more) → (j : ℕ) → j < n

@@ -1,5 +1,5 @@
 -- The turns of the clients, one after another.
-use Rattle.std.proofs.Common.{◌≡◌, ◌⊎◌, ℕ, zero, suc, ◌+◌, ◌<◌, ◌≤◌, Bool, true, false, List, [], ◌∷◌, ◌++◌, length, Option, Some}
+use Rattle.std.proofs.Common.{◌≡◌, ◌⊎◌, ℕ, zero, suc, ◌+◌, ◌<◌, ◌≤◌, Bool, true, false, List, [], ◌∷◌, ◌++◌, length, Option, Some, append-nil}
 use Rattle.std.proofs.Common.{None, refl, sym, ap, ◌∙◌, subst, append_assoc, inl, inr, map, Result, Ok, Err, arith, add-one}
 use Rattle.std.specs.Prelude.{◌-◌, slice_get, slice_set, slice_index_or, ◌==◌, ◌||◌, not}
 use Rattle.std.specs.Result.{IsErr}
@@ -218,10 +218,6 @@ all_acted {A} worker places mems slots b s t h g rs qs k scripts seats old new s
 
 -- ---- the turns of the first clients
 
-append_none : {A : Type 0} (xs : List A) → xs ++ [] ≡ xs
-append_none [] = refl
-append_none (x ∷ xs) = ap (λ ys. x ∷ ys) (append_none xs)
-
 -- the clients from k + 1 on
 clients_more : (from n : ℕ) → clients_from from (suc n) ≡ clients_from from n ++ actors.Client (from + n + 1) ∷ []
 clients_more from zero = ap (λ (m : ℕ). actors.Client (m + 1) ∷ []) (let e : from ≡ from + 0 = omega arith in e)
@@ -294,7 +290,7 @@ step_by worker places mems slots b s0 s t h0 h g rs0 rs qs k scripts script seat
     )
 step_by worker places mems slots b s0 s t h0 h g rs0 rs qs k scripts script seats old new acted false l gs go had n all turn =
     let r = turn.0 in (
-      had_more b s0 s t h0 h g rs0 rs qs k None turn.1 (r.entries ∙ sym (append_none h)) (stands_still b.state s t h g rs qs r) had,
+      had_more b s0 s t h0 h g rs0 rs qs k None turn.1 (r.entries ∙ sym (append-nil h)) (stands_still b.state s t h g rs qs r) had,
       nobody_more had.turns ∙ (n ∙ ap not (sym (or_false acted))),
       to_all worker places mems slots b t g scripts (slice_set seats k new)
           (all_acted worker places mems slots b s t h g rs qs k scripts seats old new script false l gs go all turn),
@@ -425,7 +421,7 @@ clients_fail {A} worker places mems slots b s0 s t h0 h g rs0 rs qs k scripts sc
 pub clients_none : (b : Begun) (s : State) (h : List Entry) (rs : List Reply) (scripts : List Script) (ws : List Worker)
     (places : List (List ℕ)) (ms : List (List Memory)) (slots : List (List ℕ)) → AllStandBy b s h scripts ws places ms slots
     → ClientsTurnBy (Ok false) b s s h h rs rs 0 scripts ws places ms slots
-clients_none b s h rs scripts ws places ms slots all = (record { turns = []; are = tt; entries = sym (append_none h); stands = λ k. k }, refl, all)
+clients_none b s h rs scripts ws places ms slots all = (record { turns = []; are = tt; entries = sym (append-nil h); stands = λ k. k }, refl, all)
 
 pub clients_done : (b : Begun) (s t : State) (h g : List Entry) (rs qs : List Reply) (acted : Bool) (k n : ℕ) (scripts : List Script) (ws : List Worker)
     (places : List (List ℕ)) (ms : List (List Memory)) (slots : List (List ℕ)) → k ≡ n → ClientsTurnBy (Ok acted) b s t h g rs qs k scripts ws places ms slots

@@ -1,5 +1,5 @@
 -- The second terminal behind one more entry.
-use Rattle.std.proofs.Common.{◌≡◌, ℕ, zero, suc, Result, Ok, Err, ◌+◌, ◌*◌, ◌≤◌, Bool, true, false, List, [], ◌∷◌, ◌++◌, length}
+use Rattle.std.proofs.Common.{◌≡◌, ℕ, zero, suc, Result, Ok, Err, ◌+◌, ◌*◌, ◌≤◌, Bool, true, false, List, [], ◌∷◌, ◌++◌, length, append-nil}
 use Rattle.std.proofs.Common.{take, Option, Some, None, refl, sym, ap, ◌∙◌, subst, append_assoc, arith, length-append, inl, inr}
 use Rattle.std.specs.Prelude.{◌<◌, is_some, if◌then◌else◌}
 use Rattle.std.specs.Result.{IsErr}
@@ -35,7 +35,6 @@ use Rattle.con_session.specs.CanvasLaws.{joined_more, ends_more, take_all, writt
 use Rattle.con_session.specs.Desk.{entry}
 use Rattle.con_session.specs.EndLaws.{stream_run}
 use Rattle.con_session.specs.Painting.{Written}
-use Rattle.con_session.specs.RanLaws.{append_none}
 use Rattle.con_session.specs.RunLaws.{matched_paint, piece_paint, piece_none, reach_paint, matched_resize, piece_resize, reach_resize}
 use Rattle.con_session.specs.Runs.{Painted, EachPiece, EachRun, ShowsView, PrintsFew, joined, ends_from}
 use Rattle.con_session.specs.Seconds.{Watch, watch, watched, watched_at, seconds_at, seconds_of, painted_at}
@@ -65,13 +64,13 @@ pieces_attach ss kept ps z k = record {
 pub pieces_detach : (ss : List Sight) (kept : Option Kept) (ps : List (List ℕ)) → PiecesStand ss kept ps → PiecesStand (ss ++ []) None ps
 pieces_detach ss kept ps k =
     let P : List Sight → Type 0 = λ x. PiecesStand x None ps in
-    subst P (sym (append_none ss)) (record { matched = k.matched; each = k.each; reach = λ q e. absurd (none_is q e) })
+    subst P (sym (append-nil ss)) (record { matched = k.matched; each = k.each; reach = λ q e. absurd (none_is q e) })
   where
     none_is : (a : Kept) → None ≡ Some a → ⊥
     none_is a e = cc
 
 pub pieces_still : (ss : List Sight) (kept : Option Kept) (ps : List (List ℕ)) → PiecesStand ss kept ps → PiecesStand (ss ++ []) kept ps
-pieces_still ss kept ps k = let P : List Sight → Type 0 = λ x. PiecesStand x kept ps in subst P (sym (append_none ss)) k
+pieces_still ss kept ps k = let P : List Sight → Type 0 = λ x. PiecesStand x kept ps in subst P (sym (append-nil ss)) k
 
 -- what a frame of the mirror does
 prints_few : (k after : Kept) (v : View) (bytes : List ℕ) (u : Terminal) (l : Option View) → Shown k u l
@@ -141,9 +140,9 @@ second_other s ended kept ps es end before now failed fs h g x e n p k =
       sights = k.sights;
       flags = k.flags;
       seconds = λ more. seconds-one (watch (fs ++ more)) s h x ∙ (ap (λ (ss : List Sight). seconds_of (watch (fs ++ more)) s h ++ ss) (o more).0
-          ∙ (append_none (seconds_of (watch (fs ++ more)) s h) ∙ k.seconds more));
+          ∙ (append-nil (seconds_of (watch (fs ++ more)) s h) ∙ k.seconds more));
       flagged = λ more. flags-one (watch (fs ++ more)) h x ∙ (ap (λ (bs : List Bool). flags_of (watch (fs ++ more)) h ++ bs)
-          (no_flag (now_at (fs ++ more) h) x.event p) ∙ (append_none (flags_of (watch (fs ++ more)) h) ∙ k.flagged more));
+          (no_flag (now_at (fs ++ more) h) x.event p) ∙ (append-nil (flags_of (watch (fs ++ more)) h) ∙ k.flagged more));
       at = λ more. ap (λ (w : Watch). w.at) (W more) ∙ k.at more;
       coming = λ i more. ap (λ (w : Watch). w.coming) (W more) ∙ k.coming i more;
       stands = k.stands;
@@ -200,7 +199,7 @@ second_frame s later kept ps es end before now failed fs h g f e k =
       flagged = λ more. ap (λ (z : List MirrorFrame). flags_of (watch z) (h ++ x ∷ [])) (one_more fs f more)
           ∙ (flags-one (watch (fs ++ f ∷ more)) h x ∙ (ap (λ (bs : List Bool). flags_of (watch (fs ++ f ∷ more)) h ++ bs)
           (no_flag (now_at (fs ++ f ∷ more) h) (sent_by (as_plain f)) (no_paint_sent f))
-          ∙ (append_none (flags_of (watch (fs ++ f ∷ more)) h) ∙ k.flagged (f ∷ more))));
+          ∙ (append-nil (flags_of (watch (fs ++ f ∷ more)) h) ∙ k.flagged (f ∷ more))));
       at = λ more. ap (λ (z : List MirrorFrame). (now_at z (h ++ x ∷ [])).at) (one_more fs f more)
           ∙ (ap (λ (w : Watch). w.at) (W more)
           ∙ (frame_at (now_at (fs ++ f ∷ more) h) f more (c more) ∙ (ap (λ (o : Option Size). attached_by o (Some f)) (k.at (f ∷ more)) ∙ at_by kept f)));
@@ -225,8 +224,8 @@ second_hung s kept ps es end before now failed fs h g ended e k =
     subst G (sym e) (record {
       sights = k.sights;
       flags = k.flags;
-      seconds = λ more. seconds-one (watch (fs ++ more)) s h x ∙ (append_none (seconds_of (watch (fs ++ more)) s h) ∙ k.seconds more);
-      flagged = λ more. flags-one (watch (fs ++ more)) h x ∙ (append_none (flags_of (watch (fs ++ more)) h) ∙ k.flagged more);
+      seconds = λ more. seconds-one (watch (fs ++ more)) s h x ∙ (append-nil (seconds_of (watch (fs ++ more)) s h) ∙ k.seconds more);
+      flagged = λ more. flags-one (watch (fs ++ more)) h x ∙ (append-nil (flags_of (watch (fs ++ more)) h) ∙ k.flagged more);
       at = λ more. ap (λ (w : Watch). w.at) (watched-one (watch (fs ++ more)) h x) ∙ k.at more;
       coming = λ i more. absurd (cc);
       stands = k.stands;
@@ -311,7 +310,7 @@ second_passed s ended ps es more end before now failed fs h g e m st =
     subst G (sym e) (subst E (sym m) (record {
       sights = st.sights;
       flags = st.flags ++ false ∷ [];
-      seconds = λ fs'. p.seconds fs' ∙ append_none st.sights;
+      seconds = λ fs'. p.seconds fs' ∙ append-nil st.sights;
       flagged = p.flagged;
       at = λ fs'. ap (λ (z : Watch). z.at) (p.watch' fs') ∙ st.at fs';
       coming = λ n fs'. ap (λ (z : Watch). z.coming) (p.watch' fs') ∙ st.coming n fs';
@@ -369,8 +368,8 @@ pub second_ends : (s : State) (ended : Bool) (kept : Option Kept) (ps : List (Li
     (failed failed' memory : Bool) (size : Size) (fs : List MirrorFrame) (h : List Entry) → (failed' ≡ false → memory ≡ false → failed ≡ false)
     → SecondIs s ended kept ps es end before now failed fs h → Mirrors s fs size es before now failed' memory h
 second_ends s ended kept ps es end before now failed failed' memory size fs h fine k =
-    let ss : seconds_of (watch fs) s h ≡ k.sights = ap (λ (z : List MirrorFrame). seconds_of (watch z) s h) (sym (append_none fs)) ∙ k.seconds [] in
-    let bs : flags_of (watch fs) h ≡ k.flags = ap (λ (z : List MirrorFrame). flags_of (watch z) h) (sym (append_none fs)) ∙ k.flagged [] in
+    let ss : seconds_of (watch fs) s h ≡ k.sights = ap (λ (z : List MirrorFrame). seconds_of (watch z) s h) (sym (append-nil fs)) ∙ k.seconds [] in
+    let bs : flags_of (watch fs) h ≡ k.flags = ap (λ (z : List MirrorFrame). flags_of (watch z) h) (sym (append-nil fs)) ∙ k.flagged [] in
     let es' : picked (flags_of (watch fs) h) es ≡ ends_from 0 ps = ap (λ (z : List Bool). picked z es) bs ∙ k.ends' in
     let R : List Bool → Type 0 = λ z. Stays 0 z es in
     record {
@@ -396,9 +395,9 @@ second_past s ended kept ps es end before now failed failed' size fs h g e k =
     let G : List Entry → Type 0 = λ z. Mirrors s fs size es before now failed' true z in
     let p = paint_goes s ended kept ps es end before now failed fs h k in
     let ss : seconds_of (watch fs) s (h ++ x ∷ []) ≡ k.sights ++ mirrored_to (at_size kept) (view_now (run s h)) =
-    ap (λ (z : List MirrorFrame). seconds_of (watch z) s (h ++ x ∷ [])) (sym (append_none fs)) ∙ p.seconds [] in
+    ap (λ (z : List MirrorFrame). seconds_of (watch z) s (h ++ x ∷ [])) (sym (append-nil fs)) ∙ p.seconds [] in
     let bs : flags_of (watch fs) (h ++ x ∷ []) ≡ k.flags ++ is_some kept ∷ [] =
-    ap (λ (z : List MirrorFrame). flags_of (watch z) (h ++ x ∷ [])) (sym (append_none fs)) ∙ p.flagged [] in
+    ap (λ (z : List MirrorFrame). flags_of (watch z) (h ++ x ∷ [])) (sym (append-nil fs)) ∙ p.flagged [] in
     let es' : picked (flags_of (watch fs) (h ++ x ∷ [])) es ≡ ends_from 0 ps = ap (λ (z : List Bool). picked z es) bs
     ∙ (picked-past k.flags (is_some kept) es k.count ∙ k.ends') in
     let each : (t : Terminal) → EachPiece Painted t None (k.sights ++ mirrored_to (at_size kept) (view_now (run s h))) ps =
@@ -421,7 +420,7 @@ second_past s ended kept ps es end before now failed failed' size fs h g e k =
   where
     past : (o : Option Kept) (zs : List Sight) (qs : List (List ℕ)) (t : Terminal) (v : View) → PiecesStand zs o qs
         → EachPiece Painted t None (zs ++ mirrored_to (at_size o) v) qs
-    past None zs qs t v st = let P : List Sight → Type 0 = λ y. EachPiece Painted t None y qs in subst P (sym (append_none zs)) (st.each t)
+    past None zs qs t v st = let P : List Sight → Type 0 = λ y. EachPiece Painted t None y qs in subst P (sym (append-nil zs)) (st.each t)
     past (Some q) zs qs t v st = piece_none Painted t None zs qs (part v (size_in q)) st.matched (st.each t)
 
 -- ---- a turn

@@ -1,5 +1,6 @@
 -- What a second terminal shows behind one more entry.
-use Rattle.std.proofs.Common.{◌≡◌, ℕ, ◌+◌, Bool, true, false, List, [], ◌∷◌, ◌++◌, length, Some, refl, sym, ap, ◌∙◌, append_assoc, arith, length-append}
+use Rattle.std.proofs.Common.{◌≡◌, ℕ, ◌+◌, Bool, true, false, List, [], ◌∷◌, ◌++◌, length, Some, refl, sym, ap, ◌∙◌, append_assoc, arith}
+use Rattle.std.proofs.Common.{length-append, append-nil}
 use Rattle.std.specs.Prelude.{drop, slice_get, if◌then◌else◌}
 use Rattle.con_units.specs.declared.view.Sight.{Sight}
 use Rattle.con_link.specs.declared.mirror.MirrorFrame.{MirrorFrame}
@@ -17,7 +18,6 @@ use Rattle.con_link.specs.declared.mirror.MirrorFrame.TheVariants.{Plain, Attach
 use Rattle.con_units.specs.declared.view.Frame.TheVariants as frames
 use Rattle.con_machine.specs.Follows.{sent_by}
 use Rattle.con_session.specs.Outcome.{end_of}
-use Rattle.con_session.specs.RanLaws.{append_none}
 
 seconds-append : (w : Watch) (s : State) (h g : List Entry) → seconds_of w s (h ++ g) ≡ seconds_of w s h ++ seconds_of (after watched w h) (run s h) g
 seconds-append w s [] g = refl
@@ -28,7 +28,7 @@ seconds-append w s (x ∷ xs) g =
 pub seconds-one : (w : Watch) (s : State) (h : List Entry) (x : Entry)
     → seconds_of w s (h ++ x ∷ []) ≡ seconds_of w s h ++ seconds_at (after watched w h) (run s h) x
 seconds-one w s h x =
-    seconds-append w s h (x ∷ []) ∙ ap (λ (ss : List Sight). seconds_of w s h ++ ss) (append_none (seconds_at (after watched w h) (run s h) x))
+    seconds-append w s h (x ∷ []) ∙ ap (λ (ss : List Sight). seconds_of w s h ++ ss) (append-nil (seconds_at (after watched w h) (run s h) x))
 
 flags-append : (w : Watch) (h g : List Entry) → flags_of w (h ++ g) ≡ flags_of w h ++ flags_of (after watched w h) g
 flags-append w [] g = refl
@@ -37,7 +37,7 @@ flags-append w (x ∷ xs) g =
     ∙ sym (append_assoc (flag_at w x.event) (flags_of (watched w x) xs) (flags_of (after watched (watched w x) xs) g))
 
 pub flags-one : (w : Watch) (h : List Entry) (x : Entry) → flags_of w (h ++ x ∷ []) ≡ flags_of w h ++ flag_at (after watched w h) x.event
-flags-one w h x = flags-append w h (x ∷ []) ∙ ap (λ (bs : List Bool). flags_of w h ++ bs) (append_none (flag_at (after watched w h) x.event))
+flags-one w h x = flags-append w h (x ∷ []) ∙ ap (λ (bs : List Bool). flags_of w h ++ bs) (append-nil (flag_at (after watched w h) x.event))
 
 pub watched-one : (w : Watch) (h : List Entry) (x : Entry) → after watched w (h ++ x ∷ []) ≡ watched (after watched w h) x
 watched-one w [] x = refl

@@ -1,5 +1,5 @@
 -- What holds of a session behind one more turn.
-use Rattle.std.proofs.Common.{◌≡◌, ◌⊎◌, ℕ, zero, suc, ◌+◌, ◌<◌, ◌≤◌, Bool, true, false, List, [], ◌∷◌, ◌++◌, length}
+use Rattle.std.proofs.Common.{◌≡◌, ◌⊎◌, ℕ, zero, suc, ◌+◌, ◌<◌, ◌≤◌, Bool, true, false, List, [], ◌∷◌, ◌++◌, length, append-nil}
 use Rattle.std.proofs.Common.{Option, Some, None, Ok, refl, sym, ap, ◌∙◌, subst, append_assoc, inl, inr, arith}
 use Rattle.std.specs.Prelude.{not, ◌&&◌, nat_lt, nat_le}
 use Rattle.std.proofs.lemmas.Bool.{and_parts}
@@ -8,18 +8,15 @@ use Rattle.con_handlers.specs.Memory.{Memory}
 use Rattle.con_units.specs.declared.place.Size.{Size}
 use Rattle.con_link.specs.LinkReading.{LinkReading}
 use Rattle.con_paint.specs.Painter.{Kept}
-use Rattle.con_events.specs.declared.actor.Actor.{Actor}
 use Rattle.con_events.specs.declared.actor.Actor.TheVariants as actors
 use Rattle.con_events.specs.declared.entry.Entry.{Entry}
 use Rattle.con_events.specs.declared.event.Event.{Event}
 use Rattle.con_events.specs.declared.event.Event.TheVariants as events
 use Rattle.con_events.specs.declared.reply.Reply.{Reply}
 use Rattle.con_events.specs.declared.script.Script.{Script}
-use Rattle.con_machine.specs.Along.{after}
-use Rattle.con_machine.specs.Follows.{MayAct, asks, asks_by, are_of_session, is_one_of}
+use Rattle.con_machine.specs.Follows.{are_of_session, is_one_of}
 use Rattle.con_machine.specs.History.{run, is_legal}
-use Rattle.con_machine.specs.HistoryLaws.{legal-append, after-append, along-one}
-use Rattle.con_laws.specs.PictureLaws.{step_moves}
+use Rattle.con_machine.specs.HistoryLaws.{legal-append}
 use Rattle.con_laws.specs.Rounds.{Begun, clients_from, entry_of, round_entries, is_nobody, IsTurn}
 use Rattle.con_machine.specs.State.{State}
 use Rattle.con_machine.specs.Step.{is_ready}
@@ -31,16 +28,13 @@ use Rattle.con_session.specs.Sender.{LinkBy, SenderTurn}
 use Rattle.con_session.specs.Solo.{AsksStand, HoldsBy, Moment}
 use Rattle.con_session.specs.declared.terminal.Side.{Side}
 use Rattle.con_session.specs.declared.worker.Worker.{Worker}
-use Rattle.con_session.specs.DeskLaws.{run_one, stands_one, stands_still}
+use Rattle.con_session.specs.AskLaws.{asks_other, asks_own, asks_lost}
+use Rattle.con_session.specs.DeskLaws.{stands_one, stands_still}
 use Rattle.con_session.specs.LinkedLaws.{linked_other, linked_failed, linked_paint}
 use Rattle.con_session.specs.PaintCounts.{no_paint, paints_same, paints_next}
 use Rattle.con_session.specs.PaintingLaws.{painter_other}
 use Rattle.con_session.proofs.SeatLaws.{all_other, all_still}
 use Rattle.con_session.specs.TiedLaws.{served_paint, served_still}
-
-append_none : {A : Type 0} (xs : List A) → xs ++ [] ≡ xs
-append_none [] = refl
-append_none (x ∷ xs) = ap (λ ys. x ∷ ys) (append_none xs)
 
 -- ---- the actors' numbers
 
@@ -55,47 +49,15 @@ numbered_on n h g x e a o = ap (λ (z : List Entry). are_of_session n z) e ∙ n
 
 -- ---- Asks
 
-asks_after : (h : List Entry) (x : Entry) → after asks false (h ++ x ∷ []) ≡ asks_by (after asks false h) x.event
-asks_after h x = after-append asks false h (x ∷ [])
-
-asked_more : (b : Begun) (h : List Entry) (x : Entry) → after asks false h ≡ (run b.state h).asked
-    → after asks false (h ++ x ∷ []) ≡ (run b.state (h ++ x ∷ [])).asked
-asked_more b h x e =
-    asks_after h x ∙ (ap (λ (o : Bool). asks_by o x.event) e
-    ∙ (sym (step_moves (run b.state h) x.actor x.event).asks ∙ ap (λ (z : State). z.asked) (sym (run_one b.state h x))))
-
-may_other : (l out : Bool) (a : Actor) → is_terminal a ≡ false → MayAct l out a
-may_other l true (actors.Client p) n = tt
-may_other l true actors.Terminal n = absurd (cc)
-may_other l true actors.Painter n = tt
-may_other l false a n = tt
-
-may_terminal : (l out : Bool) → (out ≡ false) ⊎ (l ≡ true) → MayAct l out actors.Terminal
-may_terminal l true (inl e) = absurd (cc)
-may_terminal l true (inr e) = e
-may_terminal l false k = tt
-
-asks_more : (b : Begun) (h : List Entry) (x : Entry) (lost : Bool)
-    → ((l : Bool) → (lost ≡ true → l ≡ true) → MayAct l (after asks false h) x.actor) → AsksStand b h lost → AsksStand b (h ++ x ∷ []) lost
-asks_more b h x lost may k = record {
-  answered = λ l i. along-one (λ out y. MayAct l out y.actor) asks false h x (k.answered l i) (may l i);
-  asked' = asked_more b h x k.asked';
-}
-
 pub asks_on : (b : Begun) (h g : List Entry) (x : Entry) (lost : Bool) → g ≡ h ++ x ∷ [] → is_terminal x.actor ≡ false → AsksStand b h lost → AsksStand b g lost
-asks_on b h g x lost e n k = let P : List Entry → Type 0 = λ z. AsksStand b z lost in
-    subst P (sym e) (asks_more b h x lost (λ l i. may_other l (after asks false h) x.actor n) k)
+asks_on b h g x lost e n k = let P : List Entry → Type 0 = λ z. AsksStand b z lost in subst P (sym e) (asks_other b h x lost n k)
 
 asks_sent : (b : Begun) (s : State) (h g : List Entry) (ev : Event) (lost : Bool)
     → s ≡ run b.state h → (s.asked ≡ false) ⊎ (lost ≡ true) → g ≡ h ++ entry actors.Terminal ev ∷ [] → AsksStand b h lost → AsksStand b g lost
 asks_sent b s h g ev lost i served e k =
     let P : List Entry → Type 0 = λ z. AsksStand b z lost in
-    let out : s.asked ≡ after asks false h = ap (λ (z : State). z.asked) i ∙ sym k.asked' in
-    subst P (sym e) (asks_more b h (entry actors.Terminal ev) lost
-    (λ l j. may_terminal l (after asks false h) (elim served [ inl n ↦ inl (sym out ∙ n) | inr f ↦ inr (j f) ])) k)
-
-asks_lost : (b : Begun) (h : List Entry) (lost more : Bool) → (lost ≡ true → more ≡ true) → AsksStand b h lost → AsksStand b h more
-asks_lost b h lost more i k = record { answered = λ l j. k.answered l (λ e. j (i e)); asked' = k.asked' }
+    let out : (run b.state h).asked ≡ s.asked = ap (λ (z : State). z.asked) (sym i) in
+    subst P (sym e) (asks_own b h ev lost (elim served [ inl n ↦ inl (out ∙ n) | inr f ↦ inr f ]) k)
 
 -- ---- the painter
 
@@ -152,7 +114,7 @@ sent_holds R M0 M1 b scripts before old m t g qs side taken left false served (r
 pub sent_turn : (b : Begun) (s t : State) (h g : List Entry) (rs qs : List Reply) (sent' : Bool) → SenderTurn (Ok sent') b s t h g rs qs
     → (t1 : Option Event) × IsTurn b h actors.Terminal t1 × (g ≡ h ++ entry_of actors.Terminal t1) × (is_nobody (t1 ∷ []) ≡ not sent')
 sent_turn b s t h g rs qs true x = (Some x.event, x.turn, x.enters.entries, refl)
-sent_turn b s t h g rs qs false (r, idle) = (None, idle, r.entries ∙ sym (append_none h), refl)
+sent_turn b s t h g rs qs false (r, idle) = (None, idle, r.entries ∙ sym (append-nil h), refl)
 
 -- ---- the turns of the clients
 
@@ -174,7 +136,7 @@ from_clients all from (suc n) (Some e ∷ ts) l = (refl, one_of all from (omega 
 along_clients : (n : ℕ) (start : State) (P : List Entry → Type 0)
     → ((h : List Entry) (x : Entry) → is_terminal x.actor ≡ false → is_one_of n x.actor ≡ true → is_paint x.event ≡ false → P h → P (h ++ x ∷ []))
     → (h r : List Entry) → is_legal start (h ++ r) ≡ true → FromClients n r → P h → P (h ++ r)
-along_clients n start P one h [] l f k = subst P (sym (append_none h)) k
+along_clients n start P one h [] l f k = subst P (sym (append-nil h)) k
 along_clients n start P one h (x ∷ xs) l (a, c, d, f) k =
     let q = and_parts (is_legal start h) (is_legal (run start h) (x ∷ xs)) (sym (legal-append start h (x ∷ xs)) ∙ l) in
     let r = and_parts (is_ready (run start h) x.actor x.event) (is_legal (moved (run start h) x) xs) q.1 in
@@ -292,7 +254,7 @@ pub painted_turn : (b : Begun) (s t : State) (h g : List Entry) (rs qs : List Re
     → PainterActs (Ok painted) b h → PaintTurn (Ok painted) b s t h g rs qs size kept ps es end old written failed
     → (tp : Option Event) × IsTurn b h actors.Painter tp × (g ≡ h ++ entry_of actors.Painter tp) × (is_nobody (tp ∷ []) ≡ not painted)
 painted_turn b s t h g rs qs size kept ps es end old written failed true acts (x, more) = (Some events.Paint, acts, x.enters.entries, refl)
-painted_turn b s t h g rs qs size kept ps es end old written failed false acts (r, why, c) = (None, acts, r.entries ∙ sym (append_none h), refl)
+painted_turn b s t h g rs qs size kept ps es end old written failed false acts (r, why, c) = (None, acts, r.entries ∙ sym (append-nil h), refl)
 
 pub sent_paints : (b : Begun) (s t : State) (h g : List Entry) (rs qs : List Reply) (sent' : Bool) → SenderTurn (Ok sent') b s t h g rs qs → paints g ≡ paints h
 sent_paints b s t h g rs qs true x = paints_same h g (entry actors.Terminal x.event) x.enters.entries (no_client_ready s x.event x.ready)

@@ -1,5 +1,5 @@
 -- What was written behind one more Paint.
-use Rattle.std.proofs.Common.{◌≡◌, ℕ, ◌+◌, ◌≤◌, Bool, true, false, List, [], ◌∷◌, ◌++◌, length, take, Option}
+use Rattle.std.proofs.Common.{◌≡◌, ℕ, ◌+◌, ◌≤◌, Bool, true, false, List, [], ◌∷◌, ◌++◌, length, take, Option, append-nil}
 use Rattle.std.proofs.Common.{refl, sym, ap, ◌∙◌, subst, append_assoc, arith, length-append, zero-add, inl, inr}
 use Rattle.std.specs.Prelude.{if◌then◌else◌}
 use Rattle.std.proofs.Math.Seq.{take-length, take-append-add}
@@ -28,12 +28,8 @@ use Rattle.con_session.specs.Painting.{Written, PainterStands, CanvasIs, CanvasE
 use Rattle.con_session.specs.Runs.{Matched, joined, ends_from}
 use Rattle.con_session.specs.PaintingLaws.{painter_paint, none_each, readied}
 
-append_none : {A : Type 0} (xs : List A) → xs ++ [] ≡ xs
-append_none [] = refl
-append_none (x ∷ xs) = ap (λ ys. x ∷ ys) (append_none xs)
-
 pub joined_more : (ps : List (List ℕ)) (p : List ℕ) → joined (ps ++ p ∷ []) ≡ joined ps ++ p
-joined_more [] p = append_none p
+joined_more [] p = append-nil p
 joined_more (q ∷ qs) p = ap (λ (x : List ℕ). q ++ x) (joined_more qs p) ∙ sym (append_assoc q (joined qs) p)
 
 pub ends_more : (n : ℕ) (ps : List (List ℕ)) (p : List ℕ) → ends_from n (ps ++ p ∷ []) ≡ ends_from n ps ++ (n + length (joined ps) + length p) ∷ []

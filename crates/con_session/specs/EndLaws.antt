@@ -1,5 +1,5 @@
 -- What is left at the end of a session, in whatever order its turns went: who has left, the bytes of the terminal, and the frames of the link.
-use Rattle.std.proofs.Common.{◌≡◌, ◌⊎◌, ℕ, zero, suc, ◌+◌, ◌<◌, ◌≤◌, Bool, true, false, List, [], ◌∷◌, ◌++◌, length, map}
+use Rattle.std.proofs.Common.{◌≡◌, ◌⊎◌, ℕ, zero, suc, ◌+◌, ◌<◌, ◌≤◌, Bool, true, false, List, [], ◌∷◌, ◌++◌, length, map, append-nil}
 use Rattle.std.proofs.Common.{take, Option, Some, None, Err, refl, sym, ap, ◌∙◌, subst, inl, inr, arith, length-append}
 use Rattle.std.specs.Prelude.{flat_map, if◌then◌else◌}
 use Rattle.con_units.specs.declared.place.Size.{Size}
@@ -50,7 +50,6 @@ use Rattle.con_session.specs.declared.terminal.Side.{Side}
 use Rattle.con_session.specs.CanvasLaws.{painted_count, take_all}
 use Rattle.con_session.specs.LinkedLaws.{linked_going}
 use Rattle.con_session.specs.StreamLaws.{run_by_pieces}
-use Rattle.con_session.specs.RanLaws.{append_none}
 
 -- ---- who has left
 
@@ -171,7 +170,7 @@ pub sent_by_end : (R : LinkReading) (More : List R.One → List Entry → Type 0
 sent_by_end R More ends.Done h side failed before left taken k i e f =
     let c = no_cut k.cut failed (is_cut side.end) (λ x. (k.why x).1) f (ap is_cut i) in
     let w = k.whole c e in
-    (w.0, w.1, w.2, k.stands.all' ∙ (ap (λ (z : Bool). map sent_by (R.plains k.frames) ++ hung z) c ∙ append_none (map sent_by (R.plains k.frames))))
+    (w.0, w.1, w.2, k.stands.all' ∙ (ap (λ (z : Bool). map sent_by (R.plains k.frames) ++ hung z) c ∙ append-nil (map sent_by (R.plains k.frames))))
 sent_by_end R More ends.Link h side failed before left taken k i e f =
     let (g, c, j, a) = k.fault (ap is_cut i) in (
       sent_cut R k.frames (sent h) k.cut c (k.why c).0 k.stands.all',
@@ -252,7 +251,7 @@ leaves_whole_by R More Then session racks f scripts before old m k stands ended 
       follows = record {
         actors = k.numbered;
         clients = λ p l i. (each_number session racks f m.entries stands p l i).follows;
-        link = subst F (append_none (R.plains k.link.frames))
+        link = subst F (append-nil (R.plains k.link.frames))
             (k.link.stands.follows (is_cut end) (cut_at_end k.link.cut m.failed m.side.end (λ c. (k.link.why c).1)) []);
         answered = k.asks.answered (is_lost end) (lost_at_end m.failed m.side.end);
       };
@@ -303,7 +302,7 @@ leaves_stops_by R More session racks f before old left written h rs es legal ans
       follows = record {
         actors = numbered;
         clients = λ p l i. (each_number session racks f h stands p l i).follows;
-        link = subst F (append_none (R.plains link.frames)) (link.stands.follows true (λ c. refl) []);
+        link = subst F (append-nil (R.plains link.frames)) (link.stands.follows true (λ c. refl) []);
         answered = answered_lost false h;
       };
       built = joined ps;

@@ -30,6 +30,7 @@ pub mod DeskDoor
 pub mod DoorEntries
 -- the terminal's side and its link,
 pub mod SenderLaws
+pub mod AskLaws
 pub mod LinkedLaws
 pub mod LinkLaws
 -- the painter, its frames and the terminal,

@@ -1,5 +1,5 @@
 -- What was read of a link behind one more turn, in either way of reading it.
-use Rattle.std.proofs.Common.{◌≡◌, ◌⊎◌, ℕ, ◌+◌, ◌≤◌, Bool, true, false, List, [], ◌∷◌, ◌++◌, length}
+use Rattle.std.proofs.Common.{◌≡◌, ◌⊎◌, ℕ, ◌+◌, ◌≤◌, Bool, true, false, List, [], ◌∷◌, ◌++◌, length, append-nil}
 use Rattle.std.proofs.Common.{Option, Result, Ok, Err, refl, sym, ap, ◌∙◌, subst, inl, inr, length-append}
 use Rattle.std.specs.Prelude.{flat_map, not, ◌&&◌}
 use Rattle.std.specs.List.{list_all}
@@ -24,10 +24,6 @@ use Rattle.con_session.specs.Desk.{entry}
 use Rattle.con_session.specs.Sender.{SideStands, LinkBy, LinkEndsBy, IsLinkBy, LinkTurnBy, all_go_on, end_for}
 use Rattle.con_session.specs.SenderLaws.{side_frame, side_hung, side_other}
 use Rattle.con_session.specs.declared.terminal.Side.{Side}
-
-append_none : {A : Type 0} (xs : List A) → xs ++ [] ≡ xs
-append_none [] = refl
-append_none (x ∷ xs) = ap (λ ys. x ∷ ys) (append_none xs)
 
 open_side : (h : List Entry) (coming : List Frame) (cut ended : Bool)
     → cut ≡ false → ended ≡ false → SideStands h coming cut ended → SideStands h coming false false
@@ -115,7 +111,7 @@ all_more : {A : Type 0} (p : A → Bool) (fs : List A) (f : A) → list_all p fs
 all_more p fs f a b = list_all-append p fs (f ∷ []) ∙ (ap (λ (x : Bool). x && (p f && true)) a ∙ ap (λ (x : Bool). x && true) b)
 
 spelled_more : {A : Type 0} (spell : A → List ℕ) (fs : List A) (f : A) → flat_map spell (fs ++ f ∷ []) ≡ flat_map spell fs ++ spell f
-spelled_more spell fs f = flat_map-append spell fs (f ∷ []) ∙ ap (λ (x : List ℕ). flat_map spell fs ++ x) (append_none (spell f))
+spelled_more spell fs f = flat_map-append spell fs (f ∷ []) ∙ ap (λ (x : List ℕ). flat_map spell fs ++ x) (append-nil (spell f))
 
 -- a frame that was read
 pub linked_frame : (R : LinkReading) (More Then : List R.One → List Entry → Type 0) (h g : List Entry) (side : Side)
@@ -131,7 +127,7 @@ linked_frame R More Then h g side failed before old now taken later f ended n e 
     let Q : Bool → Type 0 = λ x. SideStands (h ++ entry actors.Terminal (sent_by (R.plain f)) ∷ []) (R.plains (k.frames ++ f ∷ [])) false x in
     let S : List Frame → Type 0 = λ fs. SideStands (h ++ entry actors.Terminal (sent_by (R.plain f)) ∷ []) fs false (ends_link (R.plain f)) in
     let spelt = flat_map R.spelling k.frames in
-    let was : before ≡ then_left spelt old = k.read ∙ ap (λ (x : List ℕ). then_left x old) (ap (λ (x : List ℕ). spelt ++ x) p.0 ∙ append_none spelt) in
+    let was : before ≡ then_left spelt old = k.read ∙ ap (λ (x : List ℕ). then_left x old) (ap (λ (x : List ℕ). spelt ++ x) p.0 ∙ append-nil spelt) in
     let now' : flat_map R.spelling (k.frames ++ f ∷ []) ≡ spelt ++ text = spelled_more R.spelling k.frames f ∙ ap (λ (x : List ℕ). spelt ++ x) (sym a.0) in
     record {
       frames = k.frames ++ f ∷ [];
@@ -142,7 +138,7 @@ linked_frame R More Then h g side failed before old now taken later f ended n e 
       frames' = all_more R.is_one k.frames f k.frames' a.1;
       open' = λ x. all_more (λ z. goes_on (R.plain z)) k.frames f (k.open' n) (ap not (sym d ∙ x));
       read = then_left-more spelt text before old now was l
-          ∙ ap (λ (x : List ℕ). then_left x now) (sym now' ∙ sym (append_none (flat_map R.spelling (k.frames ++ f ∷ []))));
+          ∙ ap (λ (x : List ℕ). then_left x now) (sym now' ∙ sym (append-nil (flat_map R.spelling (k.frames ++ f ∷ []))));
       place = λ x. (
         refl,
         c ∙ (ap (λ (y : ℕ). y + length text) p.1 ∙ (sym (length-append spelt text) ∙ ap length (sym now'))),
@@ -179,7 +175,7 @@ linked_fault R More Then h g side failed before old now taken later f end n e d 
     let p = k.place n in
     let P : List Entry → Type 0 = λ z. SideStands z (R.plains k.frames) true true in
     let spelt = flat_map R.spelling k.frames in
-    let was : before ≡ then_left spelt old = k.read ∙ ap (λ (x : List ℕ). then_left x old) (ap (λ (x : List ℕ). spelt ++ x) p.0 ∙ append_none spelt) in
+    let was : before ≡ then_left spelt old = k.read ∙ ap (λ (x : List ℕ). then_left x old) (ap (λ (x : List ℕ). spelt ++ x) p.0 ∙ append-nil spelt) in
     let Q : ℕ → Type 0 = λ x. R.answers (Err f) x text now in
     record {
       frames = k.frames;
@@ -234,7 +230,7 @@ pub linked_stops : (R : LinkReading) (More Then : List R.One → List Entry → 
 linked_stops R More Then h side failed before old now taken later r n (text, l, c, a) m k =
     let spelt = flat_map R.spelling k.frames in
     let was : before ≡ then_left spelt old =
-    k.read ∙ ap (λ (x : List ℕ). then_left x old) (ap (λ (x : List ℕ). spelt ++ x) (k.place n).0 ∙ append_none spelt) in
+    k.read ∙ ap (λ (x : List ℕ). then_left x old) (ap (λ (x : List ℕ). spelt ++ x) (k.place n).0 ∙ append-nil spelt) in
     let Q : ℕ → Type 0 = λ x. R.answers r x text now in
     record {
       frames = k.frames;

@@ -1,5 +1,5 @@
 -- The painter behind one more entry.
-use Rattle.std.proofs.Common.{◌≡◌, ℕ, ◌*◌, ◌<◌, ◌≤◌, Bool, true, false, List, [], ◌∷◌, ◌++◌, Option, Some, None, refl, sym, ap, ◌∙◌, subst}
+use Rattle.std.proofs.Common.{◌≡◌, ℕ, ◌*◌, ◌<◌, ◌≤◌, Bool, true, false, List, [], ◌∷◌, ◌++◌, Option, Some, None, refl, sym, ap, ◌∙◌, subst, append-nil}
 use Rattle.std.specs.Prelude.{◌||◌, is_none}
 use Rattle.con_units.specs.Glyph.{Glyph}
 use Rattle.con_units.specs.declared.place.Size.{Size}
@@ -55,10 +55,6 @@ step_stands b h g x size kept ps e k =
     let R : State → Type 0 = λ s. StandsOf (sights_of b.state h ++ sights_at (run b.state h) x.event) s size kept ps in
     subst P (sym e) (to_stands b (h ++ x ∷ []) size kept ps (subst Q (sym (sights-one b.state h x)) (subst R (sym (run-append b.state h (x ∷ []))) k)))
 
-append_none : {A : Type 0} (xs : List A) → xs ++ [] ≡ xs
-append_none [] = refl
-append_none (x ∷ xs) = ap (λ ys. x ∷ ys) (append_none xs)
-
 pub fresh_same : (s t : State) → t.resized ≡ s.resized → t.painted ≡ s.painted → is_fresh t ≡ is_fresh s
 fresh_same s t r p = ap (λ (b : Bool). b || is_none t.painted) r ∙ ap (λ (o : Option View). s.resized || is_none o) p
 
@@ -68,7 +64,7 @@ pub still : (ss : List Sight) (s t : State) (size : Size) (kept : Kept) (ps : Li
 still ss s t size kept ps r p w h k =
     let f = fresh_same s t r p in
     let Q : List Sight → Type 0 = λ x. StandsOf x t size kept ps in
-    subst Q (sym (append_none ss)) (record {
+    subst Q (sym (append-nil ss)) (record {
       matched = k.matched;
       each = k.each;
       reach = λ x i u l q. let d = k.reach x i u l q in record {

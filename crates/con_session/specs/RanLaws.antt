@@ -1,5 +1,5 @@
 -- Entries behind entries.
-use Rattle.std.proofs.Common.{◌≡◌, Bool, true, false, List, [], ◌∷◌, ◌++◌, refl, sym, ap, ◌∙◌, subst, append_assoc}
+use Rattle.std.proofs.Common.{◌≡◌, Bool, true, false, List, [], ◌∷◌, ◌++◌, refl, sym, ap, ◌∙◌, subst, append_assoc, append-nil}
 use Rattle.std.specs.Prelude.{not, ◌&&◌}
 use Rattle.std.specs.List.{list_all}
 use Rattle.std.proofs.lemmas.List.Folds.{list_all-append}
@@ -12,12 +12,8 @@ use Rattle.con_machine.specs.State.{State}
 use Rattle.con_machine.specs.Step.{step, is_ready}
 use Rattle.con_session.specs.Desk.{entry, is_painter, Ran}
 
-pub append_none : {A : Type 0} (xs : List A) → xs ++ [] ≡ xs
-append_none [] = refl
-append_none (x ∷ xs) = ap (λ ys. x ∷ ys) (append_none xs)
-
 pub ran_here : (s : State) (h : List Entry) → Ran s s h h
-ran_here s h = record { entries = []; after' = sym (append_none h); state = refl; legal = refl; others = refl }
+ran_here s h = record { entries = []; after' = sym (append-nil h); state = refl; legal = refl; others = refl }
 
 pub ran_same : (s t : State) (h g : List Entry) → t ≡ s → g ≡ h → Ran s t h g
 ran_same s t h g e i =

@@ -1,5 +1,5 @@
 -- The terminal's side behind one more entry.
-use Rattle.std.proofs.Common.{◌≡◌, ◌⊎◌, ℕ, Bool, true, false, List, [], ◌∷◌, ◌++◌, Option, Some, None, refl, sym, ap, ◌∙◌, subst, append_assoc, inl, inr, arith}
+use Rattle.std.proofs.Common.{◌≡◌, ◌⊎◌, ℕ, Bool, true, false, List, [], ◌∷◌, ◌++◌, Option, Some, None, refl, sym, ap, ◌∙◌, subst, append_assoc, inl, inr, arith, append-nil}
 use Rattle.std.specs.Prelude.{not, ◌&&◌, nat_le, ◌+◌, map}
 use Rattle.std.proofs.lemmas.Bool.Decides.{nat_tests}
 use Rattle.con_units.specs.declared.view.Frame.{Frame}
@@ -50,10 +50,6 @@ side_other h x coming cut ended n k =
 pub one_more : (coming : List Frame) (f : Frame) (more : List Frame) → (coming ++ f ∷ []) ++ more ≡ coming ++ f ∷ more
 one_more coming f more = append_assoc coming (f ∷ []) more
 
-append_none : {A : Type 0} (xs : List A) → xs ++ [] ≡ xs
-append_none [] = refl
-append_none (x ∷ xs) = ap (λ ys. x ∷ ys) (append_none xs)
-
 pub mapped_more : (coming : List Frame) (f : Frame) → map sent_by (coming ++ f ∷ []) ≡ map sent_by coming ++ sent_by f ∷ []
 mapped_more [] f = refl
 mapped_more (x ∷ xs) f = ap (λ (es : List Event). sent_by x ∷ es) (mapped_more xs f)
@@ -74,8 +70,8 @@ frame_follows es coming f k = record {
       ∙ (after-append sent_one begun es (sent_by f ∷ [])
       ∙ (ap (λ (s : Sender). sent_one s (sent_by f)) (k.after' refl (f ∷ more)) ∙ ap (λ (b : Bool). sender more b) n));
   ended' = has_ended-one false es (sent_by f);
-  all' = ap (λ (x : List Event). x ++ sent_by f ∷ []) (k.all' ∙ append_none (map sent_by coming))
-      ∙ (sym (mapped_more coming f) ∙ sym (append_none (map sent_by (coming ++ f ∷ []))));
+  all' = ap (λ (x : List Event). x ++ sent_by f ∷ []) (k.all' ∙ append-nil (map sent_by coming))
+      ∙ (sym (mapped_more coming f) ∙ sym (append-nil (map sent_by (coming ++ f ∷ []))));
 }
 
 pub side_frame : (h : List Entry) (coming : List Frame) (f : Frame) → SideStands h coming false false
@@ -96,7 +92,7 @@ hang_follows es coming k = record {
       (subst Q (sym (k.after' refl more)) (refl, inr (i refl, refl)));
   after' = λ n more. absurd (cc);
   ended' = has_ended-one false es events.Hangup;
-  all' = ap (λ (x : List Event). x ++ events.Hangup ∷ []) (k.all' ∙ append_none (map sent_by coming));
+  all' = ap (λ (x : List Event). x ++ events.Hangup ∷ []) (k.all' ∙ append-nil (map sent_by coming));
 }
 
 pub side_hung : (h : List Entry) (coming : List Frame) → SideStands h coming false false

@@ -20,7 +20,7 @@ use Rattle.con_session.specs.Solo.{Moment, begins, end_by}
 use Rattle.con_session.specs.declared.terminal.Side.{Side}
 use Rattle.con_threads.specs.Session.{IsBroken, IsDone}
 use Rattle.con_threads.proofs.Causes.{rose_later, rose_sooner}
-use Rattle.con_threads.proofs.SideLaws.{asks_lost}
+use Rattle.con_session.specs.AskLaws.{asks_lost}
 
 all_gone : (session : Clients) (racks : List (List ℕ)) (h : List Entry)
     → ((k : ℕ) → k < length session.scripts → (client_at (begins session racks None) h (k + 1)).stance ≡ Gone)

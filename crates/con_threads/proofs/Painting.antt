@@ -1,5 +1,6 @@
 -- What the painter has drawn behind entries of others, and behind a Paint.
-use Rattle.std.proofs.Common.{◌≡◌, ℕ, ◌+◌, arith, Bool, true, false, List, [], ◌∷◌, ◌++◌, length, Option, Some, None, Result, Ok, Err, refl, sym, ap, ◌∙◌, subst, inl, inr, append_assoc}
+use Rattle.std.proofs.Common.{◌≡◌, ℕ, ◌+◌, arith, Bool, true, false, List, [], ◌∷◌, ◌++◌, length, Option, Some, None, Result, Ok, Err, refl, sym, ap}
+use Rattle.std.proofs.Common.{◌∙◌, subst, inl, inr, append_assoc, append-nil}
 use Rattle.std.specs.Prelude.{not, if◌then◌else◌}
 use Rattle.std.specs.List.{list_all}
 use Rattle.std.specs.Result.{IsErr}
@@ -32,7 +33,6 @@ use Rattle.con_session.specs.DeskLaws.{run_one}
 use Rattle.con_session.specs.Painting.{CanvasIs, CanvasEnds, IsTied, PainterStands, Pictures}
 use Rattle.con_session.specs.PaintCounts.{no_paint}
 use Rattle.con_session.specs.PaintingLaws.{painter_other, none_each}
-use Rattle.con_session.specs.RanLaws.{append_none}
 use Rattle.con_session.specs.Runs.{EachPiece, Painted, joined}
 use Rattle.con_session.specs.TiedLaws.{no_painter, tied_ran, tied_paint}
 use Rattle.con_threads.specs.Painters.{Draws, DrawsLess, PainterTurn, PaintsTo}
@@ -54,7 +54,7 @@ tied_between start h r kept o l k =
 -- it stands
 pub stands_between : (b : Begun) (h r : List Entry) (size : Size) (kept : Kept) (ps : List (List ℕ)) → list_all (λ x. not (is_painter x.actor)) r ≡ true
     → is_legal (run b.state h) r ≡ true → PainterStands b h size kept ps → PainterStands b (h ++ r) size kept ps
-stands_between b h [] size kept ps o l k = let P : List Entry → Type 0 = λ z. PainterStands b z size kept ps in subst P (sym (append_none h)) k
+stands_between b h [] size kept ps o l k = let P : List Entry → Type 0 = λ z. PainterStands b z size kept ps in subst P (sym (append-nil h)) k
 stands_between b h (x ∷ xs) size kept ps o l k =
     let s = run b.state h in
     let p = and_parts (is_ready s x.actor x.event) (is_legal (moved s x) xs) l in

@@ -1,5 +1,6 @@
 -- The terminal's side behind what others entered, behind its own entry, and behind several turns.
-use Rattle.std.proofs.Common.{◌≡◌, ◌⊎◌, ℕ, ◌+◌, Bool, true, false, List, [], ◌∷◌, ◌++◌, length, Option, Some, None, Result, Ok, Err, refl, sym, ap, ◌∙◌, subst, append_assoc, inl, inr}
+use Rattle.std.proofs.Common.{◌≡◌, ℕ, ◌+◌, Bool, true, false, List, [], ◌∷◌, ◌++◌, length, Option, Some, None, Result, Ok, Err, refl, sym, ap, ◌∙◌}
+use Rattle.std.proofs.Common.{subst, append_assoc, inl, inr, append-nil}
 use Rattle.std.specs.Prelude.{not, is_some, IfSome}
 use Rattle.std.specs.Option.{IfNone}
 use Rattle.std.specs.List.{list_all}
@@ -14,18 +15,17 @@ use Rattle.con_events.specs.declared.end.End.{End}
 use Rattle.con_events.specs.declared.entry.Entry.{Entry}
 use Rattle.con_events.specs.declared.event.Event.{Event}
 use Rattle.con_events.specs.declared.event.Event.TheVariants as events
-use Rattle.con_machine.specs.Along.{after}
-use Rattle.con_machine.specs.Follows.{MayAct, asks, asks_by, sent_by}
+use Rattle.con_machine.specs.Follows.{asks_by, sent_by}
 use Rattle.con_machine.specs.History.{run, is_legal}
-use Rattle.con_machine.specs.HistoryLaws.{after-append, along-one, run-append}
+use Rattle.con_machine.specs.HistoryLaws.{run-append}
 use Rattle.con_laws.specs.PictureLaws.{step_moves}
 use Rattle.con_laws.specs.Rounds.{Begun}
 use Rattle.con_machine.specs.State.{State}
 use Rattle.con_machine.specs.Step.{is_due, is_ready}
 use Rattle.con_machine.specs.Turns.{is_terminal, moved}
 use Rattle.con_session.specs.Desk.{entry}
+use Rattle.con_session.specs.AskLaws.{asks_other, asks_own, asks_lost}
 use Rattle.con_session.specs.LinkLaws.{link_failed, link_fault, link_frame, link_hung, link_other, link_stays, link_stops}
-use Rattle.con_session.specs.RanLaws.{append_none}
 use Rattle.con_session.specs.Sender.{LinkEnds, LinkIs, end_for}
 use Rattle.con_session.specs.SenderLaws.{side_other}
 use Rattle.con_session.specs.Solo.{AsksStand}
@@ -48,7 +48,7 @@ not_terminal actors.Painter o = refl
 -- what stays behind one of them stays behind all
 pub along_others : (P : List Entry → Type 0) → ((h : List Entry) (x : Entry) → is_terminal x.actor ≡ false → P h → P (h ++ x ∷ [])) → (h r : List Entry)
     → are_others r ≡ true → P h → P (h ++ r)
-along_others P one h [] o k = subst P (sym (append_none h)) k
+along_others P one h [] o k = subst P (sym (append-nil h)) k
 along_others P one h (x ∷ xs) o k =
     let q = and_parts (not (is_same actors.Terminal x.actor)) (are_others xs) o in
     subst P (append_assoc h (x ∷ []) xs) (along_others P one (h ++ x ∷ []) xs q.1 (one h x (not_terminal x.actor q.0) k))
@@ -78,44 +78,8 @@ ends_on h r before now o k = along_others (λ z. LinkEnds z before now) (λ z x 
 
 -- ---- what is asked for
 
-asked_more : (b : Begun) (h : List Entry) (x : Entry) → after asks false h ≡ (run b.state h).asked
-    → after asks false (h ++ x ∷ []) ≡ (run b.state (h ++ x ∷ [])).asked
-asked_more b h x e =
-    after-append asks false h (x ∷ [])
-    ∙
-    (ap (λ (o : Bool). asks_by o x.event) e ∙ (sym (step_moves (run b.state h) x.actor x.event).asks ∙ ap (λ (z : State). z.asked) (sym (run-append b.state h (x ∷ [])))))
-
-may_other : (l out : Bool) (a : Actor) → is_terminal a ≡ false → MayAct l out a
-may_other l true (actors.Client p) n = tt
-may_other l true actors.Terminal n = absurd (cc)
-may_other l true actors.Painter n = tt
-may_other l false a n = tt
-
-may_terminal : (l out : Bool) → (out ≡ false) ⊎ (l ≡ true) → MayAct l out actors.Terminal
-may_terminal l true (inl e) = absurd (cc)
-may_terminal l true (inr e) = e
-may_terminal l false k = tt
-
-asks_more : (b : Begun) (h : List Entry) (x : Entry) (lost : Bool) → ((l : Bool) → (lost ≡ true → l ≡ true) → MayAct l (after asks false h) x.actor)
-    → AsksStand b h lost → AsksStand b (h ++ x ∷ []) lost
-asks_more b h x lost may k = record {
-  answered = λ l i. along-one (λ out y. MayAct l out y.actor) asks false h x (k.answered l i) (may l i);
-  asked' = asked_more b h x k.asked';
-}
-
 asks_on : (b : Begun) (h r : List Entry) (lost : Bool) → are_others r ≡ true → AsksStand b h lost → AsksStand b (h ++ r) lost
-asks_on b h r lost o k = along_others (λ z. AsksStand b z lost) (λ z x n i. asks_more b z x lost (λ l j. may_other l (after asks false z) x.actor n) i) h r o k
-
--- behind its own entry, if nothing was asked for, or a Paint may be missing
-asks_own : (b : Begun) (h : List Entry) (event : Event) (lost : Bool) → ((run b.state h).asked ≡ false) ⊎ (lost ≡ true) → AsksStand b h lost
-    → AsksStand b (h ++ entry actors.Terminal event ∷ []) lost
-asks_own b h event lost served k =
-    asks_more b h (entry actors.Terminal event) lost
-    (λ l i. may_terminal l (after asks false h) (elim served [ inl n ↦ inl (k.asked' ∙ n) | inr f ↦ inr (i f) ])) k
-
--- and where more may be missing
-pub asks_lost : (b : Begun) (h : List Entry) (lost more : Bool) → (lost ≡ true → more ≡ true) → AsksStand b h lost → AsksStand b h more
-asks_lost b h lost more i k = record { answered = λ l j. k.answered l (λ e. j (i e)); asked' = k.asked' }
+asks_on b h r lost o k = along_others (λ z. AsksStand b z lost) (λ z x n i. asks_other b z x lost n i) h r o k
 
 -- others ask for nothing
 no_ask : (s : State) (a : Actor) (e : Event) → is_ready s a e ≡ true → is_terminal a ≡ false → asks_by false e ≡ false
