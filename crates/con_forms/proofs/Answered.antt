@@ -31,7 +31,7 @@ use Rattle.con_machine.specs.LineCalls.{told_alias_in}
 use Rattle.con_machine.specs.ProcessCalls.{on_place}
 use Rattle.con_machine.specs.Reads.{began, collected, took_ctrl, answer_told, units_told}
 use Rattle.con_machine.specs.Step.{client_of, effect, finished, is_outside, step}
-use Rattle.con_machine.specs.declared.noted.Noted.{Noted}
+use Rattle.con_machine.specs.declared.reads.noted.Noted.{Noted}
 use Rattle.con_trace.specs.declared.form.Form.{Form}
 use Rattle.con_trace.specs.declared.form.Form.TheVariants as form
 use Rattle.con_trace.specs.Fits.{IsFlag}

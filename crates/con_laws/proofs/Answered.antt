@@ -41,7 +41,7 @@ use Rattle.con_machine.specs.Step.{step}
 use Rattle.con_laws.specs.Fates.{Begun, Begin, How, Served, Emptied, Interrupted, CutOff, Piece, pieces, done_for, last_begin, fated}
 use Rattle.con_laws.specs.Answers.{opens, console_before, by_how, read_after}
 use Rattle.con_laws.specs.Texts.{line_part, AnswersText, asked_for}
-use Rattle.con_machine.specs.declared.noted.Noted.{Noted}
+use Rattle.con_machine.specs.declared.reads.noted.Noted.{Noted}
 use Rattle.con_laws.proofs.FateLists.{log}
 use Rattle.con_laws.proofs.Conserved.{WholeReads}
 use Rattle.con_laws.proofs.Served.{UnitsPiece, TakesAll}

@@ -33,7 +33,7 @@ use Rattle.con_machine.specs.Outcome.{has_bit}
 use Rattle.con_machine.specs.Step.{step}
 use Rattle.con_laws.specs.Fates.{Begun, Begin, How, Served, Emptied, Interrupted, CutOff, Piece, pieces, last_begin}
 use Rattle.con_laws.specs.Answers.{opens, console_before, by_how, read_after, is_interruption, is_cut, was_interrupted, was_cut_off, is_aborted, is_closed}
-use Rattle.con_machine.specs.declared.noted.Noted.{Noted}
+use Rattle.con_machine.specs.declared.reads.noted.Noted.{Noted}
 use Rattle.con_laws.proofs.FateLists.{log}
 use Rattle.con_laws.proofs.Served.{UnitsPiece}
 use Rattle.con_laws.proofs.Mine.{Fits, Right, Becomes, done_rest}

@@ -45,7 +45,7 @@ use Rattle.con_machine.specs.Painting.{painted}
 use Rattle.con_machine.specs.Terminal.{fed, quiet, resized, is_break, records_of, key_taken, piece_taken, by_report}
 use Rattle.con_machine.specs.Step.{effect, step, is_outside, client_of, finished}
 use Rattle.con_machine.specs.History.{run}
-use Rattle.con_machine.specs.declared.noted.Noted.{Noted}
+use Rattle.con_machine.specs.declared.reads.noted.Noted.{Noted}
 use Rattle.con_machine.specs.CallLaws.{Parts, stands}
 use Rattle.con_machine.specs.EventLaws.{settled_shows}
 use Rattle.con_laws.specs.Fates.{reports_in, no_begins, pieces, Piece, Served, CutOff, Begins, by_read, taken_by, interrupted_by, interrupted, cut_off, hung_pieces, closing_pieces, signal_pieces, end_pieces, served_pieces, records_written, reports_written, call_arrivals, keys_arrivals, report_arrivals, bytes_arrivals, all_bytes_arrivals, fed_arrivals, size_arrivals, effect_arrivals, step_arrivals, arrived, flushed_pieces, call_pieces, key_pieces, keys_pieces, bytes_pieces, all_bytes_pieces, fed_pieces, effect_pieces, step_pieces, begins_after, pieces_from}

@@ -25,7 +25,7 @@ use Rattle.con_laws.specs.Fates.{Begin, Begins, begin_at, begin_or, begun_by, ef
 use Rattle.con_laws.specs.Answers.{opens, opens_text}
 use Rattle.con_laws.proofs.Served.{UnitsPiece, IsProper}
 use Rattle.con_laws.proofs.Woken.{NoteTold, told_of, behind_own, behind_other}
-use Rattle.con_machine.specs.declared.noted.Noted.{Noted}
+use Rattle.con_machine.specs.declared.reads.noted.Noted.{Noted}
 use Rattle.con_laws.proofs.Mine.{Apart}
 use Rattle.con_laws.proofs.Takes.{noted_at, held, Goes, goes_on, stays, is_begin, event_goes, ends_goes}
 

@@ -36,7 +36,7 @@ use Rattle.con_laws.proofs.Conserved.{WholeReads, conserved}
 use Rattle.con_laws.proofs.Served.{UnitsPiece, IsProper, TakesAll}
 use Rattle.con_laws.proofs.Mine.{Apart, own, Fits, Right, Mine, Becomes, Found, becomes_on, proper_after, done_rest, begun_mine, begun_open, beside_mine, found_mine, gone_mine}
 use Rattle.con_laws.proofs.Takes.{is_flush, Goes, Misses, ends_goes, collected_reads}
-use Rattle.con_machine.specs.declared.noted.Noted.{Noted}
+use Rattle.con_machine.specs.declared.reads.noted.Noted.{Noted}
 use Rattle.con_laws.proofs.Entries.{IsBegun, opens_note, after_begin, now_same, begin_of, EntryGoes, Cases, each_entry}
 
 -- ---- what is known of the open reads and of what was done for them

@@ -21,7 +21,7 @@ use Rattle.con_machine.specs.Reads.{collected, took_ctrl, left, answer_told, lin
 use Rattle.con_machine.specs.Painting.{painted}
 use Rattle.con_machine.specs.Terminal.{fed, quiet, resized}
 use Rattle.con_machine.specs.Step.{effect, finished}
-use Rattle.con_machine.specs.declared.noted.Noted.{Noted}
+use Rattle.con_machine.specs.declared.reads.noted.Noted.{Noted}
 use Rattle.std.proofs.Common.{not, filter, drop, ◌⊎◌, inl, inr}
 use Rattle.std.proofs.lemmas.Bool.{eq-eqb}
 use Rattle.std.proofs.lemmas.List.{take-append-drop}
@@ -39,7 +39,7 @@ use Rattle.con_laws.specs.Answers.{opens}
 use Rattle.con_laws.specs.Left.{LeavesRest, LeftBy, handle_of}
 use Rattle.con_screens.specs.Resize.{all_resized}
 use Rattle.con_machine.specs.EventLaws.{Core, call_walk, fed_walk, quiet_walk, hung_walk, size_core, finished_walk}
-use Rattle.con_machine.specs.declared.rest.Rest.{Rest}
+use Rattle.con_machine.specs.declared.reads.rest.Rest.{Rest}
 
 -- ---- lists of rests
 

@@ -21,7 +21,7 @@ use Rattle.con_machine.specs.State.{State, noted_of}
 use Rattle.con_machine.specs.EventLaws.{settled_shows}
 use Rattle.con_machine.specs.Serving.{followed, settled_from, settled_state, line_shown, line_finished, shows_line}
 use Rattle.con_laws.specs.Cut.{is_line_or_done, AreLines}
-use Rattle.con_machine.specs.declared.noted.Noted.{Noted}
+use Rattle.con_machine.specs.declared.reads.noted.Noted.{Noted}
 use Rattle.con_laws.proofs.Peeked.{none_left}
 
 -- ---- one read

@@ -34,8 +34,8 @@ use Rattle.con_laws.specs.Rested.{begins, begins_in, closes, closes_it}
 use Rattle.con_machine.specs.Step.{step, effect, finished, is_outside, client_of}
 use Rattle.con_machine.specs.Terminal.{fed, quiet, resized}
 use Rattle.con_machine.specs.Turns.{moved}
-use Rattle.con_machine.specs.declared.noted.Noted.{Noted}
-use Rattle.con_machine.specs.declared.rest.Rest.{Rest}
+use Rattle.con_machine.specs.declared.reads.noted.Noted.{Noted}
+use Rattle.con_machine.specs.declared.reads.rest.Rest.{Rest}
 use Rattle.con_laws.proofs.Lefts.{and_parts_of}
 
 -- ---- lists of rests

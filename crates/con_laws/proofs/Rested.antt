@@ -34,8 +34,8 @@ use Rattle.con_laws.specs.Rested.{takes, takes_in, at_once, ends, ends_in, close
 use Rattle.con_machine.specs.Step.{step, effect, finished, is_outside, client_of}
 use Rattle.con_machine.specs.Terminal.{fed, quiet, resized}
 use Rattle.con_machine.specs.Turns.{moved}
-use Rattle.con_machine.specs.declared.noted.Noted.{Noted}
-use Rattle.con_machine.specs.declared.rest.Rest.{Rest}
+use Rattle.con_machine.specs.declared.reads.noted.Noted.{Noted}
+use Rattle.con_machine.specs.declared.reads.rest.Rest.{Rest}
 use Rattle.con_laws.proofs.Lefts.{and_parts_of, begun_same, stay, go, found_own, whole_text}
 
 -- ---- tests

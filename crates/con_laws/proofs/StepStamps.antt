@@ -65,7 +65,7 @@ use Rattle.con_machine.specs.Signals.{signalled_to}
 use Rattle.con_machine.specs.Step.{step, effect, is_actors, is_outside, is_due, is_ready, client_of, finished}
 use Rattle.con_machine.specs.Terminal.{is_break, key_taken, records_of, mouse_records, by_report, piece_taken, fed, quiet, resized, size_told, size_record}
 use Rattle.con_laws.specs.Unstamped.{unstamped_page, unstamped_screen, unstamped_buffer, unstamped_buffers, unstamped, AreSame, ActAlike, RunAlike}
-use Rattle.con_machine.specs.declared.noted.Noted.{Noted}
+use Rattle.con_machine.specs.declared.reads.noted.Noted.{Noted}
 use Rattle.con_laws.proofs.BufferStamps.{buffer_same, told_on_same, screen_same, page_same, left_same, echoed_same, ended_same, unstamped_echo, all_resized_same}
 use Rattle.con_laws.proofs.CallStamps.{out, page_is, page_changed, released_same, states, if_answer, call_same, signals}
 

@@ -44,7 +44,7 @@ use Rattle.con_machine.specs.Reads.{collected, took_ctrl, left, answer_told}
 use Rattle.con_machine.specs.Painting.{painted}
 use Rattle.con_machine.specs.Terminal.{fed, quiet, resized, is_break, records_of, key_taken, piece_taken, by_report, sequence_taken, asked, drained}
 use Rattle.con_machine.specs.Step.{effect, finished}
-use Rattle.con_machine.specs.declared.noted.Noted.{Noted}
+use Rattle.con_machine.specs.declared.reads.noted.Noted.{Noted}
 use Rattle.con_machine.specs.CallLaws.{Parts, stands}
 use Rattle.con_machine.specs.EventLaws.{settled_shows}
 use Rattle.con_laws.specs.Fates.{Begin, Earlier, is_taker, read_of, How, Served, Emptied, Interrupted, CutOff, Taker, Begun, Flushed, Piece, Begins, by_read, taken_by, interrupted, interrupted_by, cut_off, hung_pieces, closing_pieces, signal_pieces, end_pieces, served_pieces, flushed_pieces, call_pieces, key_pieces, keys_pieces, bytes_pieces, all_bytes_pieces, fed_pieces, effect_pieces}

@@ -8,7 +8,7 @@ use Rattle.con_readers.specs.Act.{Act, began, typed, passed, ended, woke}
 use Rattle.con_readers.specs.Reads.{settled}
 use Rattle.con_machine.specs.State.{State, noted_of, without_noted}
 use Rattle.con_machine.specs.Serving.{settled_state, followed, started_on, line_shown, line_finished, shows_line, note_changed}
-use Rattle.con_machine.specs.declared.noted.Noted.{Noted}
+use Rattle.con_machine.specs.declared.reads.noted.Noted.{Noted}
 
 -- what a Collect looks at
 pub record NoteTold : Type 0 where

@@ -14,7 +14,7 @@ use Rattle.con_machine.specs.State.{State, noted_of, rest_in}
 use Rattle.con_machine.specs.History.{run}
 use Rattle.con_machine.specs.Step.{step, client_of}
 use Rattle.con_laws.specs.Answers.{opens}
-use Rattle.con_machine.specs.declared.noted.Noted.{Noted}
+use Rattle.con_machine.specs.declared.reads.noted.Noted.{Noted}
 
 -- A Collect of a line read of this handle answered the front of its text, and this followed.
 pub record LineLeaves (s : State) (p hd : ℕ) (reply : Reply) (rest : List ℕ) : Type 0 where

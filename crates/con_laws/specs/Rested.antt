@@ -19,7 +19,7 @@ use Rattle.con_machine.specs.History.{run}
 use Rattle.con_laws.specs.Left.{LineLeaves, handle_of}
 use Rattle.con_machine.specs.Step.{step, client_of}
 use Rattle.con_machine.specs.Turns.{moved}
-use Rattle.con_machine.specs.declared.noted.Noted.{Noted}
+use Rattle.con_machine.specs.declared.reads.noted.Noted.{Noted}
 
 -- ---- what reads take of it
 

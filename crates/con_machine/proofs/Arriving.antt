@@ -23,7 +23,7 @@ use Rattle.con_machine.specs.Serving.{followed, line_shown, line_finished, shows
 use Rattle.con_machine.specs.Signals.{signalled_to}
 use Rattle.con_machine.specs.Terminal.{is_break, key_taken, piece_taken, records_of, released_key}
 use Rattle.con_machine.specs.Feeding.{byte_taken, stored_count, told_report, report_taken_in}
-use Rattle.con_machine.specs.declared.noted.Noted.{Noted}
+use Rattle.con_machine.specs.declared.reads.noted.Noted.{Noted}
 use Rattle.con_machine.specs.FeedingLaws.{pieces_held}
 
 -- ---- modes stay

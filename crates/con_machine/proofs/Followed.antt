@@ -18,7 +18,7 @@ use Rattle.con_machine.specs.State.{State, noted_of}
 use Rattle.con_machine.specs.ScreenCalls.{page_of, with_page}
 use Rattle.con_machine.specs.Serving.{followed, line_shown, line_finished, shows_line, with_echo, note_changed, settled_state, settled_from}
 use Rattle.con_machine.specs.Pumping.{pumped_of, with_pumped, followed_by, stepped, IsTold}
-use Rattle.con_machine.specs.declared.noted.Noted.{Noted}
+use Rattle.con_machine.specs.declared.reads.noted.Noted.{Noted}
 
 -- the same console with other reads, records, histories and aliases
 abbrev pub other : State → List Open → List Record → LineHistories → List AliasList → State

@@ -20,7 +20,7 @@ use Rattle.con_machine.specs.Sound.{IsPaintedOf, IsPainted, side_of}
 use Rattle.con_machine.specs.State.{State}
 use Rattle.con_machine.specs.Marks.{seen_at, IsSameRow, AreMarks}
 use Rattle.con_machine.specs.Painting.{view_now, next_number, stamped}
-use Rattle.con_machine.specs.declared.seen.Seen.{Seen}
+use Rattle.con_machine.specs.declared.painting.seen.Seen.{Seen}
 
 looked : (xs : List (Option Buffer)) (k : ℕ) → get_or (map (option_map remembered) xs) k None ≡ option_map remembered (get_or xs k None)
 looked [] k = refl

@@ -12,7 +12,7 @@ use Rattle.con_screens.specs.Stamps.{Remembered, remembered, all_remembered}
 use Rattle.con_screens.specs.declared.buffer.Buffer.{Buffer}
 use Rattle.con_machine.specs.HandleCalls.{released}
 use Rattle.con_machine.specs.Sound.{IsPaintedOf, IsPainted, known_without}
-use Rattle.con_machine.specs.declared.seen.Seen.{Seen}
+use Rattle.con_machine.specs.declared.painting.seen.Seen.{Seen}
 
 -- another place of a list, after one was written
 there : (xs : List (Option Buffer)) (i k : ℕ) (o : Option Buffer) → k ≢ i → get_or (map (option_map remembered) (set xs i o)) k None ≡ get_or (map (option_map remembered) xs) k None

@@ -31,7 +31,7 @@ use Rattle.con_machine.specs.ScreenCalls.{written_to}
 use Rattle.con_machine.specs.Signals.{signalled_to}
 use Rattle.con_machine.specs.State.{State, noted_of, without_noted}
 use Rattle.con_machine.specs.Step.{effect}
-use Rattle.con_machine.specs.declared.noted.Noted.{Noted}
+use Rattle.con_machine.specs.declared.reads.noted.Noted.{Noted}
 
 abbrev Plain : Reply → Type 0
 Plain r = told r ≡ r

@@ -7,10 +7,10 @@ use Rattle.con_readers.specs.declared.answer.Answer.TheVariants as answers
 use Rattle.con_machine.specs.State.{State, rest_in}
 use Rattle.con_machine.specs.Outcome.{has_bit}
 use Rattle.con_machine.specs.Reads.{line_front, back_of, part_left, line_read, units_read}
-use Rattle.con_machine.specs.declared.noted.Noted.{Noted}
-use Rattle.con_machine.specs.declared.read_room.LineRoom.{LineRoom}
-use Rattle.con_machine.specs.declared.read_room.Beginning.{Beginning}
-use Rattle.con_machine.specs.declared.read_room.Beginning.TheVariants as beginnings
+use Rattle.con_machine.specs.declared.reads.noted.Noted.{Noted}
+use Rattle.con_machine.specs.declared.rooms.read_room.LineRoom.{LineRoom}
+use Rattle.con_machine.specs.declared.rooms.read_room.Beginning.{Beginning}
+use Rattle.con_machine.specs.declared.rooms.read_room.Beginning.TheVariants as beginnings
 
 -- the read is made, the program's history has room, what is left after the read is there, and room for what its line leaves is empty
 pub record IsLineRoom (room : LineRoom) (s : State) (p h n : ℕ) (initial : List ℕ) (mask : ℕ) : Type 0 where

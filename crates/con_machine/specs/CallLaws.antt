@@ -44,8 +44,8 @@ use Rattle.con_machine.specs.CellCalls.{at_place, run_answer}
 use Rattle.con_machine.specs.InputCalls.{peek_told}
 use Rattle.con_machine.specs.LineCalls.{info_numbers, pair_of, told_alias_in}
 use Rattle.con_machine.specs.Marks.{told}
-use Rattle.con_machine.specs.declared.noted.Noted.{Noted}
-use Rattle.con_machine.specs.declared.rest.Rest.{Rest}
+use Rattle.con_machine.specs.declared.reads.noted.Noted.{Noted}
+use Rattle.con_machine.specs.declared.reads.rest.Rest.{Rest}
 
 -- what the laws of events speak of
 pub record Parts : Type 0 where

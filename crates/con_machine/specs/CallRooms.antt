@@ -17,8 +17,8 @@ use Rattle.con_machine.specs.Outcome.{Outcome, guard}
 use Rattle.con_machine.specs.ProcessCalls.{listed_processes}
 use Rattle.con_machine.specs.Rooms.{IsRectRoom, IsSizeRoom}
 use Rattle.con_machine.specs.ScreenCalls.{told_mode, told_info, told_cursor, told_title}
-use Rattle.con_machine.specs.declared.call_room.CallRoom.{CallRoom}
-use Rattle.con_machine.specs.declared.call_room.CallRoom.TheVariants as rooms
+use Rattle.con_machine.specs.declared.rooms.call_room.CallRoom.{CallRoom}
+use Rattle.con_machine.specs.declared.rooms.call_room.CallRoom.TheVariants as rooms
 
 -- an answer was made ready
 abbrev pub is_answer : CallRoom → Bool

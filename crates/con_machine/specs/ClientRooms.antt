@@ -11,8 +11,8 @@ use Rattle.con_machine.specs.CallRooms.{IsCallRoom}
 use Rattle.con_machine.specs.Held.{Held}
 use Rattle.con_machine.specs.Reads.{read_answer, records_answer}
 use Rattle.con_machine.specs.State.{noted_of}
-use Rattle.con_machine.specs.declared.client_room.ClientRoom.{ClientRoom}
-use Rattle.con_machine.specs.declared.client_room.ClientRoom.TheVariants as rooms
+use Rattle.con_machine.specs.declared.rooms.client_room.ClientRoom.{ClientRoom}
+use Rattle.con_machine.specs.declared.rooms.client_room.ClientRoom.TheVariants as rooms
 
 -- that of a call
 abbrev pub IsRoomOfCall : Held → ℕ → Call → ClientRoom → Type 0

@@ -69,8 +69,8 @@ use Rattle.con_machine.specs.Sizes.{width_by, height_by}
 use Rattle.con_machine.specs.Added.{is_added, was_added, place_in_call}
 use Rattle.con_machine.specs.CallLaws.{Parts, parts, stands, released_is}
 use Rattle.con_machine.specs.ProcLaws.{ProcsGo, same_procs, then_procs, signalled_go, changed_go, placed_go, changed_same, signalled_same, removed_same}
-use Rattle.con_machine.specs.declared.noted.Noted.{Noted}
-use Rattle.con_machine.specs.declared.rest.Rest.{Rest}
+use Rattle.con_machine.specs.declared.reads.noted.Noted.{Noted}
+use Rattle.con_machine.specs.declared.reads.rest.Rest.{Rest}
 
 -- ---- reads that are all done
 

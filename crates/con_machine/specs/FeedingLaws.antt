@@ -16,7 +16,7 @@ use Rattle.con_machine.specs.Serving.{followed, line_shown, line_finished, shows
 use Rattle.con_machine.specs.Signals.{signalled_to}
 use Rattle.con_machine.specs.Terminal.{is_break, key_taken, by_report, sequence_taken, piece_taken, records_of, fed}
 use Rattle.con_machine.specs.Feeding.{byte_taken}
-use Rattle.con_machine.specs.declared.noted.Noted.{Noted}
+use Rattle.con_machine.specs.declared.reads.noted.Noted.{Noted}
 
 -- ---- the bytes that are held are looked at by nothing else
 

@@ -7,8 +7,8 @@ use Rattle.con_procs.specs.Procs.{is_attached}
 use Rattle.con_machine.specs.ClientRooms.{IsClientRoom}
 use Rattle.con_machine.specs.Held.{Held}
 use Rattle.con_machine.specs.TerminalRooms.{IsSideRoom}
-use Rattle.con_machine.specs.declared.room.Room.{Room}
-use Rattle.con_machine.specs.declared.room.Room.TheVariants as rooms
+use Rattle.con_machine.specs.declared.rooms.room.Room.{Room}
+use Rattle.con_machine.specs.declared.rooms.room.Room.TheVariants as rooms
 
 abbrev pub IsOfClient : Held → ℕ → Event → Room → Type 0
 IsOfClient c p e (rooms.Client r) = IsClientRoom c p e r

@@ -3,7 +3,7 @@ use Rattle.std.specs.Prelude.{ℕ, Option}
 use Rattle.con_alias.specs.Room.{Places}
 use Rattle.con_machine.specs.State.{State}
 use Rattle.con_machine.specs.Sound.{IsConsole}
-use Rattle.con_machine.specs.declared.seen.Seen.{Seen}
+use Rattle.con_machine.specs.declared.painting.seen.Seen.{Seen}
 use Rattle.con_machine.specs.declared.console.Console.TheInside.{Inside}
 
 -- how many more of each are promised to fit

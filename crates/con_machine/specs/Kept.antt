@@ -1,7 +1,7 @@
 -- What is noted and left, and for how much more there is room.
 use Rattle.std.specs.Prelude.{ℕ, List}
-use Rattle.con_machine.specs.declared.noted.Noted.{Noted}
-use Rattle.con_machine.specs.declared.rest.Rest.{Rest}
+use Rattle.con_machine.specs.declared.reads.noted.Noted.{Noted}
+use Rattle.con_machine.specs.declared.reads.rest.Rest.{Rest}
 
 pub record Noting : Type 0 where
   pub list : List Noted

@@ -10,8 +10,8 @@ use Rattle.con_screens.specs.Buffers.{Buffers, is_alternate}
 use Rattle.con_machine.specs.State.{State, id_of}
 use Rattle.con_machine.specs.ScreenCalls.{page_at}
 use Rattle.con_machine.specs.Painting.{view_now, is_fresh}
-use Rattle.con_machine.specs.declared.seen.Seen.{Seen}
-use Rattle.con_machine.specs.declared.paint_room.PaintRoom.{PaintRoom}
+use Rattle.con_machine.specs.declared.painting.seen.Seen.{Seen}
+use Rattle.con_machine.specs.declared.rooms.paint_room.PaintRoom.{PaintRoom}
 
 -- where the console's view is seen: the active buffer, which of its screens, and the window's place
 abbrev pub seen_at : Buffers → Seen

@@ -10,7 +10,7 @@ use Rattle.con_machine.specs.Held.{Held}
 use Rattle.con_machine.specs.Marks.{Tells}
 use Rattle.con_machine.specs.State.{State, opening}
 use Rattle.con_machine.specs.Step.{step, is_ready}
-use Rattle.con_machine.specs.declared.room.Room.{Room}
+use Rattle.con_machine.specs.declared.rooms.room.Room.{Room}
 
 -- no other number is an actor
 abbrev pub actor_of : ℕ → Option Actor

@@ -23,7 +23,7 @@ use Rattle.con_screens.specs.Buffers.{Buffers}
 use Rattle.con_machine.specs.State.{State, noted_of, without_noted, rest_in, with_rest, rest_begun, without_rests, id_of}
 use Rattle.con_machine.specs.Outcome.{Outcome, answered, by_answer, guard, guarded, has_bit}
 use Rattle.con_machine.specs.HandleCalls.{released}
-use Rattle.con_machine.specs.declared.noted.Noted.{Noted}
+use Rattle.con_machine.specs.declared.reads.noted.Noted.{Noted}
 
 -- ---- a read begins: ReadConsole, ReadConsoleInput
 

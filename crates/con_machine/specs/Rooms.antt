@@ -15,7 +15,7 @@ use Rattle.con_screens.specs.Buffers.{Buffers}
 use Rattle.con_machine.specs.State.{State}
 use Rattle.con_machine.specs.Outcome.{buffer_of}
 use Rattle.con_machine.specs.ScreenCalls.{page_at, is_size}
-use Rattle.con_machine.specs.declared.rect_room.RectRoom.{RectRoom}
+use Rattle.con_machine.specs.declared.rooms.rect_room.RectRoom.{RectRoom}
 
 -- the cells of units and words, and memory for four numbers
 abbrev pub IsRectRoom : Option RectRoom → List ℕ → Words → Type 0

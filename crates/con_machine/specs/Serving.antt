@@ -14,7 +14,7 @@ use Rattle.con_readers.specs.Lines.{line_text}
 use Rattle.con_readers.specs.Reads.{Settled, settled}
 use Rattle.con_machine.specs.State.{State, is_noted, noted_of, id_of}
 use Rattle.con_machine.specs.ScreenCalls.{page_at, page_of, with_screen, with_page}
-use Rattle.con_machine.specs.declared.noted.Noted.{Noted}
+use Rattle.con_machine.specs.declared.reads.noted.Noted.{Noted}
 
 -- the note of a process's read, if there is one, is changed
 abbrev pub note_changed : (Noted → Noted) → List Noted → ℕ → List Noted

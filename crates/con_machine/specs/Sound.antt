@@ -9,7 +9,7 @@ use Rattle.con_screen.specs.Alternate.{Sides}
 use Rattle.con_screens.specs.Buffers.{Buffers, AreBuffers, IsLive, handles_of}
 use Rattle.con_screens.specs.Stamps.{Remembered, WasShown, all_remembered}
 use Rattle.con_machine.specs.State.{State}
-use Rattle.con_machine.specs.declared.seen.Seen.{Seen}
+use Rattle.con_machine.specs.declared.painting.seen.Seen.{Seen}
 
 -- ---- handles of buffers
 

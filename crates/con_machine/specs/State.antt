@@ -18,8 +18,8 @@ use Rattle.con_history.specs.Histories.{LineHistories}
 use Rattle.con_alias.specs.Aliases.{AliasList}
 use Rattle.con_readers.specs.declared.open.Open.{Open}
 use Rattle.con_screens.specs.Buffers.{Buffers, first_buffers}
-use Rattle.con_machine.specs.declared.noted.Noted.{Noted}
-use Rattle.con_machine.specs.declared.rest.Rest.{Rest}
+use Rattle.con_machine.specs.declared.reads.noted.Noted.{Noted}
+use Rattle.con_machine.specs.declared.reads.rest.Rest.{Rest}
 
 pub record State : Type 0 where
   pub handles : List Handle

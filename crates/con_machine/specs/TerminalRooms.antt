@@ -7,8 +7,8 @@ use Rattle.con_screens.specs.Resize.{AreFits}
 use Rattle.con_units.specs.declared.place.Size.{Size}
 use Rattle.con_machine.specs.Held.{Held}
 use Rattle.con_machine.specs.Marks.{IsPaintRoom}
-use Rattle.con_machine.specs.declared.terminal_room.SideRoom.{SideRoom}
-use Rattle.con_machine.specs.declared.terminal_room.SideRoom.TheVariants as rooms
+use Rattle.con_machine.specs.declared.rooms.terminal_room.SideRoom.{SideRoom}
+use Rattle.con_machine.specs.declared.rooms.terminal_room.SideRoom.TheVariants as rooms
 
 -- room for the keys of a byte, and for the records of n bytes
 abbrev pub IsKeysRoom : Held → ℕ → SideRoom → Type 0

@@ -4,12 +4,26 @@ ghost use Rattle.con_procs.specs.Procs.{is_attached};
 ghost use Rattle.con_machine.specs.Call.{called};
 ghost use Rattle.con_machine.specs.CallRooms.{IsCallRoom};
 
-use crate::call_room::CallRoom;
+use crate::calls::room_calls::take_answer;
 use crate::console::Console;
-use crate::room_calls::take_answer;
+use crate::rooms::call_room::CallRoom;
 use con_events::{Call, Reply};
 use con_history::HistoryInfo;
 use con_units::Coord;
+
+pub(crate) mod cell_calls;
+pub(crate) mod cells;
+pub(crate) mod copies;
+pub(crate) mod counting;
+pub(crate) mod handle_calls;
+pub(crate) mod input_calls;
+pub(crate) mod line_calls;
+pub(crate) mod process_calls;
+pub(crate) mod room_calls;
+pub(crate) mod screen_calls;
+pub(crate) mod setters;
+pub(crate) mod sizing;
+pub(crate) mod writing;
 
 impl Console {
     /// A call of an attached client.

@@ -7,8 +7,8 @@ ghost use Rattle.con_machine.specs.ClientRooms.{IsRoomOfCall, HasPlaces, IsReadR
 ghost use Rattle.con_machine.specs.Reads.{began_read, began_read_input, began, collected};
 ghost use Rattle.con_machine.specs.Step.{is_clients, is_due, effect};
 
-use crate::client_room::ClientRoom;
 use crate::console::Console;
+use crate::rooms::client_room::ClientRoom;
 use con_events::{Call, Event, Reply, Wanted};
 use con_units::OutOfMemory;
 use std::mem;

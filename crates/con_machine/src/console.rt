@@ -6,9 +6,9 @@ ghost use Rattle.con_screens.specs.Buffers.{IsLive};
 ghost use Rattle.con_machine.specs.Outcome.{guard, object_or};
 ghost use Rattle.con_machine.specs.Sound.{HasLive};
 
-use crate::notes::Notes;
-use crate::rests::Rests;
-use crate::seen::Seen;
+use crate::painting::seen::Seen;
+use crate::reads::notes::Notes;
+use crate::reads::rests::Rests;
 use crate::title::Title;
 use con_alias::Aliases;
 use con_handles::{Handles, Kind, Object};

@@ -9,10 +9,10 @@ ghost use Rattle.con_machine.specs.Serving.{settled_state};
 ghost use Rattle.con_machine.specs.Step.{is_clients, is_due, effect, finished, step, is_ready};
 ghost use Rattle.con_machine.specs.TerminalRooms.{IsSideRoom};
 
-use crate::client_room::ClientRoom;
 use crate::console::Console;
-use crate::room::Room;
-use crate::terminal_room::SideRoom;
+use crate::rooms::client_room::ClientRoom;
+use crate::rooms::room::Room;
+use crate::rooms::terminal_room::SideRoom;
 use con_events::{Actor, Event, Reply};
 use con_units::{Code, OutOfMemory};
 

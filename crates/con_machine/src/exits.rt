@@ -9,9 +9,9 @@ ghost use Rattle.con_units.specs.declared.view.View.{View};
 ghost use Rattle.con_machine.specs.Reads.{left, released_all, took_ctrl};
 ghost use Rattle.con_machine.specs.Sound.{AreCounted, IsPainted};
 
+use crate::calls::counting;
 use crate::console::Console;
-use crate::counting;
-use crate::seen::{Seen, without};
+use crate::painting::seen::{Seen, without};
 use con_events::Reply;
 use con_handles::Handles;
 use con_screens::Screens;

@@ -7,74 +7,42 @@
 //! comes from the terminal's side, `Closing` and `Signals` how reads end early, and `Painting` what is painted and when.
 //! `Step` joins them: `step`, and `is_ready`, which says when an event may be entered; `History` runs a list of entries.
 //!
+//! In `src/`, `calls` has a client's calls, a file for each group, and what they do to buffers; `reads` a read from its beginning until it is
+//! collected; `painting` when a Paint is due and what it shows; `terminal` what comes from the terminal's side; `rooms` the memory that events take.
+//!
 //! Never promised: that a client that waits is ever answered, and which actor comes first.
 #![tactic(auto)]
 
-mod beginning;
-mod call_room;
 mod calls;
-mod cell_calls;
-mod cells;
-mod client_room;
 mod clients;
 mod closing;
-mod collecting;
 mod console;
-mod copies;
-mod counting;
-mod echoes;
 mod entering;
 mod exits;
-mod feeding;
-mod fronts;
-mod handle_calls;
-mod input_calls;
-mod line_calls;
 mod machine;
-mod noted;
-mod notes;
-mod paint_room;
 mod painting;
 mod play;
-mod pointing;
-mod preparing;
-mod process_calls;
-mod read_room;
+mod reads;
 mod ready;
-mod rect_room;
-mod rest;
-mod rests;
-mod room;
-mod room_calls;
-mod screen_calls;
-mod seen;
-mod serving;
-mod setters;
-mod showing;
+mod rooms;
 mod shown;
-mod sizing;
 mod starting;
 mod terminal;
-mod terminal_events;
-mod terminal_room;
 mod title;
-mod typing;
-mod unused;
 pub mod view_laws;
-mod writing;
 
-pub use call_room::CallRoom;
-pub use client_room::ClientRoom;
 pub use console::Console;
-pub use noted::Noted;
-pub use notes::Notes;
-pub use paint_room::PaintRoom;
-pub use read_room::{Beginning, LineRoom};
-pub use rect_room::RectRoom;
-pub use rest::Rest;
-pub use rests::Rests;
-pub use room::Room;
-pub use seen::Seen;
+pub use painting::seen::Seen;
+pub use reads::noted::Noted;
+pub use reads::notes::Notes;
+pub use reads::rest::Rest;
+pub use reads::rests::Rests;
+pub use rooms::call_room::CallRoom;
+pub use rooms::client_room::ClientRoom;
+pub use rooms::paint_room::PaintRoom;
+pub use rooms::read_room::{Beginning, LineRoom};
+pub use rooms::rect_room::RectRoom;
+pub use rooms::room::Room;
+pub use rooms::terminal_room::SideRoom;
 pub use shown::Shown;
-pub use terminal_room::SideRoom;
 pub use title::Title;

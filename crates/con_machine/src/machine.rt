@@ -3,7 +3,7 @@ ghost use Rattle.std.specs.Prelude.{◌≡◌};
 ghost use Rattle.con_machine.specs.Numbered.{actor_of};
 
 use crate::console::Console;
-use crate::room::Room;
+use crate::rooms::room::Room;
 use crate::shown::Shown;
 use con_book::Machine;
 use con_events::{Actor, Event, Reply};

@@ -5,10 +5,12 @@ ghost use Rattle.con_machine.specs.Painting.{view_now, is_paint_due, painted};
 ghost use Rattle.con_machine.specs.Marks.{seen_at, IsPaintRoom};
 
 use crate::console::Console;
-use crate::paint_room::PaintRoom;
-use crate::showing;
+use crate::rooms::paint_room::PaintRoom;
 use con_events::Reply;
 use con_units::{OutOfMemory, View};
+
+pub(crate) mod seen;
+pub(crate) mod showing;
 
 // Whether nothing was painted on a terminal of this size.
 fn is_fresh(resized: bool, painted: &Option<View>) -> bool

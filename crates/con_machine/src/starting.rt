@@ -5,8 +5,8 @@ ghost use Rattle.con_machine.specs.State.{opening, starts_of, first_handles, han
 ghost use Rattle.con_machine.specs.Opened.{AreBefore, opened_ones};
 
 use crate::console::Console;
-use crate::notes::Notes;
-use crate::rests::Rests;
+use crate::reads::notes::Notes;
+use crate::reads::rests::Rests;
 use crate::title::Title;
 use con_alias::Aliases;
 use con_events::{Script, Session};

@@ -8,12 +8,17 @@ ghost use Rattle.con_machine.specs.Outcome.{has_bit};
 ghost use Rattle.con_machine.specs.Sound.{AreCounted};
 ghost use Rattle.con_machine.specs.Terminal.{resized, asked, drained};
 
+use crate::calls::screen_calls::has_bit;
+use crate::calls::setters;
 use crate::console::Console;
-use crate::screen_calls::has_bit;
-use crate::setters;
 use con_records::Record;
 use con_screens::{AllFits, Screens};
 use con_units::{OutOfMemory, Size};
+
+pub(crate) mod feeding;
+pub(crate) mod pointing;
+pub(crate) mod terminal_events;
+pub(crate) mod typing;
 
 // The window gets another size in every buffer.
 fn resize_buffers(screens: &mut Screens, fits: AllFits)

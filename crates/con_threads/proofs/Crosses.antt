@@ -20,15 +20,15 @@ use Rattle.con_records.proofs.taken.Taken.TheSendSync as records_taken
 use Rattle.con_units.proofs.lists.Units.TheSendSync as units_units
 use Rattle.con_handles.proofs.handles.Handles.TheSendSync as handles_handles
 use Rattle.con_procs.proofs.procs.Procs.TheSendSync as procs_procs
-use Rattle.con_machine.proofs.notes.Notes.TheSendSync as machine_notes
-use Rattle.con_machine.proofs.rests.Rests.TheSendSync as machine_rests
+use Rattle.con_machine.proofs.reads.notes.Notes.TheSendSync as machine_notes
+use Rattle.con_machine.proofs.reads.rests.Rests.TheSendSync as machine_rests
 use Rattle.con_records.proofs.records.Records.TheSendSync as records_records
 use Rattle.con_history.proofs.histories.Histories.TheSendSync as history_histories
 use Rattle.con_alias.proofs.aliases.Aliases.TheSendSync as alias_aliases
 use Rattle.con_vtin.proofs.reader.KeyReader.TheSendSync as vtin_keyreader
 use Rattle.con_machine.proofs.title.Title.TheSendSync as machine_title
 use Rattle.con_units.proofs.view.View.TheSendSync as units_view
-use Rattle.con_machine.proofs.seen.Seen.TheSendSync as machine_seen
+use Rattle.con_machine.proofs.painting.seen.Seen.TheSendSync as machine_seen
 use Rattle.con_vtgram.specs.contracts.splitter.Splitter as splitter
 use Rattle.con_grid.specs.contracts.grid.Grid as grid
 use Rattle.con_screen.specs.contracts.page.Page as page
@@ -56,7 +56,7 @@ use Rattle.con_events.specs.contracts.event.Event as event
 use Rattle.con_events.specs.contracts.script.Step as step
 use Rattle.con_handlers.specs.contracts.chain.Chain as chain
 use Rattle.con_link.specs.contracts.reader.LinkReader as reader
-use Rattle.con_machine.specs.contracts.room.Room as room
+use Rattle.con_machine.specs.contracts.rooms.room.Room as room
 use Rattle.con_pipe.specs.contracts.put.PipeIn as put
 use Rattle.con_session.specs.contracts.desk.Brief as brief
 use Rattle.con_session.specs.contracts.hands.Hands as hands

@@ -16,7 +16,7 @@ use Rattle.con_machine.specs.Marks.{AreMarks}
 use Rattle.con_machine.specs.Numbered.{actor_of, ready_of, fits_of, blank_state}
 use Rattle.con_machine.specs.State.{State}
 use Rattle.con_machine.specs.Step.{step, is_ready}
-use Rattle.con_machine.specs.declared.room.Room.{Room}
+use Rattle.con_machine.specs.declared.rooms.room.Room.{Room}
 use Rattle.con_session.specs.Desk.{brief_of, entry, listed}
 use Rattle.con_session.specs.Painting.{Pictures}
 use Rattle.con_session.specs.declared.desk.Brief.{Brief}

@@ -2,7 +2,7 @@ use Rattle.std.proofs.Common.{◌≡◌, ℕ, true, Some, replicate, ap, subst, 
 use Rattle.con_units.specs.declared.view.View.{View}
 use Rattle.con_machine.specs.Held.{Held, state_of}
 use Rattle.con_machine.specs.Marks.{seen_at, IsPaintRoom}
-use Rattle.con_machine.specs.declared.paint_room.PaintRoom.{PaintRoom}
+use Rattle.con_machine.specs.declared.rooms.paint_room.PaintRoom.{PaintRoom}
 use Rattle.con_machine.specs.Painting.{view_now}
 use Rattle.con_machine.proofs.Knows.{marks_are, all_moved}
 use Rattle.con_machine.proofs.console.Console.paint_room.Goals as goal

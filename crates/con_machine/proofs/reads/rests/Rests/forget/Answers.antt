@@ -1,0 +1,11 @@
+use Rattle.std.proofs.Common.{List, rules, ap}
+use Rattle.std.specs.Prelude.{not}
+use Rattle.std.proofs.lemmas.Fn.{filter_same}
+use Rattle.con_machine.specs.State.{is_rest_of}
+use Rattle.con_machine.specs.declared.reads.rest.Rest.{Rest}
+use Rattle.con_machine.proofs.reads.rests.Rests.forget.Goals as goal
+
+pub returns : goal.returns
+returns c =
+    let left = filter_same _ (λ (r : Rest). not (is_rest_of c.args.process c.args.handle r)) _ (λ x b q e. (search rules, search rules)) _ _ c.retain.ensures.filtered in
+    rw (← c.self.view_is) (ap (λ (list : List Rest). record { list = list; spare = c.self.inside.spare }) left)
