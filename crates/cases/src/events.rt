@@ -156,9 +156,7 @@ fn run(
     match opened(alloc, &start)? {
         Some(console) => {
             let mut console = console;
-            let entered = enter_all(alloc, &mut console, wanted, came);
-            console.discard();
-            entered
+            enter_all(alloc, &mut console, wanted, came)
         }
         None => Err(head.wrong(Fault::Number)),
     }

@@ -33,6 +33,7 @@ use con_units::{Bytes, Frame, OutOfMemory};
 use std::alloc::Global;
 
 /// What is known behind entries: the console, each client, the terminal's side, and the partial terminal.
+#[derive(Drop)]
 pub struct Judge<'a> {
     pub console: Console,
     pub tracks: Vec<Track<'a>>,
@@ -239,17 +240,6 @@ impl<'a> Judge<'a> {
             side: Side::new(frames),
             watch,
         })
-    }
-
-    /// Lets the judge go, and its console.
-    pub fn discard(self) {
-        let Judge {
-            console,
-            tracks: _,
-            side: _,
-            watch: _,
-        } = self;
-        console.discard();
     }
 
     /// What one entry more is the first to break, or nothing, and then the judge stands behind it. `reply` is the one that was told.

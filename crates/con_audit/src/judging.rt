@@ -36,9 +36,7 @@ pub fn verdict_on(
         }) verdict) }
 {
     let mut judge = Judge::new(alloc, session, racks, frames, ends)?;
-    let verdict = judged(&mut judge, stream, entries, replies, ends);
-    judge.discard();
-    verdict
+    judged(&mut judge, stream, entries, replies, ends)
 }
 
 // The verdict of a judge that stands before the first entry.

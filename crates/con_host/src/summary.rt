@@ -45,14 +45,9 @@ fn queued(alloc: Global, session: &Session, entries: &[Entry]) -> Result<usize, 
     ensures { IfOk result (λ n. n ≡ records_left session.now entries.now) }
 {
     let mut console = Console::new(alloc, session, &[])?;
-    let played = console.play(entries);
-    let left = console.queued();
-    console.discard();
     // Its answers are those of the session, and are not looked at here; the console steps as the history says.
-    match played {
-        Ok(_) => Ok(left),
-        Err(OutOfMemory) => Err(OutOfMemory),
-    }
+    let _replies = console.play(entries)?;
+    Ok(console.queued())
 }
 
 // The lines of the counts.

@@ -23,7 +23,6 @@ use con_vtin::KeyReader;
 use std::marker::Model;
 
 /// The console: all that its clients, its terminal and its painter share.
-#[derive(Drop)]
 pub struct Console {
     pub(crate) handles: Handles,
     pub(crate) procs: Procs,
@@ -57,13 +56,35 @@ impl Model for Console {
     ghost invariant = { IsSound };
 }
 
-impl Console {
-    /// Lets the console go, with all of its memory. Who is done with a console calls it: what drops one itself has in its own
-    /// proof all that is dropped with it.
-    pub fn discard(self) {
-        drop(self);
+// By hand, so that what drops a console has this call in its proof, and not all that lies in one.
+impl Drop for Console {
+    fn drop(self) {
+        let Console {
+            handles: _,
+            procs: _,
+            readers: _,
+            notes: _,
+            rests: _,
+            records: _,
+            screens: _,
+            histories: _,
+            aliases: _,
+            keys: _,
+            buttons: _,
+            mode: _,
+            cursor_keys: _,
+            title: _,
+            drained: _,
+            closed: _,
+            painted: _,
+            resized: _,
+            asked: _,
+            seen: _,
+        } = self;
     }
+}
 
+impl Console {
     /// What a handle stands for, and whether the call may be.
     pub(crate) fn guard(&self, p: u8, h: u32, kind: Kind, right: u8) -> Result<Object, Code>
         ensures is { result ≡ guard self.now.state p h kind right }

@@ -14,8 +14,7 @@ use con_machine::{Console, Room};
 use con_units::{Marks, OutOfMemory, View};
 
 /// A console, and what was entered and answered so far. A Paint counts as answered by Done.
-///
-/// Whoever is done with one takes it apart, and calls `discard` of its console.
+#[derive(Drop)]
 pub struct Desk {
     pub console: Console,
     pub entries: Vec<Entry>,

@@ -134,11 +134,10 @@ pub(crate) fn left_by(stage: Stage, end: End) -> Outcome
         canvas,
     } = stage;
     let Desk {
-        console,
+        console: _,
         entries,
         replies,
     } = desk;
-    console.discard();
     Outcome {
         entries: Entries(entries),
         replies: Replies(replies),

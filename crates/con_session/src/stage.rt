@@ -22,6 +22,7 @@ use con_units::OutOfMemory;
 use std::alloc::Global;
 
 /// The console with its history, the terminal's side with the reader of its link, and the painter.
+#[derive(Drop)]
 pub struct Stage {
     pub desk: Desk,
     pub reader: LinkReader,

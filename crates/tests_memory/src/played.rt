@@ -116,11 +116,7 @@ fn answered(alloc: Global, console: &mut Console, trace: &Trace) -> Result<usize
 
 fn answered_on(alloc: Global, trace: &Trace) -> Result<usize, OutOfMemory> {
     match opened(alloc) {
-        Ok(mut console) => {
-            let count = answered(alloc, &mut console, trace);
-            console.discard();
-            count
-        }
+        Ok(mut console) => answered(alloc, &mut console, trace),
         Err(_) => Err(OutOfMemory),
     }
 }

@@ -5,7 +5,7 @@ use con_session::copied_call;
 use con_units::OutOfMemory;
 use std::sync::{Mutex, Wait};
 
-/// A console that is lent, and how many events were entered. A desk that owned it would have in its proof all that is dropped with one.
+/// A console that is lent, and how many events were entered.
 #[derive(Drop)]
 pub struct Desk<'a> {
     pub console: &'a mut Console,

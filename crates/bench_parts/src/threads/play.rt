@@ -49,11 +49,7 @@ fn played<R: Threads + Wait + Sync>(
     clients: &mut [Client<'_>],
 ) -> Option<u64> {
     match Console::new(alloc, session, &[]) {
-        Ok(mut console) => {
-            let events = entered(rt, &mut console, clients);
-            console.discard();
-            Some(events)
-        }
+        Ok(mut console) => Some(entered(rt, &mut console, clients)),
         Err(_) => None,
     }
 }

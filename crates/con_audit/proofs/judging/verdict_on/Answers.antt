@@ -15,5 +15,5 @@ returns c = λ link are.
       replies = c.args.replies.now;
       ends = c.args.ends.now;
     } in
-    audited_by g c.args.frames.now c.judged-verdict.result are
-    (c.judged-verdict.ensures g c.args.frames.now (record { stream' = refl; entries' = refl; replies = refl; ends' = refl }) (c.in_ok-judge.ensures g refl refl refl))
+    audited_by g c.args.frames.now c.judged.result are
+    (c.judged.ensures g c.args.frames.now (record { stream' = refl; entries' = refl; replies = refl; ends' = refl }) (c.in_ok-judge.ensures g refl refl refl))
