@@ -20,7 +20,7 @@
 //! the mirror attends to the frame ([`attend`]); [`follow`] writes the part of a Paint's view to the second terminal. It leaves a [`Mirrored`].
 //!
 //! A session that goes another way than by rounds begins by [`begun`], too, and finds the parts of a turn here: [`draw`] with
-//! [`frame_length`] and [`end_after`], [`event_for`] with [`ends_the_link`] and [`end_by_fault`], [`brief_for`] with [`is_granted`] and [`must_leave`].
+//! [`frame_length`] and [`end_after`], [`event_for`] with [`ends_the_link`] and [`end_by_fault`], [`end_by`], [`brief_for`] with [`is_granted`] and [`must_leave`].
 //! The laws of these turns stand beside their words.
 //!
 //! Where there is no memory a turn entered nothing, or one event that it may, and says so.
@@ -49,7 +49,7 @@ pub use mirrored::{Mirrored, run_mirrored};
 pub use painting::{Canvas, draw, end_after, frame_length, painted, painter_turn};
 pub use seat::{Seat, client_turn, clients_turn};
 pub use second::{Second, attend, follow, followed, mirrored_turn};
-pub use solo::{Outcome, nothing_left, run_solo};
+pub use solo::{Outcome, end_by, nothing_left, run_solo};
 pub use stage::{Stage, begun};
 pub use step::{begin, call_add, call_plain, call_remove, next_step};
 pub use terminal::{Side, end_by_fault, ends_the_link, event_for, heard, terminal_turn};

@@ -15,7 +15,7 @@ ghost use Rattle.con_session.specs.Worker.{told_kind};
 use crate::painting::painted;
 use crate::seat::{Seat, clients_turn};
 use crate::second::{Second, followed, mirrored_turn};
-use crate::solo::{Outcome, any_of, end_of, left_by, nothing_left};
+use crate::solo::{Outcome, any_of, end_by, left_by, nothing_left};
 use crate::stage::{Stage, begun};
 use con_events::{End, PieceEnds, Script, Session};
 use con_handlers::CtrlHandler;
@@ -198,7 +198,7 @@ pub fn run_mirrored<I: Source, O: Sink, N: Sink>(
         second,
     ) {
         Ok(()) => {
-            let end = end_of(&stage);
+            let end = end_by(stage.canvas.failed, stage.side.end);
             left_with(left_by(stage, end), beside)
         }
         Err(OutOfMemory) => left_with(left_by(stage, End::Memory), beside),

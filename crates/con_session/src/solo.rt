@@ -109,15 +109,11 @@ fn rounds<I: Source, O: Sink>(
     Ok(())
 }
 
-// Why a session ended in which nobody has anything left to do.
-pub(crate) fn end_of(stage: &Stage) -> End
-    ensures { result ≡ end_by stage.now.canvas.failed stage.now.side.end }
+/// Why a session ended in which nobody has anything left to do: the terminal failed, or by the end that its side has.
+pub fn end_by(failed: bool, end: End) -> End
+    ensures { result ≡ end_by failed end }
 {
-    if stage.canvas.failed {
-        End::Term
-    } else {
-        stage.side.end
-    }
+    if failed { End::Term } else { end }
 }
 
 // What a stage leaves behind.
@@ -189,7 +185,7 @@ pub fn run_solo<I: Source, O: Sink>(
         term,
     ) {
         Ok(()) => {
-            let end = end_of(&stage);
+            let end = end_by(stage.canvas.failed, stage.side.end);
             left_by(stage, end)
         }
         Err(OutOfMemory) => left_by(stage, End::Memory),

@@ -4,7 +4,7 @@ ghost use Rattle.con_outside.specs.Outside.{Rose};
 ghost use Rattle.con_events.specs.Session.{Clients};
 ghost use Rattle.con_machine.specs.Follows.{session_start};
 ghost use Rattle.con_session.specs.Outcome.{Leaves};
-ghost use Rattle.con_session.specs.Solo.{begins, end_by};
+ghost use Rattle.con_session.specs.Solo.{begins};
 ghost use Rattle.con_book.specs.Lock.{joined};
 ghost use Rattle.con_book.specs.Passes.{book_id, pass_id, view_of};
 ghost use Rattle.con_book.specs.Turn.{OwnIsMine};
@@ -28,7 +28,7 @@ use con_book::{Book, Pass};
 use con_events::{End, Entries, PieceEnds, Replies};
 use con_outside::Sink;
 use con_pipe::meet;
-use con_session::Outcome;
+use con_session::{Outcome, end_by};
 use con_units::OutOfMemory;
 use std::alloc::Global;
 use std::sync::Wait;
@@ -66,13 +66,6 @@ fn is_astray(hung: bool, failed: bool) -> bool
     ensures { result ≡ false → hung ≡ true → failed ≡ true }
 {
     hung && !failed
-}
-
-// Why a session ended in which nobody has anything left to do.
-fn end_for(failed: bool, end: End) -> End
-    ensures { result ≡ end_by failed end }
-{
-    if failed { End::Term } else { end }
 }
 
 // What a closed book leaves, with the ends of the frames.
@@ -145,7 +138,7 @@ pub fn finished<R: Wait, O: Sink>(
         return left(book, opening, painter, End::Memory);
     }
     match painter.finish(rt, alloc, &book, term, writer.failed) {
-        Ok(failed) => left(book, opening, painter, end_for(failed, side.end)),
+        Ok(failed) => left(book, opening, painter, end_by(failed, side.end)),
         Err(OutOfMemory) => left(book, opening, painter, End::Memory),
     }
 }

@@ -39,7 +39,7 @@ returns-in-Ok-mirror_rounds-clause-outcome g c = mirror_whole _ _ _ _ _ _ _ _ _ 
     c.as_mut_slice.ensures.value c.scripts.ensures.value (open_second _ _ _ _ _ _ _ (ap (λ (z : Side). z.ended) c.in-Ok.ensures.side.0)
     c.none_attached-beside.ensures.mirror c.none_attached-beside.ensures.ends c.none_attached-beside.ensures.failed) f)))
     c.left_with-in-Ok-mirror_rounds.ensures.outcome c.left_by.ensures.entries c.left_by.ensures.replies c.left_by.ensures.ends
-    c.left_by.ensures.end c.end_of-end.ensures
+    c.left_by.ensures.end c.end_by-end.ensures
     (λ b s h. all_follow _ _ _ _ _ c.mirror_rounds.new.seats
     (count_of _ _ _ _ _ c.scripts.ensures.value c.in-Ok.ensures.count c.as_mut_slice.ensures.value c.mirror_rounds.auto.seats) b s h)
     c.left_with-in-Ok-mirror_rounds.ensures.ends c.left_with-in-Ok-mirror_rounds.ensures.failed
@@ -52,7 +52,7 @@ returns-in-Ok-mirror_rounds-clause-term g c = term_by mirrored _ _ _ _ _ _ _ _ _
     c.as_mut_slice.ensures.value c.scripts.ensures.value (open_second _ _ _ _ _ _ _ (ap (λ (z : Side). z.ended) c.in-Ok.ensures.side.0)
     c.none_attached-beside.ensures.mirror c.none_attached-beside.ensures.ends c.none_attached-beside.ensures.failed) f)))
     c.in-Ok.ensures.canvas.2 c.in-Ok-mirror_rounds.ensures.term
-    (ap (λ (o : Outcome). o.end) c.left_with-in-Ok-mirror_rounds.ensures.outcome ∙ c.left_by.ensures.end) c.end_of-end.ensures
+    (ap (λ (o : Outcome). o.end) c.left_with-in-Ok-mirror_rounds.ensures.outcome ∙ c.left_by.ensures.end) c.end_by-end.ensures
 
 pub returns-in-Ok-mirror_rounds-clause-second : goal.returns-in-Ok-mirror_rounds-clause-second
 returns-in-Ok-mirror_rounds-clause-second g c =
@@ -81,7 +81,7 @@ returns-in_default-clause-second g c = none_failed _ _ _ c.left_with.ensures.fai
 
 pub returns-in-Ok-mirror_rounds-clause-link : goal.returns-in-Ok-mirror_rounds-clause-link
 returns-in-Ok-mirror_rounds-clause-link g c = link_cause _ _ _ _ _ _ (ap (λ (z : Side). z.end) c.in-Ok.ensures.side.0) c.in-Ok-mirror_rounds.ensures.link
-    (ap (λ (o : Outcome). o.end) c.left_with-in-Ok-mirror_rounds.ensures.outcome ∙ c.left_by.ensures.end) c.end_of-end.ensures
+    (ap (λ (o : Outcome). o.end) c.left_with-in-Ok-mirror_rounds.ensures.outcome ∙ c.left_by.ensures.end) c.end_by-end.ensures
 
 pub returns-clause-link : goal.returns-clause-link
 returns-clause-link g c = no_link _ _ (ap (λ (o : Outcome). o.end) c.left_with-in-Err.ensures.outcome ∙ c.left_by-in-Err.ensures.end)

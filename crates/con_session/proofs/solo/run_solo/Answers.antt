@@ -21,7 +21,7 @@ returns-in-Ok-rounds-clause-outcome g c = handed_whole plainly NoMore NoMore _ _
     (c.in-Ok-rounds.ensures.turn (begins c.args.session.now _ None) _ _ (λ f k. goes_open plainly NoMore _ _ _ _ c.args.session.now _ _ _ _
     c.in-Ok.seats.items c.as_mut_slice.result.now _ _ _ _ _ _ _ _ _ _ c.in-Ok.ensures.state (sizes_same _ _ c.args.racks.items) c.in-Ok.ensures.entries
     c.in-Ok.ensures.side c.in-Ok.ensures.canvas c.in-Ok.ensures.fresh c.as_mut_slice.ensures.value c.scripts.ensures.value tt f))
-    c.left_by.ensures.entries c.left_by.ensures.replies c.left_by.ensures.ends c.left_by.ensures.end c.end_of-end.ensures
+    c.left_by.ensures.entries c.left_by.ensures.replies c.left_by.ensures.ends c.left_by.ensures.end c.end_by-end.ensures
     (λ b s h. all_follow _ _ _ _ _ c.rounds.new.seats
     (count_of _ _ _ _ _ c.scripts.ensures.value c.in-Ok.ensures.count c.as_mut_slice.ensures.value c.rounds.auto.seats) b s h) (λ fs m. tt)
 
@@ -30,7 +30,7 @@ returns-in-Ok-rounds-clause-term g c = term_by plainly NoMore _ _ _ _ _ _ _ _ _ 
     (c.in-Ok-rounds.ensures.turn (begins c.args.session.now _ None) _ _ (λ f k. goes_open plainly NoMore _ _ _ _ c.args.session.now _ _ _ _
     c.in-Ok.seats.items c.as_mut_slice.result.now _ _ _ _ _ _ _ _ _ _ c.in-Ok.ensures.state (sizes_same _ _ c.args.racks.items) c.in-Ok.ensures.entries
     c.in-Ok.ensures.side c.in-Ok.ensures.canvas c.in-Ok.ensures.fresh c.as_mut_slice.ensures.value c.scripts.ensures.value tt f))
-    c.in-Ok.ensures.canvas.2 c.in-Ok-rounds.ensures.term c.left_by.ensures.end c.end_of-end.ensures
+    c.in-Ok.ensures.canvas.2 c.in-Ok-rounds.ensures.term c.left_by.ensures.end c.end_by-end.ensures
 
 pub returns-clause-outcome : goal.returns-clause-outcome
 returns-clause-outcome g c = handed_stops plainly NoMore _ _ _ _ _ _ _ _ _ _ _ _ _ _

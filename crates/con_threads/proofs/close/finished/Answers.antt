@@ -110,7 +110,7 @@ returns-in-Ok-clause-outcome g c = λ session racks before left old e n edges cr
     (gathered _ _ _ opener _ _ _ _ _ back last c.finish.new.self took c.finish.ensures.same c.finish.ensures.is.is_scribe covers) in
     leaves_ok _ _ _ opener _ _ _ _ _ back last c.finish.new.self took c.finish.ensures.same c.finish.ensures.is.is_scribe covers
     session racks before left old _ _ e n edges crew pieces refl refl refl refl _ _ history _ _ c.in-Ok.failed
-    c.left-in-Ok.ensures.ends (c.left-in-Ok.ensures.end ∙ c.end_for.ensures) c.in-Ok.ensures.finished w.3 w.4 w.2 w.1
+    c.left-in-Ok.ensures.ends (c.left-in-Ok.ensures.end ∙ c.end_by.ensures) c.in-Ok.ensures.finished w.3 w.4 w.2 w.1
     (λ h. c.in-Ok.ensures.stays (c.is_astray.ensures (search rules) h)) (c.gather_all-gone.ensures.gone w.0) c.in-Ok.ensures.idle
 
 pub returns-clause-outcome : goal.returns-clause-outcome
