@@ -5,7 +5,6 @@ pub mod Agrees
 pub mod Watching
 -- What an audit asks, its verdict, and what a yes says; what one entry more must keep.
 pub mod Audit
-pub mod Runs
 pub mod Headline
 pub mod OneMore
 -- The code's own words.

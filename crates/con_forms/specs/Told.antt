@@ -14,18 +14,16 @@ has_end event.Paint (n ∷ ns) = true
 has_end other ns = true
 
 abbrev pub told : List Entry → List Reply → List ℕ → List Said
-told [] rs ns = []
-told (e ∷ es) [] ns = []
 told (e ∷ es) (r ∷ rs) ns =
     if has_end e.event ns
     then (let s : Said = record { entry = e; reply = r; end = end_of e.event ns } in s) ∷ told es rs (ends_behind e.event ns)
     else []
+told _ _ ns = []
 
 -- each picture has a length
 abbrev pub is_told : List Entry → List Reply → List ℕ → Bool
-is_told [] rs ns = true
-is_told (e ∷ es) [] ns = true
 is_told (e ∷ es) (r ∷ rs) ns = has_end e.event ns && is_told es rs (ends_behind e.event ns)
+is_told _ _ ns = true
 
 -- the history of these lines
 abbrev pub history_told : List Said → List ℕ → History

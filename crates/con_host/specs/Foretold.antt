@@ -28,9 +28,7 @@ abbrev pub ForetellsBy : (R : LinkReading) → List ℕ → End → Type 0
 ForetellsBy R link ends.Done = (last : R.One) × (ends_link (R.plain last) ≡ true) × StandsBy R link (Ok last)
 ForetellsBy R link (ends.Bad place kind) = StandsBy R link (Err (faults.Bad place kind))
 ForetellsBy R link ends.TooLong = StandsBy R link (Err faults.TooLong)
-ForetellsBy R link ends.Term = ⊥
-ForetellsBy R link ends.Link = ⊥
-ForetellsBy R link ends.Memory = ⊥
+ForetellsBy R link _ = ⊥
 
 -- some frame is missing at some place
 abbrev pub HasNoFrameBy : (R : LinkReading) → List ℕ → Type 0

@@ -1,5 +1,5 @@
 -- What is found of the bytes of four files.
-use Rattle.std.specs.Prelude.{◌≡◌, ◌≢◌, ℕ, List, [], ◌∷◌, length, replicate, codes, Option, Some, Ok}
+use Rattle.std.specs.Prelude.{◌≡◌, ◌≢◌, ℕ, List, [], ◌∷◌, length, replicate, codes}
 use Rattle.con_events.specs.Session.{Clients}
 use Rattle.con_script.specs.Document.{document}
 use Rattle.con_trace.specs.Audit.{Found, a_run, no_run}
@@ -61,9 +61,8 @@ status_by verdicts.Yes = 0
 status_by (verdicts.No place w) = 13
 
 abbrev pub status_found : Finding → ℕ
-status_found (findings.WrongLine n) = 13
-status_found (findings.OtherStatus count) = 13
 status_found (findings.Audited v) = status_by v
+status_found _ = 13
 
 -- where the report of the audit failed
 abbrev pub lost_by : Verdict → ℕ
@@ -71,6 +70,5 @@ lost_by verdicts.Yes = 6
 lost_by (verdicts.No place w) = 13
 
 abbrev pub status_lost : Finding → ℕ
-status_lost (findings.WrongLine n) = 13
-status_lost (findings.OtherStatus count) = 13
 status_lost (findings.Audited v) = lost_by v
+status_lost _ = 13

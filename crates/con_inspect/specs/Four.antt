@@ -40,9 +40,7 @@ AreThere files (name ∷ names) = IsThere files name × AreThere files names
 abbrev pub Lacks : Option (List ℕ → Option (List ℕ)) → Type 0 → Reason → List ℕ → Type 0
 Lacks files failed missing name = Holds files name failed missing
 Lacks files failed unread name = Holds files name failed unread
-Lacks files failed too_long name = ⊥
-Lacks files failed (no_json bytes) name = ⊥
-Lacks files failed (no_session bytes w) name = ⊥
+Lacks files failed _ name = ⊥
 
 -- this is so of one of these files, and those before it are there
 abbrev pub LacksFirst : Option (List ℕ → Option (List ℕ)) → Type 0 → Reason → List (List ℕ) → Type 0

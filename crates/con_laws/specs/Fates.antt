@@ -278,8 +278,7 @@ last_begin s h p = begins_from no_begins 0 s h p
 -- it waits for records
 abbrev pub wants_records : Wanted → Bool
 wants_records (wanted.ReadInput h n) = true
-wants_records (wanted.Read h n) = false
-wants_records (wanted.ReadWith h n initial mask) = false
+wants_records _ = false
 
 -- ---- fates
 
@@ -294,14 +293,9 @@ fate s h k = fate_in (pieces s h) k
 
 abbrev pub is_taker : Taker → Taker → Bool
 is_taker (Begun a) (Begun b) = b == a
-is_taker (Begun a) (Flushed b) = false
-is_taker (Begun a) (Earlier b) = false
-is_taker (Flushed a) (Begun b) = false
 is_taker (Flushed a) (Flushed b) = b == a
-is_taker (Flushed a) (Earlier b) = false
-is_taker (Earlier a) (Begun b) = false
-is_taker (Earlier a) (Flushed b) = false
 is_taker (Earlier a) (Earlier b) = b == a
+is_taker _ _ = false
 
 abbrev pub is_fate : Taker → Option Taker → Bool
 is_fate t None = false

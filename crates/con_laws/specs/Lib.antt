@@ -10,6 +10,8 @@ pub mod Texts
 pub mod Left
 pub mod Once
 pub mod Rested
+-- What a terminal shows that plays a stream, picture by picture.
+pub mod TerminalRuns
 -- However bytes are cut, and what leaves the console as it is.
 pub mod Cut
 pub mod Settled

@@ -25,15 +25,12 @@ use Rattle.con_machine.specs.declared.reads.noted.Noted.{Noted}
 
 abbrev pub units_in : Answer → List ℕ
 units_in (answers.Units units) = units
-units_in (answers.Records records) = []
-units_in (answers.Fail why) = []
+units_in _ = []
 
 -- what a read that begins so answers at once
 abbrev pub at_once : OpenRead → List ℕ
 at_once (reads.Done a) = units_in a
-at_once (reads.Line line) = []
-at_once (reads.Units n) = []
-at_once (reads.Records n) = []
+at_once _ = []
 
 -- of what was left for handle hd of client p, an event of client c answers these: a read of that handle that is not refused, and is
 -- done as it begins

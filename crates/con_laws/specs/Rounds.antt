@@ -92,9 +92,8 @@ entry_of a (Some e) = (let x : Entry = record { actor = a; event = e } in x) ∷
 
 -- what is entered in the turns of these actors
 abbrev pub round_entries : List Actor → List (Option Event) → List Entry
-round_entries [] ts = []
-round_entries (a ∷ rest) [] = []
 round_entries (a ∷ rest) (t ∷ ts) = entry_of a t ++ round_entries rest ts
+round_entries _ _ = []
 
 -- the actors have these turns one after another, from a history on; where it may break off, the last of them may have none
 abbrev pub AreTurns : Bool → Begun → List Entry → List Actor → List (Option Event) → Type 0

@@ -16,20 +16,16 @@ use Rattle.con_readers.specs.declared.open.OpenRead.{OpenRead}
 use Rattle.con_readers.specs.declared.open.OpenRead.TheVariants as reads
 use Rattle.con_records.specs.declared.record.Record.{Record}
 use Rattle.con_machine.specs.Reads.{front_of}
-use Rattle.con_laws.specs.Fates.{How, Served, Emptied, Interrupted, CutOff, Piece}
+use Rattle.con_laws.specs.Fates.{How, Served, Piece}
 
 -- the lines of a program's history, and the aliases, as they were when records were taken
 abbrev pub lines_at : List ℕ → How → List (List ℕ)
 lines_at program (Served hs al) = lines_of hs program
-lines_at program Emptied = []
-lines_at program Interrupted = []
-lines_at program CutOff = []
+lines_at program _ = []
 
 abbrev pub aliases_at : How → List AliasList
 aliases_at (Served hs al) = al
-aliases_at Emptied = []
-aliases_at Interrupted = []
-aliases_at CutOff = []
+aliases_at _ = []
 
 -- records as presses of a line
 abbrev pub moments : List (List ℕ) → List Record → List Moment
@@ -70,9 +66,7 @@ abbrev pub AnswersText : OpenRead → ℕ → List Piece → List Record → Lis
 AnswersText (reads.Line line) n pieces records units = AnswersLine line n pieces records units
 AnswersText (reads.Units m) n pieces records units = units ≡ units_of m records
 AnswersText (reads.Done (answers.Units us)) n pieces records units = (units ≡ us) × (records ≡ [])
-AnswersText (reads.Done (answers.Records rs)) n pieces records units = ⊥
-AnswersText (reads.Done (answers.Fail why)) n pieces records units = ⊥
-AnswersText (reads.Records m) n pieces records units = ⊥
+AnswersText _ n pieces records units = ⊥
 
 -- how many units are asked for, at most
 abbrev pub asked_for : Wanted → ℕ

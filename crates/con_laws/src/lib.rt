@@ -6,7 +6,8 @@
 //! - [`cuts`], [`settled`] and [`stamps`]: however bytes are cut; what changes nothing; that stamps of rows are told by nobody but the painter.
 //!
 //! In `specs/`, `Rounds` has what it is to go by rounds, `Whole` what a whole session leaves, `Fates`, `Answers`, `Texts`, `Left`, `Rested` and `Once` what
-//! became of records, `Cut`, `Settled`, `Presence`, `Opens` and `Unstamped` what the other laws say; the files `..Laws` are for the crates above.
+//! became of records, `TerminalRuns` what a terminal shows that plays a stream, `Cut`, `Settled`, `Presence`, `Opens` and `Unstamped` what the other
+//! laws say; the files `..Laws` are for the crates above.
 #![tactic(auto)]
 
 pub mod cuts;

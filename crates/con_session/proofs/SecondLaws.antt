@@ -36,7 +36,8 @@ use Rattle.con_session.specs.Desk.{entry}
 use Rattle.con_session.specs.EndLaws.{stream_run}
 use Rattle.con_session.specs.Painting.{Written}
 use Rattle.con_session.specs.RunLaws.{matched_paint, piece_paint, piece_none, reach_paint, matched_resize, piece_resize, reach_resize}
-use Rattle.con_session.specs.Runs.{Painted, EachPiece, EachRun, ShowsView, PrintsFew, joined, ends_from}
+use Rattle.con_laws.specs.TerminalRuns.{EachRun, ShowsView}
+use Rattle.con_session.specs.Runs.{Painted, EachPiece, PrintsFew, joined, ends_from}
 use Rattle.con_session.specs.Seconds.{Watch, watch, watched, watched_at, seconds_at, seconds_of, painted_at}
 use Rattle.con_session.specs.Seconds.{begun_at, flags_of, attached_by, mirrored_to, begins_by, picked, Stays}
 use Rattle.con_session.proofs.SecondsLaws.{seconds-one, flags-one, watched-one, picked-more, picked-same, picked-past, rests-more}

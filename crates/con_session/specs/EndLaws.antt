@@ -42,7 +42,8 @@ use Rattle.con_laws.specs.Whole.{HaveAllLeft}
 use Rattle.con_session.specs.Desk.{listed}
 use Rattle.con_session.specs.Outcome.{Leaves, LeavesBy, IsCutBy, HasSentBy, end_of, last_end}
 use Rattle.con_session.specs.Painting.{CanvasEnds}
-use Rattle.con_session.specs.Runs.{EachPiece, EachRun, Painted, ShowsView, PrintsFew, PrintsNewRows, joined, ends_from}
+use Rattle.con_laws.specs.TerminalRuns.{EachRun, ShowsView}
+use Rattle.con_session.specs.Runs.{EachPiece, Painted, PrintsFew, PrintsNewRows, joined, ends_from}
 use Rattle.con_session.specs.Sender.{LinkBy, LinkEnds, LinkEndsBy, NoMore, all_go_on, end_for, hung}
 use Rattle.con_session.specs.Solo.{Moment, Holds, HoldsBy, begins, end_by}
 use Rattle.con_session.specs.Standing.{ClientStands, is_here}

@@ -18,7 +18,8 @@ use Rattle.con_machine.specs.Sights.{sights_of}
 use Rattle.con_machine.specs.Turns.{sent, has_ended, paints}
 use Rattle.con_laws.specs.Whole.{IsWhole, HaveAllLeft}
 use Rattle.con_session.specs.Desk.{listed}
-use Rattle.con_session.specs.Runs.{EachRun, ShowsView, PrintsFew, PrintsNewRows}
+use Rattle.con_laws.specs.TerminalRuns.{EachRun, ShowsView}
+use Rattle.con_session.specs.Runs.{PrintsFew, PrintsNewRows}
 use Rattle.con_session.specs.Sender.{IsLinkBy, NoMore, TakesBehind, all_go_on}
 
 -- ---- the link
@@ -37,8 +38,7 @@ HasSentBy R ends.Link frames text left sent' = IsCutBy R frames sent' × R.answe
 HasSentBy R ends.TooLong frames text left sent' = IsCutBy R frames sent' × R.answers (Err faults.TooLong) (length (flat_map R.spelling frames)) text left
 HasSentBy R (ends.Bad place kind) frames text left sent' =
     IsCutBy R frames sent' × R.answers (Err (faults.Bad place kind)) (length (flat_map R.spelling frames)) text left
-HasSentBy R ends.Term frames text left sent' = Unit {0}
-HasSentBy R ends.Memory frames text left sent' = Unit {0}
+HasSentBy R _ frames text left sent' = Unit {0}
 
 -- ---- the terminal
 

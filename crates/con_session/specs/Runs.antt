@@ -1,29 +1,12 @@
--- Terminal runs: a terminal that plays a stream piece by piece, one for each Paint, and takes a new size at each Resize.
-use Rattle.std.specs.Prelude.{◌≡◌, ℕ, ◌+◌, ◌-◌, ◌*◌, ◌<◌, ◌≤◌, List, [], ◌∷◌, ◌++◌, length, take, drop, Option, Some, None}
-use Rattle.con_units.specs.declared.place.Size.{Size}
+-- What is printed in a terminal run, and runs by pieces of the stream, one for each Paint.
+use Rattle.std.specs.Prelude.{◌≡◌, ℕ, ◌+◌, ◌*◌, ◌<◌, ◌≤◌, List, [], ◌∷◌, ◌++◌, length, Option, Some, None}
 use Rattle.con_units.specs.declared.view.View.{View}
 use Rattle.con_units.specs.declared.view.Sight.{Sight}
 use Rattle.con_units.specs.declared.view.Sight.TheVariants as sights
 use Rattle.con_term.specs.Play.{play, printed}
-use Rattle.con_term.specs.Terminal.{Terminal, IsTerminal, Shows}
+use Rattle.con_term.specs.Terminal.{Terminal, IsTerminal}
 use Rattle.con_paint.specs.Compared.{differing, IsLifted}
-
--- What is claimed of each Paint: of the view that was shown before it at this size, if any, its own view, its bytes, and the
--- terminal that they are played on. The claim is made where all its bytes are in the stream.
-unfoldable pub EachPaint : (Option View → View → List ℕ → Terminal → Type 0) → Terminal → Option View → ℕ → List ℕ → List Sight → List ℕ → Type 0
-EachPaint claim t last from stream [] ends = Unit {0}
-EachPaint claim t last from stream (sights.Resize z ∷ ss) ends = (u : Terminal) → IsTerminal z.w z.h u → EachPaint claim u None from stream ss ends
-EachPaint claim t last from stream (sights.Paint v ∷ ss) [] = Unit {0}
-EachPaint claim t last from stream (sights.Paint v ∷ ss) (e ∷ es) = let bytes = take (e - from) (drop from stream) in
-    (from ≤ e) × (e ≤ length stream → claim last v bytes t) × EachPaint claim (play t bytes) (Some v) e stream ss es
-
--- in every terminal run of these sights, a stream and its ends, each Paint has what is claimed
-unfoldable pub EachRun : (Option View → View → List ℕ → Terminal → Type 0) → Size → List ℕ → List Sight → List ℕ → Type 0
-EachRun claim size stream ss ends = (t : Terminal) → IsTerminal size.w size.h t → EachPaint claim t None 0 stream ss ends
-
--- after a Paint the terminal shows its view
-abbrev pub ShowsView : Option View → View → List ℕ → Terminal → Type 0
-ShowsView last v bytes t = Shows (play t bytes) v
+use Rattle.con_laws.specs.TerminalRuns.{ShowsView}
 
 -- at most the rows that differ are printed, or the window
 abbrev pub PrintsFew : Option View → View → List ℕ → Terminal → Type 0
@@ -41,7 +24,7 @@ pub record Painted (last : Option View) (v : View) (bytes : List ℕ) (t : Termi
   pub few : PrintsFew last v bytes t
   pub new_rows : PrintsNewRows last v bytes t
 
--- The same by pieces, one for each Paint.
+-- Terminal runs by pieces of the stream, one for each Paint.
 
 -- a piece for each Paint
 abbrev pub Matched : List Sight → List (List ℕ) → Type 0

@@ -28,7 +28,8 @@ use Rattle.con_session.specs.Seconds.{watch, watched, seconds_of, flags_of, pick
 use Rattle.con_session.specs.Desk.{entry}
 use Rattle.con_session.specs.Outcome.{IsOutcomeBy, last_end}
 use Rattle.con_session.specs.Painting.{IsTied, Written}
-use Rattle.con_session.specs.Runs.{Painted, Matched, EachPiece, EachRun, Reaches, ShowsView, PrintsFew, joined, ends_from}
+use Rattle.con_laws.specs.TerminalRuns.{EachRun, ShowsView}
+use Rattle.con_session.specs.Runs.{Painted, Matched, EachPiece, Reaches, PrintsFew, joined, ends_from}
 use Rattle.con_session.specs.Sender.{LinkBy}
 use Rattle.con_session.specs.declared.desk.Picture.{Picture}
 use Rattle.con_session.specs.declared.terminal.Side.{Side}
