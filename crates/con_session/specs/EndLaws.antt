@@ -278,7 +278,8 @@ leaves_whole_by R More Then session racks f scripts before old m k stands ended 
 -- there was no memory
 pub leaves_stops_by : (R : LinkReading) (More : List R.One → List Entry → Type 0) (session : Clients) (racks : List (List ℕ)) (f : Option ℕ)
     (before old left written : Option (List ℕ)) (h : List Entry) (rs : List Reply) (es : List ℕ)
-    → is_legal (session_start session racks) h ≡ true → rs ≡ map listed (replies_of (session_start session racks) h) → are_of_session (length session.scripts) h ≡ true
+    → is_legal (session_start session racks) h ≡ true → rs ≡ map listed (replies_of (session_start session racks) h)
+    → are_of_session (length session.scripts) h ≡ true
     → ((k : ℕ) → k < length session.scripts → ClientStands (begins session racks f) h (k + 1)) → LinkEndsBy R More h before left
     → CanvasEnds (begins session racks f) h session.size es old written
     → LeavesBy R More session racks h rs es ends.Memory before left old written
@@ -362,7 +363,8 @@ leaves_whole session racks f scripts before old m k stands ended left idle =
 
 pub leaves_stops : (session : Clients) (racks : List (List ℕ)) (f : Option ℕ) (before old left written : Option (List ℕ))
     (h : List Entry) (rs : List Reply) (es : List ℕ)
-    → is_legal (session_start session racks) h ≡ true → rs ≡ map listed (replies_of (session_start session racks) h) → are_of_session (length session.scripts) h ≡ true
+    → is_legal (session_start session racks) h ≡ true → rs ≡ map listed (replies_of (session_start session racks) h)
+    → are_of_session (length session.scripts) h ≡ true
     → ((k : ℕ) → k < length session.scripts → ClientStands (begins session racks f) h (k + 1)) → LinkEnds h before left
     → CanvasEnds (begins session racks f) h session.size es old written
     → Leaves session racks h rs es ends.Memory before left old written

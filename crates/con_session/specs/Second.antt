@@ -158,4 +158,5 @@ MirrorLinkIs s kept es end written now lost h side failed before left taken =
 abbrev pub IsMirrorOutcome : Clients → List (List ℕ) → List Entry → List Reply → List ℕ → End → List ℕ → Bool → Option (List ℕ) → Option (List ℕ)
     → Option (List ℕ) → Option (List ℕ) → Option (List ℕ) → Option (List ℕ) → Type 0
 IsMirrorOutcome session racks h rs es end seconds lost before left old now was written = IsOutcomeBy mirrored
-    (λ frames g. Mirrors (session_start session racks) frames session.size seconds was written lost (is_memory end) g) session racks h rs es end before left old now
+    (λ frames g. Mirrors (session_start session racks) frames session.size seconds was written lost (is_memory end) g) session racks h rs es end
+    before left old now

@@ -20,7 +20,8 @@
 //! the mirror attends to the frame ([`attend`]); [`follow`] writes the part of a Paint's view to the second terminal. It leaves a [`Mirrored`].
 //!
 //! A session that goes another way than by rounds begins by [`begun`], too, and finds the parts of a turn here: [`draw`] with
-//! [`frame_length`] and [`end_after`], [`event_for`] with [`ends_the_link`] and [`end_by_fault`], [`end_by`], [`brief_for`] with [`is_granted`] and [`must_leave`].
+//! [`frame_length`] and [`end_after`], [`event_for`] with [`ends_the_link`] and [`end_by_fault`], [`end_by`], [`brief_for`] with [`is_granted`]
+//! and [`must_leave`].
 //! The laws of these turns stand beside their words.
 //!
 //! Where there is no memory a turn entered nothing, or one event that it may, and says so.
