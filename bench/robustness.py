@@ -92,13 +92,8 @@ ssize_t write(int file, const void *from, size_t size)
 """
 
 
-def endings_without_threads():
-    """What a session by threads may end with where the system refuses it a thread: that it may not end is so as long as docs/FORMATS.md says it."""
-    with open(os.path.join(DOCS, "FORMATS.md"), encoding="utf-8") as text:
-        return ("0", "9") + (runs.NO_END,) * ("`run` may not end" in text.read())
-
-
-NO_THREAD = endings_without_threads()
+# What a session by threads may end with where the system refuses it a thread.
+NO_THREAD = ("0", "9")
 
 
 class Room:
@@ -164,9 +159,7 @@ class Turns:
 
 
 def by_threads(_, ran):
-    if ran.returncode not in (0, 9):
-        return runs.NO_END if str(ran.returncode).startswith("none") and runs.NO_END in NO_THREAD else None
-    return memory.kind_by_threads(ran)
+    return memory.kind_by_threads(ran) if ran.returncode in (0, 9) else None
 
 
 def undisturbed(room):

@@ -3,7 +3,7 @@
 
     schema.py [PROGRAM]
 
-The documents are those of examples/, of the cases, and some hundreds that have one fault, or none: a key that is missing or unknown, a value of
+The documents are those of examples/, of the cases, and a thousand that have one fault, or none: a key that is missing or unknown, a value of
 another kind or past its range, an argument too few or too many, a limit and one more. A few are told that a schema cannot refuse. Prints how many there
 were of each kind, and each document of which schema and program say different things; ends with 1 where there was one."""
 import concurrent.futures

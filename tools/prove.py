@@ -1,5 +1,7 @@
 #!/usr/bin/env python3
-"""Proves the crates that the program stands on, side by side, and then builds the program: what the launcher `conpty` does at its first call.
+"""Proves the crates that the program stands on, side by side, and then builds the program. Outside what is proved.
+
+It is what the launcher `conpty` does at its first call.
 
     prove.py TOP CRATE..
 
