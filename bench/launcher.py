@@ -24,6 +24,9 @@ here, top = os.getcwd(), os.path.dirname(os.path.dirname(os.getcwd()))
 name, verb, words = os.path.basename(here), sys.argv[1], sys.argv[2:]
 lines = [it.partition("#")[0].partition(":") for it in open(f"{top}/crates.txt")]
 uses = {it.split()[0]: rest.split() for it, colon, rest in lines if colon}
+for it in uses:
+    if not os.path.isdir(f"{top}/crates/{it}/src"):
+        sys.exit(f"rt: {top}/crates.txt: {it}: there is no folder {top}/crates/{it}/src")
 def note(what, of=name):
     with open(os.environ["NOTES"], "a") as it:
         it.write(json.dumps([what, of, os.getpid(), sys.argv[1:]]) + "\n")

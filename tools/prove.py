@@ -39,6 +39,11 @@ def link_or_copy(one, other):
         shutil.copy2(one, other)
 
 
+def listed(text, names):
+    """The lines of a list of crates that are of these."""
+    return [it for it in text.splitlines() if it.partition("#")[0].partition(":")[1] and it.split()[0].rstrip(":") in names]
+
+
 def free_memory():
     """In bytes."""
     with open("/proc/meminfo", encoding="ascii") as it:
@@ -135,9 +140,11 @@ class Build:
             for part in PARTS:
                 if (it.folder / part).is_dir():
                     shutil.copytree(it.folder / part, copy / "crates" / it.name / part)
-        for name in ("crates.txt", "HANDLES"):
-            if (self.top / name).is_file():
-                shutil.copy2(self.top / name, copy)
+        # rt refuses a list with a crate that has no folder there.
+        lines = listed((self.top / "crates.txt").read_text(encoding="utf-8"), {it.name for it in (*crate.below, crate)})
+        (copy / "crates.txt").write_text("".join(f"{it}\n" for it in lines), encoding="utf-8")
+        if (self.top / "HANDLES").is_file():
+            shutil.copy2(self.top / "HANDLES", copy)
         for it in crate.below:
             shutil.copytree(it.folder / "out/rlib", copy / "crates" / it.name / "out/rlib", copy_function=link_or_copy)
         (own / "out").mkdir(parents=True, exist_ok=True)
