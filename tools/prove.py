@@ -191,8 +191,11 @@ class Build:
                         ready = sum(all(one.name in self.done for one in it.below) for it in left)
                         self.tell(crate)
                         self.running.add(crate)
-                        jobs = min(MOST_JOBS, max(1, (self.processors - len(self.running) + 1) // (ready + 1)))
-                        at_work[pool.submit(self.prove, crate, jobs)] = crate
+                        jobs = max(1, (self.processors - len(self.running) + 1) // (ready + 1))
+                        if 2 * sum(crate in it.below for it in left) > len(left):
+                            # most of what is left waits for it, and soon nothing runs beside it
+                            jobs = self.processors
+                        at_work[pool.submit(self.prove, crate, min(MOST_JOBS, jobs))] = crate
                     for it in concurrent.futures.wait(at_work, return_when=concurrent.futures.FIRST_COMPLETED).done:
                         crate = at_work.pop(it)
                         self.running.discard(crate)
