@@ -8,7 +8,7 @@ use crate::fault::LinkFault;
 use con_outside::Source;
 use con_units::FrameFault;
 
-/// The most bytes that are taken from a link.
+/// The most bytes that a link may have: one more is taken, which tells that there are more.
 pub const MOST: u64 = 16_777_216;
 
 #[derive(Clone, Copy, PartialEq, Eq, Drop)]

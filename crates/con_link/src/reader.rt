@@ -1,4 +1,4 @@
-//! LinkReading frames from a link, one after another.
+//! Reading frames from a link, one after another.
 
 ghost use Rattle.std.specs.Prelude.{◌≡◌, ℕ, ◌+◌, ◌<◌, ◌≤◌, List, [], ◌∷◌, ◌++◌, length, take, Option, Some, None, IfSome};
 ghost use Rattle.con_outside.specs.Outside.{Rose, then_left};

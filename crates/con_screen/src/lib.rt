@@ -1,6 +1,6 @@
 //! One screen, and what a text does to it.
 //!
-//! Contracts see a [`Screen`] as a page (`specs/Page.antt`) and its unfinished text, of which the code keeps no unit. A
+//! Contracts see a [`Screen`] as a page (`specs/Page.antt`) and its unfinished text, of which the code keeps no unit but those of a title. A
 //! page is a grid of cells, the cursor, its size and whether it is visible, the window, the output mode, the pen, the
 //! saved position, the margins, the tab stops, the character set and whether a wrap is due before the next print.
 //! Places count from 0 in the buffer, x (the column) then y (the row).

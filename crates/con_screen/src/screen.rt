@@ -41,7 +41,7 @@ fn index_in(coordinate: i16, side: usize, end: usize) -> Option<u16>
     }
 }
 
-/// A screen. Contracts see its page, and its unfinished text, of which the code keeps no unit.
+/// A screen. Contracts see its page, and its unfinished text, of which the code keeps no unit but those of a title.
 #[derive(Drop)]
 pub struct Screen {
     page: Page,

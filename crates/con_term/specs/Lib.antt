@@ -2,6 +2,7 @@
 pub mod Nibble
 pub mod Pen
 pub mod Sgr
+pub mod SgrSteps
 pub mod Page
 pub mod Effect
 pub mod Cost
@@ -15,7 +16,6 @@ pub mod Run
 pub mod Ascii
 pub mod Ends
 pub mod Front
-pub mod SgrSteps
 pub mod SheetView
 pub mod BlockView
 pub mod PageView

@@ -1,6 +1,6 @@
 //! Text items: the units of a text, split into characters, controls, escape sequences, control sequences and titles.
 //!
-//! - [`Splitter`]: it is fed unit by unit. Contracts see a `Reader`: the units that are no item yet, of which it keeps none,
+//! - [`Splitter`]: it is fed unit by unit. Contracts see a `Reader`: the units that are no item yet, of which it keeps a title's alone,
 //!   the text of the last title, and the last control sequence. However a text is cut, the items are those of the whole.
 //! - [`Item`], [`Csi`]: what a text falls into. [`Found`]: the kind of an item alone, for callers that take the rest in place.
 //! - [`plain_count`], [`is_plain`]: runs of printable ASCII; [`plain_is_printed`] is the law that they are printed unit by unit.

@@ -13,7 +13,7 @@ use con_units::{OutOfMemory, Past};
 use std::alloc::Global;
 use std::marker::Model;
 
-/// A splitter. Contracts see it as the units that are no item yet, of which it keeps none, the text of the last
+/// A splitter. Contracts see it as the units that are no item yet, of which it keeps a title's alone, the text of the last
 /// title, and the last control sequence.
 #[derive(Drop)]
 pub struct Splitter {
