@@ -12,7 +12,6 @@ pub enum Words {
 
 /// A call of the Console API that is answered at once, with its arguments in their order. A handle comes first where the
 /// call has one; coordinates count from 0, x then y.
-#[derive(Drop)]
 pub enum Call {
     /// `CreateConsoleScreenBuffer`: rights.
     BufferCreate(u32),
@@ -102,4 +101,56 @@ pub enum Call {
     HandlerAdd(u32),
     /// `SetConsoleCtrlHandler` that removes: place in the rack.
     HandlerRemove(u32),
+}
+
+// By hand, so that what drops a call has this one in its proof, and not a case for each of its kinds.
+impl Drop for Call {
+    fn drop(self) {
+        match self {
+            Call::BufferCreate(_) => {}
+            Call::OpenOut(_) => {}
+            Call::OpenIn(_) => {}
+            Call::Close(_) => {}
+            Call::Duplicate(_, _) => {}
+            Call::Activate(_) => {}
+            Call::Mode(_) => {}
+            Call::SetMode(_, _) => {}
+            Call::Info(_) => {}
+            Call::SetSize(_, _, _) => {}
+            Call::SetCursor(_, _, _) => {}
+            Call::CursorInfo(_) => {}
+            Call::SetCursorInfo(_, _, _) => {}
+            Call::SetOrigin(_, _, _) => {}
+            Call::SetAttr(_, _) => {}
+            Call::Title => {}
+            Call::SetTitle(_) => {}
+            Call::Write(_, _) => {}
+            Call::RectRead(_, _) => {}
+            Call::RectWrite(_, _, _, _) => {}
+            Call::RunReadUnits(_, _, _, _) => {}
+            Call::RunReadAttrs(_, _, _, _) => {}
+            Call::RunWriteUnits(_, _, _, _) => {}
+            Call::RunWriteAttrs(_, _, _, _) => {}
+            Call::FillUnits(_, _, _, _, _) => {}
+            Call::FillAttrs(_, _, _, _, _) => {}
+            Call::Scroll(_, _, _, _, _, _, _) => {}
+            Call::Peek(_, _) => {}
+            Call::WriteInput(_, _) => {}
+            Call::Count(_) => {}
+            Call::Flush(_) => {}
+            Call::HistoryInfo => {}
+            Call::SetHistory(_, _, _) => {}
+            Call::HistoryList => {}
+            Call::HistoryClear => {}
+            Call::AliasAdd(_, _, _) => {}
+            Call::AliasRemove(_, _) => {}
+            Call::AliasGet(_, _) => {}
+            Call::AliasList(_) => {}
+            Call::Processes => {}
+            Call::Signal(_, _) => {}
+            Call::Ignore(_) => {}
+            Call::HandlerAdd(_) => {}
+            Call::HandlerRemove(_) => {}
+        }
+    }
 }

@@ -4,7 +4,6 @@ use crate::call::Call;
 use con_units::{Bytes, Size, Units};
 
 /// What a client waits for.
-#[derive(Drop)]
 pub enum Wanted {
     /// `ReadConsole`: at most `n` units of a line, or of characters.
     Read {
@@ -26,9 +25,24 @@ pub enum Wanted {
     },
 }
 
+// By hand, as that of a call.
+impl Drop for Wanted {
+    fn drop(self) {
+        match self {
+            Wanted::Read { handle: _, n: _ } => {}
+            Wanted::ReadInput { handle: _, n: _ } => {}
+            Wanted::ReadWith {
+                handle: _,
+                n: _,
+                initial: _,
+                mask: _,
+            } => {}
+        }
+    }
+}
+
 /// One event. The first five are a client's, `Paint` is the painter's, and the others are the terminal side's. Each names its function of the Windows API,
 /// where there is one.
-#[derive(Drop)]
 pub enum Event {
     /// A function of the Console API that is answered at once: each [`Call`] names its own.
     Call(Call),
@@ -54,4 +68,24 @@ pub enum Event {
     Drained,
     /// The picture that the console shows is taken, for the output side of `CreatePseudoConsole`.
     Paint,
+}
+
+// By hand, as that of a call.
+impl Drop for Event {
+    fn drop(self) {
+        match self {
+            Event::Call(_) => {}
+            Event::Begin(_) => {}
+            Event::Collect => {}
+            Event::TakeCtrl => {}
+            Event::Exit(_) => {}
+            Event::Feed(_) => {}
+            Event::Quiet => {}
+            Event::Resize(_) => {}
+            Event::Ask => {}
+            Event::Hangup => {}
+            Event::Drained => {}
+            Event::Paint => {}
+        }
+    }
 }

@@ -6,7 +6,6 @@ use con_units::Units;
 use std::marker::Model;
 
 /// One step of a client's script.
-#[derive(Drop)]
 pub enum Step {
     /// A call that is answered at once.
     Call(Call),
@@ -14,6 +13,17 @@ pub enum Step {
     Begin(Wanted),
     /// The client ends, with this status.
     Exit(u32),
+}
+
+// By hand, as that of a call.
+impl Drop for Step {
+    fn drop(self) {
+        match self {
+            Step::Call(_) => {}
+            Step::Begin(_) => {}
+            Step::Exit(_) => {}
+        }
+    }
 }
 
 /// Steps in order. Contracts see the list.
@@ -30,11 +40,21 @@ impl Model for Steps {
 }
 
 /// A client: its program, its process group, and its steps in order.
-#[derive(Drop)]
 pub struct Script {
     pub program: Units,
     pub group: u32,
     pub steps: Steps,
+}
+
+// By hand, as that of a call.
+impl Drop for Script {
+    fn drop(self) {
+        let Script {
+            program: _,
+            group: _,
+            steps: _,
+        } = self;
+    }
 }
 
 /// Scripts in order. Contracts see the list.
