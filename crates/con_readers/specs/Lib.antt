@@ -6,6 +6,6 @@ pub mod Act
 pub mod Pieces
 pub mod Answering
 pub mod Distinct
--- The code's own words: what con_cooked says of one line, and which step is none.
 pub mod Lines
+-- The code's own word: which step is none.
 pub mod Steps

@@ -7,7 +7,7 @@ use con_units::OutOfMemory;
 use std::alloc::Global;
 use std::marker::Model;
 
-/// A read of at most so many records, with room for these. Contracts see how many it wants.
+/// A read of at most so many records, of one at least, with room for these. Contracts see how many it wants.
 #[derive(Drop)]
 pub struct WantsRecords {
     n: usize,
@@ -15,13 +15,13 @@ pub struct WantsRecords {
 }
 
 impl Model for WantsRecords {
-    ghost use Rattle.std.specs.Prelude.{◌≡◌, ℕ, ◌≤◌, vec_len, vec_capacity};
+    ghost use Rattle.std.specs.Prelude.{◌≡◌, ℕ, ◌≤◌, ◌<◌, vec_len, vec_capacity};
 
     ghost Value = { ℕ };
 
     ghost view = { λ a. a.n };
 
-    ghost invariant = { λ a. (a.n ≤ vec_capacity a.room) × (vec_len a.room ≡ 0) };
+    ghost invariant = { λ a. (a.n ≤ vec_capacity a.room) × (vec_len a.room ≡ 0) × (0 < a.n) };
 }
 
 impl WantsRecords {
