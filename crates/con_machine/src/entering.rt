@@ -1,9 +1,9 @@
 //! An event is entered.
-ghost use Rattle.std.specs.Prelude.{◌≡◌, true, false, IfOk};
+ghost use Rattle.std.specs.Prelude.{◌≡◌, true, false, IfOk, IsSomeAnd};
 ghost use Rattle.con_procs.specs.Procs.{is_attached};
 ghost use Rattle.con_machine.specs.ClientRooms.{IsClientRoom};
 ghost use Rattle.con_machine.specs.Closing.{closing};
-ghost use Rattle.con_machine.specs.Fits.{Fits, IsOfClient, IsOfTerminal};
+ghost use Rattle.con_machine.specs.Fits.{Fits};
 ghost use Rattle.con_machine.specs.Marks.{told, Tells};
 ghost use Rattle.con_machine.specs.Serving.{settled_state};
 ghost use Rattle.con_machine.specs.Step.{is_clients, is_due, effect, finished, step, is_ready};
@@ -66,12 +66,12 @@ impl Console {
         match actor {
             Actor::Client(p) => {
                 if !self.attached(p) {
-                    return Ok(Room::Outside);
+                    return Ok(Room::none());
                 }
-                Ok(Room::Client(self.client_room(p, event)?))
+                Ok(Room::for_client(self.client_room(p, event)?))
             }
-            Actor::Terminal => Ok(Room::Terminal(self.terminal_room(event)?)),
-            Actor::Painter => Ok(Room::Terminal(self.terminal_room(event)?)),
+            Actor::Terminal => Ok(Room::for_side(self.terminal_room(event)?)),
+            Actor::Painter => Ok(Room::for_side(self.terminal_room(event)?)),
         }
     }
 
@@ -93,23 +93,10 @@ impl Console {
                     drop(room);
                     return Reply::Fail(Code::BadHandle);
                 }
-                let Room::Client(room) = room else {
-                    unreachable!()
-                };
-                self.enter_client(p, event, room)
+                self.enter_client(p, event, room.of_client())
             }
-            Actor::Terminal => {
-                let Room::Terminal(room) = room else {
-                    unreachable!()
-                };
-                self.enter_terminal(event, room)
-            }
-            Actor::Painter => {
-                let Room::Terminal(room) = room else {
-                    unreachable!()
-                };
-                self.enter_terminal(event, room)
-            }
+            Actor::Terminal => self.enter_terminal(event, room.of_side()),
+            Actor::Painter => self.enter_terminal(event, room.of_side()),
         }
     }
 }

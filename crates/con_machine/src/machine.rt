@@ -68,7 +68,7 @@ impl Machine for Console {
 
     fn prepare(&mut self, actor: u32, event: &Event) -> Result<Room, OutOfMemory> {
         match actor_of(actor) {
-            None => Ok(Room::Outside),
+            None => Ok(Room::none()),
             Some(actor) => Console::prepare(self, actor, event),
         }
     }
