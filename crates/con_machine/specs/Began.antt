@@ -4,10 +4,11 @@ use Rattle.con_history.specs.Histories.{room_for_use}
 use Rattle.con_procs.specs.Procs.{program_of}
 use Rattle.con_readers.specs.declared.answer.Answer.{Answer}
 use Rattle.con_readers.specs.declared.answer.Answer.TheVariants as answers
-use Rattle.con_machine.specs.State.{State, rest_in}
+use Rattle.con_machine.specs.State.{State, rest_in, has_rest}
 use Rattle.con_machine.specs.Outcome.{has_bit}
 use Rattle.con_machine.specs.Reads.{line_front, back_of, part_left, line_read, units_read}
 use Rattle.con_machine.specs.declared.reads.noted.Noted.{Noted}
+use Rattle.con_machine.specs.declared.reads.rest.Rest.{Rest}
 use Rattle.con_machine.specs.declared.rooms.read_room.LineRoom.{LineRoom}
 use Rattle.con_machine.specs.declared.rooms.read_room.Beginning.{Beginning}
 use Rattle.con_machine.specs.declared.rooms.read_room.Beginning.TheVariants as beginnings
@@ -23,12 +24,12 @@ pub record IsLineRoom (room : LineRoom) (s : State) (p h n : ℕ) (initial : Lis
 abbrev pub part_end : Noted → List ℕ → ℕ
 part_end n text = if n.woken then min n.n (length text) else line_front n.n text
 
--- what of a line's text is left for its handle is there
-abbrev pub HasBack : Option (List ℕ) → Option Noted → Answer → Type 0
-HasBack back None answer = Unit {0}
-HasBack back (Some n) (answers.Units text) = back ≡ Some (part_left n text)
-HasBack back (Some n) (answers.Records rs) = Unit {0}
-HasBack back (Some n) (answers.Fail why) = Unit {0}
+-- what of a line's text is left for its handle is there, where it has a rest
+abbrev pub HasBack : List Rest → Option (List ℕ) → Option Noted → Answer → Type 0
+HasBack rests back None answer = Unit {0}
+HasBack rests back (Some n) (answers.Units text) = has_rest rests n.process n.handle ≡ true → back ≡ Some (part_left n text)
+HasBack rests back (Some n) (answers.Records rs) = Unit {0}
+HasBack rests back (Some n) (answers.Fail why) = Unit {0}
 
 -- the memory of a read that may begin
 abbrev pub IsBeginning : Beginning → State → ℕ → ℕ → ℕ → List ℕ → ℕ → Type 0

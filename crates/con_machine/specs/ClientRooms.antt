@@ -51,7 +51,7 @@ IsBeginRoom c p (wanted.ReadWith h n initial mask) room = IsReadRoom c p h n ini
 
 -- what is left of a line
 abbrev pub IsBackRoom : Held → ℕ → ClientRoom → Type 0
-IsBackRoom c p (rooms.Back r) = HasBack r (noted_of c.state.noted p) (answer_in (slice_get c.state.reads (place_of c.state.reads p)))
+IsBackRoom c p (rooms.Back r) = HasBack c.state.rests r (noted_of c.state.noted p) (answer_in (slice_get c.state.reads (place_of c.state.reads p)))
 IsBackRoom c p (rooms.Call r) = ⊥
 IsBackRoom c p rooms.Nothing = ⊥
 IsBackRoom c p (rooms.Read r) = ⊥
