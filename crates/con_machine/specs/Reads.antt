@@ -115,7 +115,7 @@ began_units s p n = if n == 0 then answered_with s p [] else with_read s p (read
 abbrev pub is_no_initial : List ℕ → ℕ → Bool
 is_no_initial text n = list_any is_control text || nat_lt line_units (length text) || nat_lt n (length text)
 
--- whether a read of n units may begin: the handle, an open read and a bad initial text, and the limit, in this order
+-- whether a read of n units may begin, where its handle is right: an open read and a bad initial text, and the limit, in this order
 abbrev pub initial_checked : State → ℕ → ℕ → List ℕ → Result (Unit {0}) Code
 initial_checked s p n initial =
     if is_open s.reads p || is_no_initial initial n then Err code.BadArgument
