@@ -1,9 +1,9 @@
--- What a reader must believe: how a session by threads, by turns, with a second terminal and a generated one end, and the whole call.
+-- What a reader must believe: a report as far as it is told, how a session by threads, by turns, with a second terminal and a generated one end, and
+-- the whole call.
 pub mod Foretold
 pub mod Generating
 pub mod Hosting
 pub mod Mirroring
 pub mod Sessions
 pub mod Summary
--- The code's own words: a report as far as it is told.
 pub mod Telling

@@ -76,7 +76,7 @@ pub record ReadBack (h : List Entry) (rs : List Reply) (es : List ℕ) (end : En
 
 -- The session ran, in whatever order its actors came: one history, with all that such a session leaves, in which each
 -- record of the input goes to one read at most and each read answers what is of its records, and its report, which is whole unless the report
--- failed or there was no memory for it, and then is cut. Its reader has this history of it.
+-- failed or there was no memory for it; then a front of it was written. Its reader has this history of it.
 pub record Ran (status : ℕ) (session : Clients) (racks : List (List ℕ)) (before left old now before_report report' : Option (List ℕ))
     (failed : Type 0) : Type 0 where
   pub entries : List Entry

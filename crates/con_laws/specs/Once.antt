@@ -41,7 +41,7 @@ pub record TakenOnce (s : State) (h : List Entry) : Type 0 where
   pub answers : (before later : List Entry) (p : ℕ) (b : Begin) → Collects s h before later p b → wants_records b.wanted ≡ true
       → AnswersRecords (step (run s before) (actors.Client p) events.Collect).reply (fated s h (Begun b.place))
   -- the units that another read answers are what lines and reads give for exactly the records whose fate is its Begin, as it began; or
-  -- they come from what was left of a line, and then it took no record
+  -- they come from what was left of a line, or it asked for none, and then it took no record
   pub texts : (before later : List Entry) (p : ℕ) (b : Begin) (units : List ℕ) → Collects s h before later p b
       → (step (run s before) (actors.Client p) events.Collect).reply ≡ replies.Units units
       → AnswersText (opens (console_before s h b.place) p b.wanted) (asked_for b.wanted) (done_for (Begun b.place) (pieces s h))

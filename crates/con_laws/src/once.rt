@@ -13,8 +13,8 @@ use crate::fates::{
 };
 
 /// In each history of a session a record of the input goes to at most one read that removes it, each read answers what is of just the
-/// records that went to it, or what was left of a line, or why it failed, and a peek changes nothing. So it is from every console with no
-/// read, nothing left of a line, and nothing left to do.
+/// records that went to it, or what was left of a line, or nothing where it asked for none, or why it failed, and a peek changes nothing.
+/// So it is from every console with no read, nothing left of a line, and nothing left to do.
 pub fn each_record_is_taken_once()
     ensures console { (s : State) (h : List Entry) → s.reads ≡ [] → s.noted ≡ [] → s.rests ≡ [] → IsSettled s → TakenOnce s h }
     ensures session { (session : Clients) (racks : List (List ℕ)) (h : List Entry) → TakenOnce (session_start session racks) h }

@@ -5,8 +5,8 @@
 //! - A [`ClientThread`] follows its script, a [`SideThread`] sends the frames of the link, a [`PainterThread`] makes a frame of each
 //!   Paint outside the lock, and a [`WriterThread`] writes them.
 //!
-//! Their [`Signals`] tell when all are made, before which none begins: where one cannot be made, which is want of memory, all return and
-//! nothing was entered, read or written.
+//! Their [`Signals`] tell when all are made, before which none begins: where one cannot be made, which is want of memory, all return. That
+//! nothing was entered, read or written then is no clause.
 //!
 //! [`run_session`] makes all of them, lets them run beside each other, takes their passes together once all have returned, paints what is
 //! still due, closes the book and leaves an `Outcome`, as a session by turns does.

@@ -145,7 +145,7 @@ fn play<T: Threads + Wait + Sync, I: Source + Send, O: Sink + Send, G: Gate>(
 }
 
 /// Runs a session by threads: each client, the terminal's side, the painter and the writer has one of its own. Where the system makes one
-/// less, the session ends with [`End::Memory`], and no event was entered, no byte of the link read and none written.
+/// less, the session ends with [`End::Memory`], before any of them begins, which no clause says.
 /// The handlers of `racks` are those that the clients may add, by place; a client behind the last rack has none.
 pub fn run_session<T: Threads + Wait + Sync, I: Source + Send, O: Sink + Send, G: Gate>(
     rt: &T,
