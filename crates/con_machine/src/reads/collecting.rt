@@ -16,8 +16,8 @@ impl Console {
     /// The memory of a Collect: what of a line's text is left for its handle, in memory that was taken when the read began. Nothing is left for a
     /// handle that was closed.
     pub(crate) fn collect_room(&mut self, p: u8) -> Result<Option<Units>, OutOfMemory>
-        ensures room { IfOk result (λ back.
-            HasBack self.old.state.rests back (noted_of self.old.state.noted p) (answer_in (slice_get self.old.state.reads (place_of self.old.state.reads p)))) }
+        ensures room { IfOk result (λ back. HasBack self.old.state.rests back (noted_of self.old.state.noted p)
+            (answer_in (slice_get self.old.state.reads (place_of self.old.state.reads p)))) }
         ensures same { self.new ≡ self.old }
     {
         let Some(note) = self.notes.of(p) else {
@@ -61,7 +61,8 @@ impl Console {
     #[tactic(auto, unfolding(crate::specs::Reads::collected))]
     pub(crate) fn collect(&mut self, p: u8, back: Option<Units>) -> Reply
         requires done { has_done self.old.state.reads p ≡ true }
-        requires room { HasBack self.old.state.rests back (noted_of self.old.state.noted p) (answer_in (slice_get self.old.state.reads (place_of self.old.state.reads p))) }
+        requires room { HasBack self.old.state.rests back (noted_of self.old.state.noted p)
+            (answer_in (slice_get self.old.state.reads (place_of self.old.state.reads p))) }
         ensures state { self.new.state ≡ (collected self.old.state p).after }
         ensures reply { result ≡ (collected self.old.state p).reply }
     {
