@@ -1,10 +1,10 @@
 //! What a session left is audited: its document, its link and what it wrote, as they are and with changes. So are files that a case has.
-use crate::fault::{Fault, Wrong};
-use crate::part::{Head, Line, Part, first_word};
 use crate::running::{Ran, host_case};
-use crate::setup::{End, Setup, number};
-use crate::strings::bytes;
-use crate::wanted::{expanded, is_told};
+use case_files::fault::{Fault, Wrong};
+use case_files::part::{Head, Line, Part, first_word};
+use case_files::setup::{End, Setup, number};
+use case_files::strings::bytes;
+use case_files::wanted::{expanded, is_told};
 use con_ending::DONE;
 use std::alloc::{AllocError, Global};
 use std::str;

@@ -1,11 +1,11 @@
 //! Events are entered on a new console, one after another.
-use crate::fault::{Fault, Wrong};
 use crate::judging::{compared, lines_of};
-use crate::part::{Head, Line, Part, first_word, only};
-use crate::picture::push_picture;
-use crate::setup::number;
 use crate::showing::size;
-use crate::wanted::{Wanted, Way, dump_lines, report_lines};
+use case_files::fault::{Fault, Wrong};
+use case_files::part::{Head, Line, Part, first_word, only};
+use case_files::picture::push_picture;
+use case_files::setup::number;
+use case_files::wanted::{Wanted, Way, dump_lines, report_lines};
 use con_events::{Entry, Reply, Script, Scripts, Session, Steps};
 use con_machine::Console;
 use con_outside::SureSink;

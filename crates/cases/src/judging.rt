@@ -1,10 +1,10 @@
 //! Whether a case ran as it has to.
-use crate::fault::{Fault, Wrong};
-use crate::part::{Head, Line, Part, first_word};
 use crate::running::Ran;
-use crate::setup::{Failing, Setup, all_bytes, number};
 use crate::showing::{cells, dump, size};
-use crate::wanted::{
+use case_files::fault::{Fault, Wrong};
+use case_files::part::{Head, Line, Part, first_word};
+use case_files::setup::{Failing, Setup, all_bytes, number};
+use case_files::wanted::{
     Difference, Wanted, Way, behind_number, dump_lines, first_difference, is_blank, is_line,
     report_lines,
 };

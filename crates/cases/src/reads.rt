@@ -1,7 +1,7 @@
 //! Texts are read as reports.
-use crate::fault::{Fault, Wrong};
-use crate::part::{Head, Line, Part, only};
-use crate::setup::{Setup, number};
+use case_files::fault::{Fault, Wrong};
+use case_files::part::{Head, Line, Part, only};
+use case_files::setup::{Setup, number};
 use con_events::Event;
 use con_outside::SureSink;
 use con_trace::{Trace, TraceFault, read, write_entry};

@@ -4,7 +4,7 @@ ghost use Rattle.std.specs.Prelude.{◌≤◌, All, length};
 use crate::callers::status;
 use crate::ends::{OrderedSink, OrderedSource};
 use crate::order::{Order, Plan};
-use crate::setup::{Failing, Setup};
+use case_files::setup::{Failing, Setup};
 use con_handlers::{CtrlHandler, Note, Once, Swallow, Tally};
 use con_outside::{MemoryFiles, MemorySink, MemorySource};
 use con_units::Bytes;

@@ -1,7 +1,7 @@
 //! What a terminal shows of a stream, and how many cells it was sent.
-use crate::fault::{Fault, Wrong};
-use crate::part::Line;
-use crate::setup::number;
+use case_files::fault::{Fault, Wrong};
+use case_files::part::Line;
+use case_files::setup::number;
 use con_outside::{SureSink, SureSource};
 use con_text::host_play;
 use con_units::{Bytes, Size};

@@ -6,7 +6,7 @@ use super::report::{ends_with, first_wrong, has_from, session, tell};
 use super::watched::{Seen, WATCHED, Watched};
 use crate::order::{Order, Plan, Rule};
 use crate::running::{Racks, Ran, host_ordered};
-use crate::setup::Setup;
+use case_files::setup::Setup;
 use con_ending::DONE;
 use con_handlers::CtrlHandler;
 use std::alloc::{AllocError, Global};

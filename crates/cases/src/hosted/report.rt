@@ -1,6 +1,6 @@
 // Sessions of a document, and their reports, line by line. In texts ' stands for a quotation mark.
 use super::HOSTED;
-use crate::setup::Setup;
+use case_files::setup::Setup;
 use std::alloc::{AllocError, Global};
 
 // The byte that one of a text stands for.

@@ -1,7 +1,6 @@
-use Rattle.std.proofs.Common.{length}
 use denote.Text.{Utf8}
 use denote.Shadow.{shadow}
-use Rattle.cases.proofs.wanted.is_told.Given as goal
+use Rattle.case_files.proofs.wanted.is_told.Given as goal
 
 -- what is left is text
 abbrev pub invariant-loop-c : goal.invariant-loop-c

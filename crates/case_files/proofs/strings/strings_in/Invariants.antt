@@ -1,7 +1,6 @@
-use Rattle.std.proofs.Common.{length}
 use denote.Text.{Utf8}
 use denote.Shadow.{shadow}
-use Rattle.cases.proofs.strings.strings_in.Given as goal
+use Rattle.case_files.proofs.strings.strings_in.Given as goal
 
 -- what stands before the next string is text
 abbrev pub invariant-loop-pair : goal.invariant-loop-pair
