@@ -194,25 +194,21 @@ impl Painter {
     {
         // it opens the painter: what it has kept is known to each call below, for all clauses
         let _ = &self.size;
+        let (size, known) = (self.size, self.known);
         let caret = caret_of(view);
         let cells = view.rows.as_slice();
-        let at = spot_if(self.known, self.spot);
-        let rows = count(
-            &mut self.sums,
-            cells,
-            self.shadow.as_slice(),
-            marks.as_slice(),
-            self.known,
-            self.size,
-        );
+        let marks = marks.as_slice();
+        let at = spot_if(known, self.spot);
+        let was = self.shadow.as_slice();
+        let rows = count(&mut self.sums, cells, was, marks, known, size);
         let lifting = begin(
             out,
             &mut self.shadow,
             cells,
             self.sums.as_slice(),
             rows,
-            self.known,
-            self.size,
+            known,
+            size,
             at,
             self.attr,
         );
@@ -223,23 +219,15 @@ impl Painter {
             out,
             cells,
             self.shadow.as_slice(),
-            marks.as_slice(),
-            self.known,
-            self.size,
+            marks,
+            known,
+            size,
             lifting,
             spot,
             self.visible,
             caret,
         );
-        keep(
-            &mut self.shadow,
-            cells,
-            marks.as_slice(),
-            self.known,
-            lifted,
-            left,
-            self.size,
-        );
+        keep(&mut self.shadow, cells, marks, known, lifted, left, size);
         self.known = true;
         self.attr = end.attr;
         self.spot = end.spot;

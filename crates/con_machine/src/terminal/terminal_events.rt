@@ -100,11 +100,8 @@ impl Console {
                 self.drain();
                 done(room)
             }
-            Event::Call(_) => unreachable!(),
-            Event::Begin(_) => unreachable!(),
-            Event::Collect => unreachable!(),
-            Event::TakeCtrl => unreachable!(),
-            Event::Exit(_) => unreachable!(),
+            // a client's
+            _ => unreachable!(),
         }
     }
 }

@@ -12,14 +12,14 @@ returns-clause-paints c =
     c.caret_of-caret.ensures c.draw-end.ensures.spot (rw c.as_slice-cells.ensures at c.begin-lifting.ensures.lifts) t ok
     (framed p.size.w p.size.h p.attr c.begin-lifting.result.attr c.args.view.now.rows p.shadow.items c.begin-lifting.new.shadow.items p.known c.begin-lifting.result.lifted p.visible c.begin-lifting.result.rows
     c.args.out.now.items c.begin-lifting.new.out.items c.draw-end.new.out.items p.spot c.spot_if-at.result c.begin-lifting.result.spot c.draw-end.result c.caret_of-caret.result (caret_inside p.size.w p.size.h c.args.view.now c.caret_of-caret.result (c.requires.size.0 ∙ ap (λ (k : Kept). k.w) (sym c.self.view_is)) (c.requires.size.1 ∙ ap (λ (k : Kept). k.h) (sym c.self.view_is)) c.caret_of-caret.ensures) c.spot_if-at.ensures.there
-    (rw c.as_slice-cells.ensures at c.begin-lifting.ensures.lifts) (rw (c.as_slice-cells.ensures, c.as_slice-4.ensures.value) at c.draw-end.ensures.drawn) t ok))
+    (rw c.as_slice-cells.ensures at c.begin-lifting.ensures.lifts) (rw (c.as_slice-cells.ensures, c.as_slice-2.ensures.value) at c.draw-end.ensures.drawn) t ok))
 
 pub returns-clause-quiet : goal.returns-clause-quiet
 returns-clause-quiet c =
     let p = c.self.inside in
     rw (← c.self.view_is) (λ shown. silent p.size.w p.size.h p.attr c.begin-lifting.result.attr c.args.view.now p.shadow.items c.begin-lifting.new.shadow.items p.known c.begin-lifting.result.lifted p.visible c.begin-lifting.result.rows
     c.args.out.now.items c.begin-lifting.new.out.items c.draw-end.new.out.items p.spot c.spot_if-at.result c.begin-lifting.result.spot c.caret_of-caret.result c.caret_of-caret.ensures shown c.spot_if-at.ensures.same (rw c.as_slice-cells.ensures at c.begin-lifting.ensures.lifts)
-    (rw (c.as_slice-cells.ensures, c.as_slice-4.ensures.value) at c.draw-end.ensures.quiet))
+    (rw (c.as_slice-cells.ensures, c.as_slice-2.ensures.value) at c.draw-end.ensures.quiet))
 
 pub returns-clause-shown : goal.returns-clause-shown
 returns-clause-shown c = now_shown c.self.inside.size.w c.self.inside.size.h c.draw-end.result.attr c.args.view.now c.keep.new.shadow.items c.draw-end.result.spot c.caret_of-caret.result (c.keep.ensures ∙ c.as_slice-cells.ensures) c.caret_of-caret.ensures c.draw-end.ensures.spot
@@ -32,7 +32,7 @@ returns-clause-appends c =
     appends p.size.w p.size.h _ c.args.view.now.rows c.caret_of-caret.result c.draw-end.result c.args.out.now.items c.draw-end.new.out.items _
     (some_frame p.size.w p.size.h p.attr c.begin-lifting.result.attr c.args.view.now.rows p.shadow.items c.begin-lifting.new.shadow.items p.known c.begin-lifting.result.lifted p.visible c.begin-lifting.result.rows
     c.args.out.now.items c.begin-lifting.new.out.items c.draw-end.new.out.items p.spot c.spot_if-at.result c.begin-lifting.result.spot c.draw-end.result c.caret_of-caret.result c.self.invariant.kept (caret_inside p.size.w p.size.h c.args.view.now c.caret_of-caret.result ew eh c.caret_of-caret.ensures) c.spot_if-at.ensures.there
-    (rw c.as_slice-cells.ensures at c.begin-lifting.ensures.lifts) (rw (c.as_slice-cells.ensures, c.as_slice-4.ensures.value) at c.draw-end.ensures.drawn))
+    (rw c.as_slice-cells.ensures at c.begin-lifting.ensures.lifts) (rw (c.as_slice-cells.ensures, c.as_slice-2.ensures.value) at c.draw-end.ensures.drawn))
 
 pub invariant_of-self : goal.invariant_of-self
 invariant_of-self c =
@@ -41,7 +41,7 @@ invariant_of-self c =
     let eh = c.requires.size.1 ∙ ap (λ (k : Kept). k.h) (sym c.self.view_is) in
     let r = (some_frame p.size.w p.size.h p.attr c.begin-lifting.result.attr c.args.view.now.rows p.shadow.items c.begin-lifting.new.shadow.items p.known c.begin-lifting.result.lifted p.visible c.begin-lifting.result.rows
     c.args.out.now.items c.begin-lifting.new.out.items c.draw-end.new.out.items p.spot c.spot_if-at.result c.begin-lifting.result.spot c.draw-end.result c.caret_of-caret.result c.self.invariant.kept (caret_inside p.size.w p.size.h c.args.view.now c.caret_of-caret.result ew eh c.caret_of-caret.ensures) c.spot_if-at.ensures.there
-    (rw c.as_slice-cells.ensures at c.begin-lifting.ensures.lifts) (rw (c.as_slice-cells.ensures, c.as_slice-4.ensures.value) at c.draw-end.ensures.drawn)) in
+    (rw c.as_slice-cells.ensures at c.begin-lifting.ensures.lifts) (rw (c.as_slice-cells.ensures, c.as_slice-2.ensures.value) at c.draw-end.ensures.drawn)) in
     record {
       kept = record {
         window = c.self.invariant.kept.window;
