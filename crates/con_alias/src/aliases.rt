@@ -258,7 +258,8 @@ impl Aliases {
 
     /// The target of a program's alias. Refused where it has no such alias.
     pub fn get(&self, program: &Units, source: &Units) -> Result<&Units, Code>
-        ensures { MatchOption (alias_at self.now.programs program.now source.now) (result ≡ Err Code.NoAlias) (λ e. IfOk result (λ t. t.now ≡ e.target) × IsOk result) }
+        ensures { MatchOption (alias_at self.now.programs program.now source.now) (result ≡ Err Code.NoAlias)
+            (λ e. IfOk result (λ t. t.now ≡ e.target) × IsOk result) }
     {
         match self.find(program, source.as_slice()) {
             Some(target) => Ok(target.units()),

@@ -37,7 +37,8 @@ abbrev pub HasEntered : {M S E : Type 0} → (M → S) → Moves S E → Kept M 
 HasEntered {M} {S} {E} state moves x m = (v : PassView S E) × Entered state moves v x m
 
 -- whichever view has entered, it has then taken its turn, or seen others'
-abbrev pub Acts : {M S E R A X : Type 0} → (M → S) → Moves S E → (R → A) → (S → ℕ → E → A) → (R → S → ℕ → E → Type 0) → Kept M E → E → Result R X → Me (Option (Kept M E)) (PassView S E) → Me (Option (Kept M E)) (PassView S E) → Type 0
+abbrev pub Acts : {M S E R A X : Type 0} → (M → S) → Moves S E → (R → A) → (S → ℕ → E → A) → (R → S → ℕ → E → Type 0)
+    → Kept M E → E → Result R X → Me (Option (Kept M E)) (PassView S E) → Me (Option (Kept M E)) (PassView S E) → Type 0
 Acts {M} {S} {E} state moves answer answer_to tells x event result m n =
     (v : PassView S E) → Entered state moves v x m
     → IfOk result (λ reply. Enters moves.next moves.is_ready answer answer_to tells v event reply n.0) × IfErr result (λ _. SeesOthers v n.0)

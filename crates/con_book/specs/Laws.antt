@@ -18,18 +18,21 @@ pub is_among-above : (actor : ℕ) (xs : List ℕ) → All (λ a. a < actor) xs 
 is_among-above actor [] below = refl
 is_among-above actor (x ∷ xs) below =
     let first : x < actor = All-head (λ a. a < actor) x xs below in
-    both_false (eqb actor x) (is_among actor xs) (ne_eqb actor x (λ same. let e : actor ≡ x = same in absurd (omega arith))) (is_among-above actor xs (All-tail (λ a. a < actor) x xs below))
+    both_false (eqb actor x) (is_among actor xs) (ne_eqb actor x (λ same. let e : actor ≡ x = same in absurd (omega arith)))
+    (is_among-above actor xs (All-tail (λ a. a < actor) x xs below))
 
 pub has_pass-above : {S E : Type 0} (actor : ℕ) (v : PassView S E) → 0 < actor → All (λ a. a < actor) v.made → has_pass actor v ≡ false
 has_pass-above actor v some below =
-    both_false (eqb actor 0) (is_among actor v.made) (ne_eqb actor 0 (λ same. let e : actor ≡ 0 = same in absurd (omega arith))) (is_among-above actor v.made below)
+    both_false (eqb actor 0) (is_among actor v.made) (ne_eqb actor 0 (λ same. let e : actor ≡ 0 = same in absurd (omega arith)))
+    (is_among-above actor v.made below)
 
 -- two histories, one after the other
 
 module _ {E : Type 0} where
   pub own-append : (a : ℕ) (xs ys : List (Logged E)) → own a (xs ++ ys) ≡ own a xs ++ own a ys
   own-append a [] ys = refl
-  own-append a (x ∷ xs) ys = elim (eqb x.actor a) as (λ b. cond b (x.event ∷ own a (xs ++ ys)) (own a (xs ++ ys)) ≡ cond b (x.event ∷ own a xs) (own a xs) ++ own a ys)
+  own-append a (x ∷ xs) ys =
+      elim (eqb x.actor a) as (λ b. cond b (x.event ∷ own a (xs ++ ys)) (own a (xs ++ ys)) ≡ cond b (x.event ∷ own a xs) (own a xs) ++ own a ys)
       [ true ↦ ap (λ l. x.event ∷ l) (own-append a xs ys) | false ↦ own-append a xs ys ]
 
 module _ {S E : Type 0} (next : S → ℕ → E → S) where
@@ -42,11 +45,13 @@ and_assoc true b c = refl
 and_assoc false b c = refl
 
 module _ {S E : Type 0} (next : S → ℕ → E → S) (is_ready : S → ℕ → E → Bool) where
-  pub is_legal-append : (s : S) (xs ys : List (Logged E)) → is_legal next is_ready s (xs ++ ys) ≡ (is_legal next is_ready s xs && is_legal next is_ready (after next s xs) ys)
+  pub is_legal-append : (s : S) (xs ys : List (Logged E)) → is_legal next is_ready s (xs ++ ys)
+      ≡ (is_legal next is_ready s xs && is_legal next is_ready (after next s xs) ys)
   is_legal-append s [] ys = refl
   is_legal-append s (x ∷ xs) ys =
       ap (λ (b : Bool). is_ready s x.actor x.event && b) (is_legal-append (next s x.actor x.event) xs ys)
-      ∙ and_assoc (is_ready s x.actor x.event) (is_legal next is_ready (next s x.actor x.event) xs) (is_legal next is_ready (after next (next s x.actor x.event) xs) ys)
+      ∙ and_assoc (is_ready s x.actor x.event) (is_legal next is_ready (next s x.actor x.event) xs)
+      (is_legal next is_ready (after next (next s x.actor x.event) xs) ys)
 
 -- beginnings of one list
 
@@ -75,9 +80,11 @@ module _ {A : Type 0} where
 -- a machine that counts its events
 
 module _ {S E : Type 0} (next : S → ℕ → E → S) (is_ready : S → ℕ → E → Bool) where
-  pub after-counting : (s : Counted S) (xs : List (Logged E)) → after (counting next) s xs ≡ record { state = after next s.state xs; entered = s.entered + length xs }
+  pub after-counting : (s : Counted S) (xs : List (Logged E)) → after (counting next) s xs
+      ≡ record { state = after next s.state xs; entered = s.entered + length xs }
   after-counting s [] = ap (λ (n : ℕ). record { state = s.state; entered = n }) (sym (add-zero s.entered))
-  after-counting s (x ∷ xs) = after-counting (counting next s x.actor x.event) xs ∙ ap (λ (n : ℕ). record { state = after next (next s.state x.actor x.event) xs; entered = n }) (omega arith)
+  after-counting s (x ∷ xs) = after-counting (counting next s x.actor x.event) xs
+      ∙ ap (λ (n : ℕ). record { state = after next (next s.state x.actor x.event) xs; entered = n }) (omega arith)
 
   pub is_legal-counting : (s : Counted S) (xs : List (Logged E)) → is_legal (counting next) (λ c. is_ready c.state) s xs ≡ is_legal next is_ready s.state xs
   is_legal-counting s [] = refl

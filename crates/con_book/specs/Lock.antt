@@ -59,7 +59,19 @@ module _ {S E : Type 0} where
   knowing v seen mine stage = record v { seen = seen; mine = mine; stage = stage }
 
   abbrev pub opener : S → PassView S E
-  opener start = record { start = start; actor = 0; seen = []; had = []; mine = []; live = true; opens = true; made = []; kept = []; parts = 4294967296; stage = Idle }
+  opener start = record {
+    start = start;
+    actor = 0;
+    seen = [];
+    had = [];
+    mine = [];
+    live = true;
+    opens = true;
+    made = [];
+    kept = [];
+    parts = 4294967296;
+    stage = Idle;
+  }
 
   abbrev pub spent : S → PassView S E
   spent start = record { start = start; actor = 0; seen = []; had = []; mine = []; live = false; opens = false; made = []; kept = []; parts = 0; stage = Idle }
@@ -69,7 +81,19 @@ module _ {S E : Type 0} where
   gave actor v = record v { made = actor ∷ v.made; parts = v.parts - 1 }
 
   abbrev pub newcomer : ℕ → PassView S E → PassView S E
-  newcomer actor v = record { start = v.start; actor = actor; seen = v.seen; had = []; mine = []; live = true; opens = false; made = []; kept = []; parts = 1; stage = Idle }
+  newcomer actor v = record {
+    start = v.start;
+    actor = actor;
+    seen = v.seen;
+    had = [];
+    mine = [];
+    live = true;
+    opens = false;
+    made = [];
+    kept = [];
+    parts = 1;
+    stage = Idle;
+  }
 
   abbrev pub joined : PassView S E → Joined E
   joined w = record { actor = w.actor; seen = w.seen; mine = w.mine }
@@ -92,12 +116,14 @@ module _ {S E : Type 0} where
     pub some_part : 0 < v.parts
     pub counts : Counts v
     pub is_live : status v.actor ≡ live j
-    pub opens_first : v.opens ≡ true → (j ≡ 0) × ((a : ℕ) → ¬ In a (0 ∷ v.made) → status a ≡ fresh) × Distinct (0 ∷ v.made) × ((a : ℕ) → In a (0 ∷ v.made) → a < 4294967296)
+    pub opens_first : v.opens ≡ true → (j ≡ 0) × ((a : ℕ) → ¬ In a (0 ∷ v.made) → status a ≡ fresh) × Distinct (0 ∷ v.made)
+        × ((a : ℕ) → In a (0 ∷ v.made) → a < 4294967296)
     pub keeps : (k : Joined E) → In k v.kept → (status k.actor ≡ closed) × (own k.actor log ≡ k.mine) × StartsWith log k.seen
     pub stands : Stands served drawn (v.seen ≡ log) v.stage
 
   abbrev pub Apart : List (PassView S E) → Type 0
-  Apart views = (i j : ℕ) (v w : PassView S E) (t : ℕ) → get_elem? views i ≡ some v → get_elem? views j ≡ some w → HasTicket t v.stage → HasTicket t w.stage → i ≡ j
+  Apart views = (i j : ℕ) (v w : PassView S E) (t : ℕ) → get_elem? views i ≡ some v → get_elem? views j ≡ some w
+      → HasTicket t v.stage → HasTicket t w.stage → i ≡ j
 
   abbrev pub SomeDue : List (PassView S E) → Type 0
   SomeDue views = (j : ℕ) × (v : PassView S E) × (t : ℕ) × (get_elem? views j ≡ some v) × (v.stage ≡ Due t)

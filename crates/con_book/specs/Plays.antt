@@ -19,7 +19,8 @@ module _ {M S E : Type 0} where
 
   -- a view that has found this machine at home: it begins the log, and the events of its actor are its own, in what it has seen and in the log
   abbrev pub Finds : (M → S) → Moves S E → PassView S E → Kept M E → Type 0
-  Finds state moves v x = Follows state moves v.start x.log.items x × StartsWith x.log.items v.seen × (own v.actor x.log.items ≡ v.mine) × (own v.actor v.seen ≡ v.mine)
+  Finds state moves v x = Follows state moves v.start x.log.items x × StartsWith x.log.items v.seen × (own v.actor x.log.items ≡ v.mine)
+      × (own v.actor v.seen ≡ v.mine)
 
   -- the seat has the slot and is due
   abbrev pub Comes : (M → S) → Moves S E → Sat M S E → Sat M S E → Type 0
@@ -34,4 +35,5 @@ module _ {M S E : Type 0} where
 
   -- nothing has changed, and all that the view has seen begins one log
   abbrev pub Minds : Step (Option (Kept M E)) → Sat M S E → ℕ → Sat M S E → Type 0
-  Minds st m r n = (n ≡ m) × ((log : List (Logged E)) × StartsWith log m.0.seen × StartsWith log m.0.had × ((k : Joined E) → In k m.0.kept → StartsWith log k.seen)) × (own m.0.actor m.0.seen ≡ m.0.mine)
+  Minds st m r n = (n ≡ m) × ((log : List (Logged E)) × StartsWith log m.0.seen × StartsWith log m.0.had × ((k : Joined E) → In k m.0.kept → StartsWith log k.seen))
+      × (own m.0.actor m.0.seen ≡ m.0.mine)

@@ -19,7 +19,8 @@ SeesOthers {S} {E} v w = (between : List (Logged E)) × (own v.actor between ≡
 
 -- it has seen more entries of others, and then its own event, which was ready there. The reply is the machine's after all the entries
 -- before that event
-pub record Enters {S E R A : Type 0} (next : S → ℕ → E → S) (is_ready : S → ℕ → E → Bool) (answer : R → A) (answer_to : S → ℕ → E → A) (tells : R → S → ℕ → E → Type 0) (v : PassView S E) (event : E) (reply : R) (w : PassView S E) : Type 0 where
+pub record Enters {S E R A : Type 0} (next : S → ℕ → E → S) (is_ready : S → ℕ → E → Bool) (answer : R → A) (answer_to : S → ℕ → E → A) (tells : R → S → ℕ → E → Type 0)
+    (v : PassView S E) (event : E) (reply : R) (w : PassView S E) : Type 0 where
   pub between : List (Logged E)
   pub others : own v.actor between ≡ []
   pub seen : w.seen ≡ (v.seen ++ between) ++ entry v.actor event ∷ []
@@ -47,7 +48,8 @@ IsLonger v w z = ((z.seen ≡ v.seen) ⊎ (z.seen ≡ w.seen)) × StartsWith z.s
 
 -- what is left of a book: the machine after a log in which each event was ready where it stands, and which begins with all that any
 -- pass had seen. The log's entries of each actor are the own events of its pass, and an actor without a pass has none
-pub record Ends {M S E : Type 0} (state : M → S) (next : S → ℕ → E → S) (is_ready : S → ℕ → E → Bool) (v : PassView S E) (log : List (Logged E)) (machine : M) : Type 0 where
+pub record Ends {M S E : Type 0} (state : M → S) (next : S → ℕ → E → S) (is_ready : S → ℕ → E → Bool) (v : PassView S E)
+    (log : List (Logged E)) (machine : M) : Type 0 where
   pub machine_is : state machine ≡ after next v.start log
   pub legal : is_legal next is_ready v.start log ≡ true
   pub seen : StartsWith log v.seen

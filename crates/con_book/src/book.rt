@@ -32,7 +32,8 @@ const YIELDS: u32 = 128;
 
 /// A machine that many threads use, one event at a time, and the one history of what they did.
 ///
-/// It is a ticket lock by design, behind a door that lets few threads draw a ticket at once; who is served first is no promise. Threads share it by reference, each with a [`Pass`] of its own.
+/// It is a ticket lock by design, behind a door that lets few threads draw a ticket at once; who is served first is no promise. Threads share it by
+/// reference, each with a [`Pass`] of its own.
 /// Every call takes a pass of this book (`pass_id` of the pass is `book_id` of the book).
 #[derive(Drop)]
 pub struct Book<M: Machine> {
@@ -224,8 +225,10 @@ impl<M: Machine> Book<M> {
     ) -> Result<Option<M::Reply>, OutOfMemory>
         requires book { pass_id pass.old ≡ book_id self.now }
         ensures pass { IsSamePass pass.old pass.new }
-        ensures entered { IfOk result (λ answer. IfSome answer (λ reply. Enters M.next M.is_ready M.answer M.answer_to M.tells (view_of pass.old) event reply (view_of pass.new))) }
-        ensures blocked { IfOk result (λ answer. IfNone answer (SeesOthers (view_of pass.old) (view_of pass.new) × IsBlocked M.next M.is_ready (view_of pass.new) event)) }
+        ensures entered { IfOk result (λ answer. IfSome answer (λ reply. Enters M.next M.is_ready M.answer M.answer_to M.tells
+            (view_of pass.old) event reply (view_of pass.new))) }
+        ensures blocked { IfOk result (λ answer. IfNone answer (SeesOthers (view_of pass.old) (view_of pass.new)
+            × IsBlocked M.next M.is_ready (view_of pass.new) event)) }
         ensures refused { IfErr result (λ _. SeesOthers (view_of pass.old) (view_of pass.new)) }
     {
         let _door = self.wait_at_door(rt);

@@ -13,7 +13,8 @@ use crate::machine::Machine;
 pub fn histories_are_joined<M: Machine>()
     ensures own { (a : ℕ) (xs ys : List (Logged M.Event)) → own a (xs ++ ys) ≡ own a xs ++ own a ys }
     ensures after { (s : M.State) (xs ys : List (Logged M.Event)) → after M.next s (xs ++ ys) ≡ after M.next (after M.next s xs) ys }
-    ensures legal { (s : M.State) (xs ys : List (Logged M.Event)) → is_legal M.next M.is_ready s (xs ++ ys) ≡ (is_legal M.next M.is_ready s xs && is_legal M.next M.is_ready (after M.next s xs) ys) }
+    ensures legal { (s : M.State) (xs ys : List (Logged M.Event)) → is_legal M.next M.is_ready s (xs ++ ys)
+        ≡ (is_legal M.next M.is_ready s xs && is_legal M.next M.is_ready (after M.next s xs) ys) }
 {}
 
 /// Of two beginnings of one history, one begins the other.
@@ -23,8 +24,10 @@ pub fn beginnings_begin_each_other<M: Machine>()
 
 /// A machine that counts its events does beside what it does without the count, and is ready alike.
 pub fn a_count_changes_nothing<M: Machine>()
-    ensures after { (s : Counted M.State) (xs : List (Logged M.Event)) → after (counting M.next) s xs ≡ record { state = after M.next s.state xs; entered = s.entered + length xs } }
-    ensures legal { (s : Counted M.State) (xs : List (Logged M.Event)) → is_legal (counting M.next) (λ c. M.is_ready c.state) s xs ≡ is_legal M.next M.is_ready s.state xs }
+    ensures after { (s : Counted M.State) (xs : List (Logged M.Event)) → after (counting M.next) s xs
+        ≡ record { state = after M.next s.state xs; entered = s.entered + length xs } }
+    ensures legal { (s : Counted M.State) (xs : List (Logged M.Event)) → is_legal (counting M.next) (λ c. M.is_ready c.state) s xs
+        ≡ is_legal M.next M.is_ready s.state xs }
 {}
 
 /// An actor with a number above all that were given a pass has none.

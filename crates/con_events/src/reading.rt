@@ -54,7 +54,8 @@ fn run_call<A: Arguments>(
     args: &mut A,
 ) -> Result<Call, Misread>
     ensures ok { IfOk result (λ c. (name_of c ≡ word_run name)
-        × (before (Number handle ∷ Signed x ∷ Signed y ∷ Number count ∷ []) (args_from (kinds_run name) (A.left args.old)) ≡ Some (args_of c, A.left args.new))) }
+        × (before (Number handle ∷ Signed x ∷ Signed y ∷ Number count ∷ []) (args_from (kinds_run name) (A.left args.old))
+        ≡ Some (args_of c, A.left args.new))) }
     ensures form { IfErr result (λ e. IsForm e → args_from (kinds_run name) (A.left args.old) ≡ None) }
 {
     match name {

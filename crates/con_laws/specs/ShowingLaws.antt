@@ -118,6 +118,7 @@ shows_all s h n e =
       }
     ]
 
-pub painted_shows : (session : Clients) (racks : List (List ℕ)) (h : List Entry) → is_ready (run (session_start session racks) h) actors.Painter events.Paint ≡ false
+pub painted_shows : (session : Clients) (racks : List (List ℕ)) (h : List Entry)
+    → is_ready (run (session_start session racks) h) actors.Painter events.Paint ≡ false
     → ShowsAll (session_start session racks) h
 painted_shows session racks h e = shows_all (session_start session racks) h refl e

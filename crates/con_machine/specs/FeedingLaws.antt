@@ -20,15 +20,18 @@ use Rattle.con_machine.specs.declared.reads.noted.Noted.{Noted}
 
 -- ---- the bytes that are held are looked at by nothing else
 
-shown_held : (s : State) (h : List ℕ) (n : Option Noted) (old new : Cooked) → line_shown (record s { held = h }) n old new ≡ record (line_shown s n old new) { held = h }
+shown_held : (s : State) (h : List ℕ) (n : Option Noted) (old new : Cooked)
+    → line_shown (record s { held = h }) n old new ≡ record (line_shown s n old new) { held = h }
 shown_held s h None old new = refl
 shown_held s h (Some n) old new = by_test (shows_line s.buffers n) refl
   where
-    by_test : (t : Bool) → shows_line s.buffers n ≡ t → line_shown (record s { held = h }) (Some n) old new ≡ record (line_shown s (Some n) old new) { held = h }
+    by_test : (t : Bool) → shows_line s.buffers n ≡ t
+        → line_shown (record s { held = h }) (Some n) old new ≡ record (line_shown s (Some n) old new) { held = h }
     by_test true e = rw e refl
     by_test false e = rw e refl
 
-finished_held : (s : State) (h : List ℕ) (n : Option Noted) (len : ℕ) → line_finished (record s { held = h }) n len ≡ record (line_finished s n len) { held = h }
+finished_held : (s : State) (h : List ℕ) (n : Option Noted) (len : ℕ)
+    → line_finished (record s { held = h }) n len ≡ record (line_finished s n len) { held = h }
 finished_held s h None len = refl
 finished_held s h (Some n) len = by_test (shows_line s.buffers n) refl
   where
@@ -68,7 +71,8 @@ report_held s h (Some r) = refl
 sequence_held : (s : State) (h bytes : List ℕ) → sequence_taken (record s { held = h }) bytes ≡ record (sequence_taken s bytes) { held = h }
 sequence_held s h bytes = by_test (has_bit s.mode 0x10)
   where
-    by_test : (t : Bool) → cond t (by_report (record s { held = h }) (report_of bytes)) (record s { held = h }) ≡ record (cond t (by_report s (report_of bytes)) s) { held = h }
+    by_test : (t : Bool) → cond t (by_report (record s { held = h }) (report_of bytes)) (record s { held = h })
+        ≡ record (cond t (by_report s (report_of bytes)) s) { held = h }
     by_test true = report_held s h (report_of bytes)
     by_test false = refl
 
@@ -83,7 +87,8 @@ pieces_held s h (p ∷ ps) = ap (λ (t : State). fold piece_taken t ps) (piece_h
 -- ---- bytes one after the other
 
 one_byte : (s : State) (h : List ℕ) (is : List Piece) (b : ℕ)
-    → fold piece_taken (record s { held = (next piece_grammar h b).tail }) (is ++ (next piece_grammar h b).items) ≡ byte_taken (fold piece_taken (record s { held = h }) is) b
+    → fold piece_taken (record s { held = (next piece_grammar h b).tail }) (is ++ (next piece_grammar h b).items)
+    ≡ byte_taken (fold piece_taken (record s { held = h }) is) b
 unfolding byte_taken
 one_byte s h is b =
     let n : Split Piece = next piece_grammar h b in
@@ -94,7 +99,8 @@ one_byte s h is b =
     left ∙ sym (ap (λ (t : State). let m : Split Piece = next piece_grammar t.held b in fold piece_taken (record t { held = m.tail }) m.items) here)
 
 all_bytes : (s : State) (h : List ℕ) (is : List Piece) (bytes : List ℕ)
-    → (let t : Split Piece = fold (read_on piece_grammar) (record { items = is; tail = h }) bytes in fold piece_taken (record s { held = t.tail }) t.items) ≡ fold byte_taken (fold piece_taken (record s { held = h }) is) bytes
+    → (let t : Split Piece = fold (read_on piece_grammar) (record { items = is; tail = h }) bytes in fold piece_taken (record s { held = t.tail }) t.items)
+    ≡ fold byte_taken (fold piece_taken (record s { held = h }) is) bytes
 all_bytes s h is [] = refl
 all_bytes s h is (b ∷ bs) =
     let n : Split Piece = next piece_grammar h b in

@@ -25,7 +25,8 @@ use Rattle.con_threads.specs.declared.ledger.LedgerView.{LedgerView}
 
 -- ---- one log behind another
 
-pub logged_entries-append : (s : State) (xs ys : List (Logged Event)) → logged_entries s (xs ++ ys) ≡ logged_entries s xs ++ logged_entries (run s (logged_entries s xs)) ys
+pub logged_entries-append : (s : State) (xs ys : List (Logged Event)) → logged_entries s (xs ++ ys)
+    ≡ logged_entries s xs ++ logged_entries (run s (logged_entries s xs)) ys
 logged_entries-append s [] ys = refl
 logged_entries-append s (x ∷ xs) ys =
     let f : List Entry = logged_front s (actor_of x.actor) x.event in

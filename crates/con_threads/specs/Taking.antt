@@ -84,4 +84,5 @@ pub record IsHistory (start : LedgerView) (n : ℕ) (painter side : PassView Led
   pub replies : rs ≡ map listed (replies_of start.state h)
   pub numbered : are_of_session n h ≡ true
   pub side' : SeesMore start.state actors.Terminal (logged_entries start.state side.seen) h
-  pub clients' : (k : ℕ) (w : PassView LedgerView Event) → slice_get clients k ≡ Some w → SeesMore start.state (actors.Client (k + 1)) (logged_entries start.state w.seen) h
+  pub clients' : (k : ℕ) (w : PassView LedgerView Event) → slice_get clients k ≡ Some w
+      → SeesMore start.state (actors.Client (k + 1)) (logged_entries start.state w.seen) h

@@ -102,7 +102,8 @@ pub fn make_edges(
     ensures open { IfOk result (λ e. is_finished e.put ≡ false) }
     ensures fine { IfOk result (λ e. (e.side.side.end ≡ End.Done) × (e.writer.failed ≡ false)) }
     ensures go { IfOk result (λ e. (session : Clients) (racks : List (List ℕ)) (before old : Option (List ℕ))
-        → (view_of opening.old).start.state ≡ session_start session racks → EdgesGo (begins session racks None) before before old old e.side e.painter e.put e.writer) }
+        → (view_of opening.old).start.state ≡ session_start session racks
+        → EdgesGo (begins session racks None) before before old old e.side e.painter e.put e.writer) }
 {
     let PipeEnds { put, take } = pipe(alloc, FRAMES)?;
     let side = SideThread {

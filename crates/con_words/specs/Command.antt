@@ -17,7 +17,14 @@ taking_files = with_word (with_word (with_word (with_word (new_app (codes "audit
 
 abbrev pub bare : App
 bare =
-    let a = new_app (codes "conpty") in record a { top = record a.top { no_binary_name = true; subcommand_required = true; disable_help_flag = true; disable_help_subcommand = true } }
+    let a = new_app (codes "conpty") in record a {
+      top = record a.top {
+        no_binary_name = true;
+        subcommand_required = true;
+        disable_help_flag = true;
+        disable_help_subcommand = true;
+      };
+    }
 
 -- a command with one subcommand more
 abbrev pub and_more : App → App → App

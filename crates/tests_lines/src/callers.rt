@@ -180,7 +180,8 @@ pub fn answered_from(records: &Records, histories: &Histories, aliases: &Aliases
         ≡ OpenRead.Done (Answer.Records (front (r ∷ rs) (served p aliases.now.programs (OpenRead.Records n) (r ∷ rs) histories.now).records)) }
     ensures units { (p n : ℕ) → is_done (served p aliases.now.programs (OpenRead.Units n) records.now.items histories.now).read ≡ true →
         (served p aliases.now.programs (OpenRead.Units n) records.now.items histories.now).read
-        ≡ OpenRead.Done (Answer.Units (units_of n (front records.now.items (served p aliases.now.programs (OpenRead.Units n) records.now.items histories.now).records))) }
+        ≡ OpenRead.Done (Answer.Units (units_of n (front records.now.items
+        (served p aliases.now.programs (OpenRead.Units n) records.now.items histories.now).records))) }
 {
     a_read_answers_its_piece();
     units_answer_their_piece();

@@ -20,7 +20,8 @@ pub fn short_report<R: Sink>(
     reply: &Reply,
     end: &EndLine,
 ) -> Result<(), Fault>
-    ensures { OnOk result (R.written out.new ≡ then_written (then_written (R.written out.old) (ended (line_text entry.now reply.now 0))) (ended (ending_text (ending_of end.now)))) }
+    ensures { OnOk result (R.written out.new ≡ then_written (then_written (R.written out.old) (ended (line_text entry.now reply.now 0)))
+        (ended (ending_text (ending_of end.now)))) }
 {
     write_entry(alloc, out, entry, reply, 0)?;
     write_end(alloc, out, end)
@@ -39,7 +40,8 @@ pub fn first_wrong(alloc: Global, bytes: &[u8]) -> Result<Option<u64>, OutOfMemo
 
 /// The status of bytes that are a report.
 pub fn status(alloc: Global, bytes: &[u8]) -> Result<Option<u8>, OutOfMemory>
-    ensures { IfOk result (λ found. IfSome found (λ s. (h : History) × (last : Ending) × IsHistory h × IsEnding last × (bytes.now ≡ report_of h last) × (s ≡ status_of last))) }
+    ensures { IfOk result (λ found. IfSome found (λ s. (h : History) × (last : Ending)
+        × IsHistory h × IsEnding last × (bytes.now ≡ report_of h last) × (s ≡ status_of last))) }
 {
     match read(alloc, bytes) {
         Ok(trace) => Ok(Some(trace.status)),
