@@ -34,3 +34,6 @@ returns-clause-outcome g c =
     let is = t.3 (λ e. cc) in
     let part : WrotePart (dump_after c.args.size t.0) (g.R.Sink.written c.args.report.now) (g.R.Sink.written c.write_whole.new.sink) = search rules in
     (t.0, t.1, cut_dump _ t.0 _ _ _ _ t.2 part)
+
+pub returns-in-Ok-write_whole-clause-outcome : goal.returns-in-Ok-write_whole-clause-outcome
+returns-in-Ok-write_whole-clause-outcome g c = search rules

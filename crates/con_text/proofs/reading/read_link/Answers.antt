@@ -1,4 +1,4 @@
-use Rattle.std.proofs.Common.{◌++◌, [], take, refl, arith}
+use Rattle.std.proofs.Common.{rules, ◌++◌, [], take, refl, arith}
 use Rattle.con_outside.specs.Laws.{then_left-none, then_left-more}
 use Rattle.con_text.proofs.Pieces.{length-more}
 use Rattle.con_text.proofs.reading.read_link.Goals as goal
@@ -32,3 +32,6 @@ returns-in-Err-hear-clause-taken g c =
     let long = length-more before.0 c.read.new.buf c.in-Ok.n c.loop-total.total before.3 c.in-Ok.ensures.bound in
     let some = c.loop-total-test.true in
     (before.0 ++ piece, then_left-more before.0 piece _ _ _ before.1 c.in-Ok.ensures.taken, omega (arith, long, some, c.in-Ok.ensures.bound), λ not. absurd (not refl))
+
+pub returns-clause-taken : goal.returns-clause-taken
+returns-clause-taken g c = search rules

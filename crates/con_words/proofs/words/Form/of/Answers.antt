@@ -14,3 +14,6 @@ returns-clause-form c =
     let few : may_be_form (map string_bytes c.args.words.now) ≡ true = search rules in
     let same : c.kind.result ≡ kind_of c.in-Err.error = c.kind.ensures in
     sym (refused (map string_bytes c.args.words.now) (kind_of c.in-Err.error) few (λ e. c.is_memory.ensures.other c.if-is_memory.false (same ∙ e)) c.in-Err.ensures.kinds)
+
+pub returns-in-Err-clause-form : goal.returns-in-Err-clause-form
+returns-in-Err-clause-form c = search rules
