@@ -14,3 +14,6 @@ returns-clause-units c = λ cursor_keys.
     let few = fed_short c.args.out.now.items c.take.new.out.items c.note.new.self.held c.take.new.self.held c.args.byte cursor_keys c.take.ensures.keys c.take.ensures.held in
     let few_of = rw c.note.ensures.held at few in
     search (rules, few_of)
+
+pub returns-clause-ended : goal.returns-clause-ended
+returns-clause-ended c = search rules
