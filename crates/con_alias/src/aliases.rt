@@ -29,7 +29,6 @@ pub struct Pair<'a> {
 }
 
 /// The aliases of all programs.
-#[derive(Drop)]
 pub struct Aliases {
     programs: IndexMap<Vec<u16>, ProgramAliases>,
     spare: usize,
@@ -45,6 +44,16 @@ impl Model for Aliases {
     ghost view = { λ a. record { programs = lists_of a.programs.entries; places = record { lists = places_of a.programs.entries; spare = a.spare } } };
 
     ghost invariant = { λ a. a.spare ≤ map_spare a.programs };
+}
+
+// By hand, so that what drops one has this call in its proof, and not all that lies in one.
+impl Drop for Aliases {
+    fn drop(self) {
+        let Aliases {
+            programs: _,
+            spare: _,
+        } = self;
+    }
 }
 
 fn is_length(text: &Units, most: usize) -> bool
@@ -146,7 +155,7 @@ impl Aliases {
                 list: None,
             });
         }
-        let Units(program) = program.copied()?;
+        let program = program.copied()?.into_vec();
         let list = ProgramAliases::new(alloc)?;
         Ok(AliasRoom {
             new: Some(new),

@@ -17,7 +17,6 @@ const MOST_HISTORIES: usize = 64;
 const MOST_LINES: u32 = 999;
 
 /// The histories of all programs.
-#[derive(Drop)]
 pub struct Histories {
     used: Vec<History>,
     info: HistoryInfo,
@@ -32,6 +31,13 @@ impl Model for Histories {
     ghost view = { λ a. record { used = a.used.items; info = a.info } };
 
     ghost invariant = { λ a. IsSound a.used a.info };
+}
+
+// By hand, so that what drops one has this call in its proof, and not all that lies in one.
+impl Drop for Histories {
+    fn drop(self) {
+        let Histories { used: _, info: _ } = self;
+    }
 }
 
 // The place of a program's history.
@@ -180,8 +186,9 @@ impl Histories {
             self.used.push_reserved(history);
             return true;
         }
-        let HistoryRoom { fresh } = room;
-        let Some(fresh) = fresh else { unreachable!() };
+        let Some(fresh) = room.into_fresh() else {
+            unreachable!()
+        };
         if self.used.len() >= self.info.number as usize {
             let idle = first_idle(&self.used, busy);
             if idle == self.used.len() {
@@ -256,7 +263,7 @@ impl Histories {
     /// Changes the settings. Refused as a bad argument: no line or more than 999, no history or more than 64, another
     /// flag than 0 and 1. Where too many histories exist, the least recently used ones go; the others keep their newest
     /// lines.
-    pub fn configure(&mut self, info: HistoryInfo, room: ConfigRoom) -> Result<(), Code>
+    pub fn configure(&mut self, info: HistoryInfo, mut room: ConfigRoom) -> Result<(), Code>
         requires { room ≡ room_for_configure self.old info }
         ensures histories { self.new ≡ configured self.old info }
         ensures refused { IsErr result ↔ IsTrue (is_refused info) }
@@ -265,9 +272,12 @@ impl Histories {
         if refused(&info) {
             return Err(Code::BadArgument);
         }
-        let ConfigRoom { mut buffers } = room;
         drop_oldest(&mut self.used, info.number as usize);
-        move_all(self.used.as_mut_slice(), &mut buffers, info.lines as usize);
+        move_all(
+            self.used.as_mut_slice(),
+            &mut room.buffers,
+            info.lines as usize,
+        );
         self.info = info;
         Ok(())
     }

@@ -9,7 +9,6 @@ use std::alloc::Global;
 use std::marker::Model;
 
 /// Room for [`Histories::use_of`](crate::Histories::use_of): an empty history, where the program has none.
-#[derive(Drop)]
 pub struct HistoryRoom {
     pub(crate) fresh: Option<History>,
 }
@@ -23,8 +22,24 @@ impl Model for HistoryRoom {
     ghost view = { λ room. room.fresh };
 }
 
+// By hand, so that what drops one has this call in its proof, and not all that lies in one.
+impl Drop for HistoryRoom {
+    fn drop(self) {
+        let HistoryRoom { fresh: _ } = self;
+    }
+}
+
+impl HistoryRoom {
+    /// The history itself.
+    pub(crate) fn into_fresh(self) -> Option<History>
+        ensures { result ≡ self }
+    {
+        let HistoryRoom { fresh } = self;
+        fresh
+    }
+}
+
 /// An empty buffer for lines. Contracts see how many fit.
-#[derive(Drop)]
 pub struct EmptyLines {
     lines: HeapCircularBuffer<Kept>,
 }
@@ -37,6 +52,13 @@ impl Model for EmptyLines {
     ghost view = { λ empty. empty.lines.capacity };
 
     ghost invariant = { λ empty. empty.lines.items ≡ [] };
+}
+
+// By hand, so that what drops one has this call in its proof, and not all that lies in one.
+impl Drop for EmptyLines {
+    fn drop(self) {
+        let EmptyLines { lines: _ } = self;
+    }
 }
 
 impl EmptyLines {
@@ -55,12 +77,12 @@ impl EmptyLines {
         ensures empty { result.items ≡ [] }
         ensures capacity { result.capacity ≡ self }
     {
-        self.lines
+        let EmptyLines { lines } = self;
+        lines
     }
 }
 
 /// Room for [`Histories::configure`](crate::Histories::configure): a buffer of the new capacity for each history that stays.
-#[derive(Drop)]
 pub struct ConfigRoom {
     pub(crate) buffers: Vec<EmptyLines>,
 }
@@ -71,4 +93,11 @@ impl Model for ConfigRoom {
     ghost Value = { List ℕ };
 
     ghost view = { λ room. room.buffers.items };
+}
+
+// By hand, so that what drops one has this call in its proof, and not all that lies in one.
+impl Drop for ConfigRoom {
+    fn drop(self) {
+        let ConfigRoom { buffers: _ } = self;
+    }
 }

@@ -66,7 +66,7 @@ fn run(alloc: Global, seed: u32) -> Result<Generation, OutOfMemory>
     if !is_done(outcome.end) {
         return Err(OutOfMemory);
     }
-    finished(alloc, &session, &outcome, term.written.0)
+    finished(alloc, &session, &outcome, term.written.into_vec())
 }
 
 /// Runs the generated session of a number by turns, without a link: its stream to the terminal, its summary to the report. The stream is

@@ -19,7 +19,6 @@ use std::alloc::Global;
 use std::marker::Model;
 
 /// A painter of views on one terminal. Contracts see what it keeps of the view that it painted last.
-#[derive(Drop)]
 pub struct Painter {
     size: Size,
     known: bool,
@@ -40,6 +39,21 @@ impl Model for Painter {
     ghost view = { kept_of };
 
     ghost invariant = { IsInside };
+}
+
+// By hand, so that what drops one has this call in its proof, and not all that lies in one.
+impl Drop for Painter {
+    fn drop(self) {
+        let Painter {
+            size: _,
+            known: _,
+            shadow: _,
+            sums: _,
+            attr: _,
+            spot: _,
+            visible: _,
+        } = self;
+    }
 }
 
 /// The spare, in bytes, that any frame of this size needs.

@@ -8,7 +8,6 @@ use std::collections::VecDeque;
 use std::marker::Model;
 
 /// At most 64 events that wait, oldest first. Putting one in takes no memory.
-#[derive(Drop)]
 pub struct Pending {
     events: VecDeque<u32>,
 }
@@ -22,6 +21,13 @@ impl Model for Pending {
     ghost view = { λ a. a.events.items };
 
     ghost invariant = { λ a. (deque_len a.events ≤ 64) × (64 ≤ deque_capacity a.events) };
+}
+
+// By hand, so that what drops one has this call in its proof, and not all that lies in one.
+impl Drop for Pending {
+    fn drop(self) {
+        let Pending { events: _ } = self;
+    }
 }
 
 impl Pending {

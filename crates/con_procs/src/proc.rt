@@ -19,7 +19,6 @@ pub struct ProcStart {
 }
 
 /// A process.
-#[derive(Drop)]
 pub struct Proc {
     /// The name of its program.
     pub program: Units,
@@ -33,6 +32,20 @@ pub struct Proc {
     pub pending: Pending,
     /// The handlers that it may add.
     pub rack: Rack,
+}
+
+// By hand, so that what drops one has this call in its proof, and not all that lies in one.
+impl Drop for Proc {
+    fn drop(self) {
+        let Proc {
+            program: _,
+            group: _,
+            ignore: _,
+            ended: _,
+            pending: _,
+            rack: _,
+        } = self;
+    }
 }
 
 impl Proc {

@@ -10,7 +10,6 @@ use std::alloc::Global;
 use std::marker::Model;
 
 /// The processes. The first has the number 1.
-#[derive(Drop)]
 pub struct Procs {
     procs: Vec<Proc>,
     // Those of the attached processes.
@@ -27,6 +26,16 @@ impl Model for Procs {
     ghost view = { λ a. a.procs.items };
 
     ghost invariant = { λ a. (vec_len a.procs ≤ 255) × (a.programs.items ≡ programs_of a.procs.items) };
+}
+
+// By hand, so that what drops one has this call in its proof, and not all that lies in one.
+impl Drop for Procs {
+    fn drop(self) {
+        let Procs {
+            procs: _,
+            programs: _,
+        } = self;
+    }
 }
 
 fn weight(p: &Proc) -> usize

@@ -31,7 +31,6 @@ pub enum OpenRead {
 }
 
 /// A process's read.
-#[derive(Drop)]
 pub struct Open {
     /// Whose read it is, from 1 on.
     pub process: u8,
@@ -39,6 +38,17 @@ pub struct Open {
     pub started: bool,
     /// What it wants, or its answer.
     pub read: OpenRead,
+}
+
+// By hand, so that what drops one has this call in its proof, and not all that lies in one.
+impl Drop for Open {
+    fn drop(self) {
+        let Open {
+            process: _,
+            started: _,
+            read: _,
+        } = self;
+    }
 }
 
 /// A read after a step, and what the step was.

@@ -8,7 +8,6 @@ use std::alloc::Global;
 use std::marker::Model;
 
 /// A read of at most so many records, of one at least, with room for these. Contracts see how many it wants.
-#[derive(Drop)]
 pub struct WantsRecords {
     n: usize,
     room: Vec<Record>,
@@ -22,6 +21,13 @@ impl Model for WantsRecords {
     ghost view = { λ a. a.n };
 
     ghost invariant = { λ a. (a.n ≤ vec_capacity a.room) × (vec_len a.room ≡ 0) × (0 < a.n) };
+}
+
+// By hand, so that what drops one has this call in its proof, and not all that lies in one.
+impl Drop for WantsRecords {
+    fn drop(self) {
+        let WantsRecords { n: _, room: _ } = self;
+    }
 }
 
 impl WantsRecords {

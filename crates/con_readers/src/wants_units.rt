@@ -8,7 +8,6 @@ use std::alloc::Global;
 use std::marker::Model;
 
 /// A read of at most so many units, with room for these. Contracts see how many it wants.
-#[derive(Drop)]
 pub struct WantsUnits {
     n: usize,
     room: Vec<u16>,
@@ -22,6 +21,13 @@ impl Model for WantsUnits {
     ghost view = { λ a. a.n };
 
     ghost invariant = { λ a. (a.n ≤ vec_capacity a.room) × (vec_len a.room ≡ 0) × (0 < a.n) };
+}
+
+// By hand, so that what drops one has this call in its proof, and not all that lies in one.
+impl Drop for WantsUnits {
+    fn drop(self) {
+        let WantsUnits { n: _, room: _ } = self;
+    }
 }
 
 /// The unit of a key-down, or 0.

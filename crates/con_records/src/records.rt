@@ -9,7 +9,6 @@ use std::collections::VecDeque;
 use std::marker::Model;
 
 /// Records in order of arrival. Contracts also see how many more are promised to fit.
-#[derive(Drop)]
 pub struct Records {
     queue: VecDeque<Record>,
     spare: usize,
@@ -25,6 +24,13 @@ impl Model for Records {
     ghost view = { λ a. record { items = a.queue.items; spare = a.spare } };
 
     ghost invariant = { λ a. deque_len a.queue + a.spare ≤ deque_capacity a.queue };
+}
+
+// By hand, so that what drops one has this call in its proof, and not all that lies in one.
+impl Drop for Records {
+    fn drop(self) {
+        let Records { queue: _, spare: _ } = self;
+    }
 }
 
 impl Records {

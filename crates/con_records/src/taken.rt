@@ -4,7 +4,6 @@ use crate::record::Record;
 use std::marker::Model;
 
 /// Records that were taken out of a queue, or are to be put in. Contracts see the list, and no capacity.
-#[derive(Drop)]
 pub struct Taken(pub Vec<Record>);
 
 impl Model for Taken {
@@ -14,4 +13,11 @@ impl Model for Taken {
     ghost Value = { List Record };
 
     ghost view = { λ t. t.0.items };
+}
+
+// By hand, so that what drops one has this call in its proof, and not all that lies in one.
+impl Drop for Taken {
+    fn drop(self) {
+        let Taken(_) = self;
+    }
 }

@@ -8,7 +8,6 @@ use std::alloc::Global;
 use std::marker::Model;
 
 /// The memory of a buffer, for `create`.
-#[derive(Drop)]
 pub struct NewBuffer {
     buffer: Buffer,
 }
@@ -19,6 +18,13 @@ impl Model for NewBuffer {
     ghost Value = { Buffer };
 
     ghost view = { λ r. r.buffer };
+}
+
+// By hand, so that what drops one has this call in its proof, and not all that lies in one.
+impl Drop for NewBuffer {
+    fn drop(self) {
+        let NewBuffer { buffer: _ } = self;
+    }
 }
 
 impl NewBuffer {

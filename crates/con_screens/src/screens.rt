@@ -20,7 +20,6 @@ use std::alloc::Global;
 use std::marker::Model;
 
 /// The screen buffers of a console: the main one, at most seven others, and which one is active.
-#[derive(Drop)]
 pub struct Screens {
     slots: Vec<Option<Buffer>>,
     w: u16,
@@ -37,6 +36,19 @@ impl Model for Screens {
     ghost use Rattle.con_screens.specs.Views.{buffers_of};
 
     ghost view = { buffers_of };
+}
+
+// By hand, so that what drops one has this call in its proof, and not all that lies in one.
+impl Drop for Screens {
+    fn drop(self) {
+        let Screens {
+            slots: _,
+            w: _,
+            h: _,
+            active: _,
+            births: _,
+        } = self;
+    }
 }
 
 impl Screens {
@@ -373,15 +385,14 @@ impl Screens {
     /// Resizes the window in every buffer. A side of a main screen that is the window's becomes the new one, another the
     /// larger of itself and the new one; an alternate screen takes the window's size. The room must have been made in
     /// this state.
-    pub fn resize_all(&mut self, fits: AllFits)
+    pub fn resize_all(&mut self, mut fits: AllFits)
         requires buffers { AreBuffers self.old }
         requires fits { AreFits self.old fits }
         ensures buffers { self.new ≡ all_resized self.old fits.window }
         ensures kept { AreBuffers self.new }
     {
-        let AllFits { window, mut slots } = fits;
-        resize_slots(&mut self.slots, &mut slots, window);
-        self.w = window.w;
-        self.h = window.h;
+        resize_slots(&mut self.slots, &mut fits.slots, fits.window);
+        self.w = fits.window.w;
+        self.h = fits.window.h;
     }
 }

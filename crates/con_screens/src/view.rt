@@ -172,7 +172,7 @@ pub fn renewed(screen: &Screen, size: Size, last: View) -> View
     requires known { WasShown (sides screen.now.page) screen.now.page.left screen.now.page.top last }
     ensures { result ≡ view_of screen.now.page }
 {
-    let mut rows = last.rows;
+    let mut rows = last.into_rows();
     let (left, top) = corner(screen);
     let (cursor, shown) = cursor_of(screen, size);
     renew_cells(screen.grid(), left, top, size, &mut rows.0);

@@ -6,7 +6,6 @@ use crate::code::OutOfMemory;
 use std::marker::Model;
 
 /// The UTF-16 code units of a text.
-#[derive(Drop)]
 pub struct Units(pub Vec<u16>);
 
 impl Model for Units {
@@ -17,12 +16,27 @@ impl Model for Units {
     ghost view = { λ list. list.0.items };
 }
 
+// By hand, so that what drops one has this call in its proof, and not all that lies in one.
+impl Drop for Units {
+    fn drop(self) {
+        let Units(_) = self;
+    }
+}
+
 impl Units {
     /// The units in order.
     pub fn as_slice(&self) -> &[u16]
         ensures { result.now ≡ self.now }
     {
         self.0.as_slice()
+    }
+
+    /// The vector of the units.
+    pub fn into_vec(self) -> Vec<u16>
+        ensures { result.items ≡ self }
+    {
+        let Units(list) = self;
+        list
     }
 
     /// How many there are.
@@ -51,7 +65,6 @@ impl Units {
 }
 
 /// Bytes as they go over a wire.
-#[derive(Drop)]
 pub struct Bytes(pub Vec<u8>);
 
 impl Model for Bytes {
@@ -62,12 +75,27 @@ impl Model for Bytes {
     ghost view = { λ list. list.0.items };
 }
 
+// By hand, so that what drops one has this call in its proof, and not all that lies in one.
+impl Drop for Bytes {
+    fn drop(self) {
+        let Bytes(_) = self;
+    }
+}
+
 impl Bytes {
     /// The bytes in order.
     pub fn as_slice(&self) -> &[u8]
         ensures { result.now ≡ self.now }
     {
         self.0.as_slice()
+    }
+
+    /// The vector of the bytes.
+    pub fn into_vec(self) -> Vec<u8>
+        ensures { result.items ≡ self }
+    {
+        let Bytes(list) = self;
+        list
     }
 
     /// How many there are.
@@ -96,7 +124,6 @@ impl Bytes {
 }
 
 /// The cells of rows of one width, row by row from the top, each from the left.
-#[derive(Drop)]
 pub struct Rows(pub Vec<Cell>);
 
 impl Model for Rows {
@@ -106,6 +133,13 @@ impl Model for Rows {
     ghost Value = { List Glyph };
 
     ghost view = { λ list. list.0.items };
+}
+
+// By hand, so that what drops one has this call in its proof, and not all that lies in one.
+impl Drop for Rows {
+    fn drop(self) {
+        let Rows(_) = self;
+    }
 }
 
 impl Rows {
@@ -142,7 +176,6 @@ impl Rows {
 }
 
 /// A mark for each row of a view, from the top: a row without one is as it was.
-#[derive(Drop)]
 pub struct Marks(pub Vec<bool>);
 
 impl Model for Marks {
@@ -151,6 +184,13 @@ impl Model for Marks {
     ghost Value = { List Bool };
 
     ghost view = { λ list. list.0.items };
+}
+
+// By hand, so that what drops one has this call in its proof, and not all that lies in one.
+impl Drop for Marks {
+    fn drop(self) {
+        let Marks(_) = self;
+    }
 }
 
 impl Marks {

@@ -19,7 +19,6 @@ enum Held {
 }
 
 /// A decoder that is fed byte by byte. Contracts see it as the bytes that it holds.
-#[derive(Drop)]
 pub struct Utf8 {
     held: Held,
 }
@@ -34,6 +33,13 @@ impl Model for Utf8 {
     ghost view = { λ u. held_bytes u.held };
 
     ghost invariant = { λ u. IsHeld u.held };
+}
+
+// By hand, so that what drops one has this call in its proof, and not all that lies in one.
+impl Drop for Utf8 {
+    fn drop(self) {
+        let Utf8 { held: _ } = self;
+    }
 }
 
 /// The characters that a byte completes, the earlier one first.

@@ -9,7 +9,6 @@ use crate::place::{Coord, Size};
 pub struct BufferId(pub u32);
 
 /// The window of a screen, as a terminal is to show it.
-#[derive(Drop)]
 pub struct View {
     /// The window's size, in cells.
     pub size: Size,
@@ -19,6 +18,33 @@ pub struct View {
     pub cursor: Coord,
     /// Whether the cursor shows, and stands in the window.
     pub visible: bool,
+}
+
+// By hand, so that what drops one has this call in its proof, and not all that lies in one.
+impl Drop for View {
+    fn drop(self) {
+        let View {
+            size: _,
+            rows: _,
+            cursor: _,
+            visible: _,
+        } = self;
+    }
+}
+
+impl View {
+    /// The cells alone, row by row.
+    pub fn into_rows(self) -> Rows
+        ensures { result ≡ self.rows }
+    {
+        let View {
+            size: _,
+            rows,
+            cursor: _,
+            visible: _,
+        } = self;
+        rows
+    }
 }
 
 /// What a terminal's size or picture becomes.

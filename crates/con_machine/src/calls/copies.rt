@@ -23,7 +23,7 @@ pub(crate) fn text_in(room: Units, units: &[u16]) -> Result<Units, OutOfMemory>
     requires { room ≡ [] }
     ensures { IfOk result (λ u. u ≡ units.now) }
 {
-    let Units(mut list) = room;
+    let mut list = room.into_vec();
     if list.reserve(units.len()).is_err() {
         return Err(OutOfMemory);
     }

@@ -58,7 +58,7 @@ pub(crate) fn part_told(note: &Noted, units: Units) -> Units
     ensures { result ≡ part_told note.now units }
 {
     let end = part_end(note, units.as_slice());
-    let Units(mut list) = units;
+    let mut list = units.into_vec();
     list.truncate(end);
     Units(list)
 }
