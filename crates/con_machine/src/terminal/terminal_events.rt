@@ -6,7 +6,7 @@ ghost use Rattle.con_machine.specs.TerminalRooms.{IsSideRoom};
 
 use crate::console::Console;
 use crate::ready::is_size;
-use crate::rooms::terminal_room::SideRoom;
+use crate::rooms::terminal_room::SideRoom::{self, Fits, Keys};
 use crate::rooms::unused::done;
 use con_events::{Event, Reply};
 use con_units::OutOfMemory;
@@ -62,23 +62,17 @@ impl Console {
     {
         match event {
             Event::Feed(bytes) => {
-                let SideRoom::Keys(keys) = room else {
-                    unreachable!()
-                };
+                let Keys(keys) = room else { unreachable!() };
                 self.feed(bytes.as_slice(), keys);
                 Reply::Done
             }
             Event::Quiet => {
-                let SideRoom::Keys(keys) = room else {
-                    unreachable!()
-                };
+                let Keys(keys) = room else { unreachable!() };
                 self.quiet(keys);
                 Reply::Done
             }
             Event::Resize(_) => {
-                let SideRoom::Fits(fits) = room else {
-                    unreachable!()
-                };
+                let Fits(fits) = room else { unreachable!() };
                 self.resize(fits);
                 Reply::Done
             }
