@@ -155,7 +155,8 @@ impl Aliases {
                 list: None,
             });
         }
-        let program = program.copied()?.into_vec();
+        let copy = program.copied()?;
+        let program = copy.into_vec();
         let list = ProgramAliases::new(alloc)?;
         Ok(AliasRoom {
             new: Some(new),

@@ -21,6 +21,6 @@ returns c =
     let p : List ℕ = c.args.program.now in
     let good : is_bad p c.args.source.now c.args.target.now ≡ false = sym c.refused.ensures.refused ∙ c.if-refused.false in
     let fresh : is_known (lists_of es) p ≡ false = known-lists es p ∙ ap (λ q. is_some (lookup (sought q) es)) (sym c.as_slice.ensures) ∙ sym c.contains_key.ensures ∙ c.if-contains_key.false in
-    let named : c.program.inside.0.items ≡ p = c.program.view_is ∙ c.in_ok-program.ensures in
-    let empty : listed c.program.inside.0.items c.in_ok-list.list ≡ empty_list p = ap (λ q. listed q c.in_ok-list.list) named ∙ ap (listed p) c.in_ok-list.ensures in
-    rw (← c.self.view_is) (room-fresh (lists_of es) p c.args.source.now c.args.target.now c.in_ok-new.new (listed c.program.inside.0.items c.in_ok-list.list) good fresh c.in_ok-new.ensures empty)
+    let named : c.into_vec-program.result.items ≡ p = c.into_vec-program.ensures ∙ c.in_ok-copy.ensures in
+    let empty : listed c.into_vec-program.result.items c.in_ok-list.list ≡ empty_list p = ap (λ q. listed q c.in_ok-list.list) named ∙ ap (listed p) c.in_ok-list.ensures in
+    rw (← c.self.view_is) (room-fresh (lists_of es) p c.args.source.now c.args.target.now c.in_ok-new.new (listed c.into_vec-program.result.items c.in_ok-list.list) good fresh c.in_ok-new.ensures empty)
