@@ -1,11 +1,16 @@
 //! Wanted lines beside those that came.
+ghost use Rattle.std.specs.Prelude.{◌≡◌, ◌≢◌, ◌<◌, ◌≤◌, ℕ, true, false, length, drop, map, string_bytes, MatchOption};
+ghost use Rattle.std.specs.List.{list_all};
+ghost use Rattle.case_files.specs.Wanted.{number_len, begins, is_space, first_is, begins_with, same_len};
+ghost use Rattle.case_files.specs.Wanted.{is_told as told_by, is_blank_up_to as blank_up_to, is_shown as shown_by, is_line as line_by, is_blank as blank_row};
+
 use crate::fault::{Fault, Wrong};
 use crate::part::Line;
 use crate::strings::{Kind, Quoted, byte_list, strings_in, unit_list};
 use std::alloc::{AllocError, Global};
 
 /// What stands for a number in a wanted line.
-const NUMBER: char = '\0';
+const NUMBER: u8 = 0;
 
 /// How a line is compared with a wanted one.
 #[derive(Clone, Copy, PartialEq, Eq)]
@@ -59,7 +64,7 @@ pub fn report_lines<'a>(alloc: Global, lines: &[Line<'a>]) -> Result<Vec<Wanted<
 // Puts what stands outside of strings last.
 fn push_bare(out: &mut String, bare: &str) -> Result<(), AllocError> {
     for c in bare.chars() {
-        out.push(if c == '?' { NUMBER } else { c })?;
+        out.push(if c == '?' { char::from(NUMBER) } else { c })?;
     }
     Ok(())
 }
@@ -129,15 +134,13 @@ fn bytes_told(alloc: Global, bytes: &[u8]) -> Result<String, AllocError> {
 }
 
 /// Whether a line of a report is the one that a wanted line stands for.
-pub fn is_told(wanted: &str, line: &str) -> bool {
-    let mut rest = line;
-    for c in wanted.chars() {
-        let behind = if c == NUMBER {
-            behind_number(rest)
-        } else {
-            rest.strip_prefix(c)
-        };
-        match behind {
+pub fn is_told(wanted: &str, line: &str) -> bool
+    ensures { result ≡ told_by wanted.now line.now }
+{
+    let signs = wanted.as_bytes();
+    let mut rest = line.as_bytes();
+    for sign in signs {
+        match behind(*sign, rest) {
             Some(behind) => rest = behind,
             None => return false,
         }
@@ -145,65 +148,151 @@ pub fn is_told(wanted: &str, line: &str) -> bool {
     rest.is_empty()
 }
 
-/// What stands behind the number that a text begins with.
-pub fn behind_number<'a>(text: &'a str) -> Option<&'a str> {
-    let behind = text.trim_start_matches(|c: char| c.is_ascii_digit());
-    if behind.len() < text.len() {
-        Some(behind)
-    } else {
-        None
+// What stands behind a sign of a wanted line, where a text begins with what it stands for.
+fn behind(sign: u8, text: &[u8]) -> Option<&[u8]>
+    ensures number { sign ≡ 0 → MatchOption result (number_len text.now ≡ 0)
+        (λ x. (0 < number_len text.now) × (x.now ≡ drop (number_len text.now) text.now)) }
+    ensures other { sign ≢ 0 → MatchOption result (begins sign text.now ≡ false)
+        (λ x. (begins sign text.now ≡ true) × (x.now ≡ drop 1 text.now)) }
+{
+    if sign == NUMBER {
+        return behind_number(text);
+    }
+    match text.split_first() {
+        Some((first, rest)) if *first == sign => Some(rest),
+        _ => None,
+    }
+}
+
+// What stands behind the number that a text begins with.
+fn behind_number(text: &[u8]) -> Option<&[u8]>
+    ensures { MatchOption result (number_len text.now ≡ 0)
+        (λ x. (0 < number_len text.now) × (x.now ≡ drop (number_len text.now) text.now)) }
+{
+    let digits = digits(text);
+    if digits == 0 {
+        return None;
+    }
+    text.get(digits..)
+}
+
+// How many digits a text begins with.
+fn digits(text: &[u8]) -> usize
+    ensures few { result ≤ length text.now }
+    ensures value { result ≡ number_len text.now }
+{
+    for (at, c) in text.iter().enumerate() {
+        if !c.is_ascii_digit() {
+            return at;
+        }
+    }
+    text.len()
+}
+
+// Whether a text is spaces alone.
+fn are_spaces(text: &[u8]) -> bool
+    ensures { result ≡ list_all is_space text.now }
+{
+    for c in text {
+        if *c != b' ' {
+            return false;
+        }
+    }
+    true
+}
+
+// Whether a text is spaces, and behind them a mark.
+fn is_blank_up_to(mark: u8, text: &[u8]) -> bool
+    ensures { result ≡ blank_up_to mark text.now }
+{
+    match text.strip_suffix(&[mark]) {
+        Some(spaces) => are_spaces(spaces),
+        None => false,
     }
 }
 
 // Whether a line of a dump is the wanted one.
-fn is_shown(wanted: &str, line: &str) -> bool {
-    if let Some(front) = wanted.strip_suffix('>') {
-        let Some(row) = line.strip_suffix('|') else {
-            return false;
-        };
-        return match row.strip_prefix(front) {
-            Some(rest) => rest.chars().all(|c| c == ' '),
-            None => false,
-        };
+fn is_shown(wanted: &str, line: &str) -> bool
+    ensures { result ≡ shown_by wanted.now line.now }
+{
+    let (wanted, line) = (wanted.as_bytes(), line.as_bytes());
+    let Some(front) = wanted.strip_suffix(b">") else {
+        return wanted == line;
+    };
+    match line.strip_prefix(front) {
+        Some(rest) => is_blank_up_to(b'|', rest),
+        None => false,
     }
-    wanted == line
 }
 
 /// Whether a line is the wanted one.
-pub fn is_line(way: Way, wanted: &str, line: &str) -> bool {
+pub fn is_line(way: Way, wanted: &str, line: &str) -> bool
+    ensures { result ≡ line_by way wanted.now line.now }
+{
     match way {
         Way::Report => is_told(wanted, line),
         Way::Dump => is_shown(wanted, line),
-        Way::Picture => wanted == line,
+        Way::Picture => wanted.as_bytes() == line.as_bytes(),
     }
 }
 
 /// Whether a line of a dump, also a wanted one, is a row of spaces.
-pub fn is_blank(line: &str) -> bool {
-    let Some(row) = line.strip_prefix('|') else {
-        return false;
-    };
-    match row.strip_suffix('|').or(row.strip_suffix('>')) {
-        Some(row) => row.chars().all(|c| c == ' '),
+pub fn is_blank(line: &str) -> bool
+    ensures { result ≡ blank_row line.now }
+{
+    match line.as_bytes().split_first() {
+        Some((b'|', rest)) => is_blank_up_to(b'|', rest) || is_blank_up_to(b'>', rest),
+        _ => false,
+    }
+}
+
+// Whether the first of some lines is the wanted one.
+fn is_first(way: Way, wanted: &str, lines: &[&str]) -> bool
+    ensures { result ≡ first_is way wanted.now (map (λ l. l.now) lines.now) }
+{
+    match lines.split_first() {
+        Some((line, _)) => is_line(way, wanted, *line),
+        None => false,
+    }
+}
+
+// Whether the line at a place is the wanted one.
+#[tactic(auto, using(crate::proofs::Lines::none_from))]
+fn is_at(way: Way, wanted: &str, lines: &[&str], at: usize) -> bool
+    ensures { result ≡ first_is way wanted.now (map (λ l. l.now) (drop at lines.now)) }
+{
+    match lines.get(at..) {
+        Some(rest) => is_first(way, wanted, rest),
         None => false,
     }
 }
 
 // The place of the first of some lines that does not begin those that came.
-fn first_other(way: Way, wanted: &[Wanted<'_>], lines: &[&str]) -> Option<usize> {
+fn first_other(way: Way, wanted: &[Wanted<'_>], lines: &[&str]) -> Option<usize>
+    ensures { MatchOption result (begins_with way (map (λ w. string_bytes w.text) wanted.now) (map (λ l. l.now) lines.now) ≡ true)
+        (λ at. (begins_with way (map (λ w. string_bytes w.text) wanted.now) (map (λ l. l.now) lines.now) ≡ false)
+        × (at ≡ same_len way (map (λ w. string_bytes w.text) wanted.now) (map (λ l. l.now) lines.now))) }
+{
     for (at, one) in wanted.iter().enumerate() {
-        match lines.get(at) {
-            Some(line) if is_line(way, one.text.as_str(), *line) => {}
-            _ => return Some(at),
+        if !is_at(way, one.text.as_str(), lines, at) {
+            return Some(at);
         }
     }
     None
 }
 
 // Where some lines first stand from a place on.
-fn found(way: Way, wanted: &[Wanted<'_>], lines: &[&str], from: usize) -> Option<usize> {
-    for at in from..=lines.len() {
-        if first_other(way, wanted, lines.get(at..).unwrap_or(&[])).is_none() {
+fn found(way: Way, wanted: &[Wanted<'_>], lines: &[&str], from: usize) -> Option<usize>
+    ensures { MatchOption result
+        ((k : ℕ) → from ≤ k → k ≤ length lines.now
+        → begins_with way (map (λ w. string_bytes w.text) wanted.now) (map (λ l. l.now) (drop k lines.now)) ≡ false)
+        (λ at. (from ≤ at) × (at ≤ length lines.now)
+        × (begins_with way (map (λ w. string_bytes w.text) wanted.now) (map (λ l. l.now) (drop at lines.now)) ≡ true)
+        × ((k : ℕ) → from ≤ k → k < at
+        → begins_with way (map (λ w. string_bytes w.text) wanted.now) (map (λ l. l.now) (drop k lines.now)) ≡ false)) }
+{
+    for at in from..lines.len() + 1 {
+        if first_other(way, wanted, &lines[at..]).is_none() {
             return Some(at);
         }
     }

@@ -5,8 +5,7 @@ use case_files::fault::{Fault, Wrong};
 use case_files::part::{Head, Line, Part, first_word};
 use case_files::setup::{Failing, Setup, all_bytes, number};
 use case_files::wanted::{
-    Difference, Wanted, Way, behind_number, dump_lines, first_difference, is_blank, is_line,
-    report_lines,
+    Difference, Wanted, Way, dump_lines, first_difference, is_blank, is_line, report_lines,
 };
 use con_ending::MEMORY;
 use std::alloc::{AllocError, Global};

@@ -1,10 +1,7 @@
-use denote.Text.{Utf8}
-use denote.Shadow.{shadow}
+-- what is left of the line is told of by what is left of the wanted one
+use Rattle.std.proofs.Common.{◌≡◌, drop}
+use Rattle.case_files.specs.Wanted.{is_told}
 use Rattle.case_files.proofs.wanted.is_told.Given as goal
 
--- what is left is text
-abbrev pub invariant-loop-c : goal.invariant-loop-c
-invariant-loop-c l =
-    (goal.iterator-loop-c).can_next l.c-iterator ×
-    (goal.iterator-loop-c).is_finite l.c-iterator ×
-    shadow (Utf8 l.rest)
+abbrev pub invariant-loop-sign : goal.invariant-loop-sign
+invariant-loop-sign l = is_told (drop l.sign-index l.signs) l.rest ≡ is_told l.fn.wanted l.fn.line
