@@ -71,6 +71,7 @@ pub enum Head {
     Unread,
     Cells,
     Or,
+    Differs,
 }
 
 /// The first word of a line, and what stands behind it.
@@ -104,6 +105,7 @@ impl Head {
             "unread" => Some(Head::Unread),
             "cells" => Some(Head::Cells),
             "or" => Some(Head::Or),
+            "differs" => Some(Head::Differs),
             _ => None,
         }
     }

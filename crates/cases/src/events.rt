@@ -192,7 +192,7 @@ pub fn events_difference(
     head: Line<'_>,
     parts: &[Part<'_>],
 ) -> Result<Option<String>, Wrong> {
-    only(parts, &[Head::Report, Head::Pictures])?;
+    only(parts, &[Head::Report, Head::Pictures, Head::Differs])?;
     let wanted = wanted_at(alloc, parts, Head::Report)?;
     let pictures = wanted_at(alloc, parts, Head::Pictures)?;
     let mut came = Answers {

@@ -134,6 +134,39 @@ pub fn difference(
     Ok(first)
 }
 
+// The difference that a case wants.
+fn wanted_difference(alloc: Global, parts: &[Part<'_>]) -> Result<Option<String>, AllocError> {
+    for part in parts {
+        if part.head == Head::Differs {
+            let mut text = String::from_str(alloc, part.rest.text)?;
+            for line in part.lines {
+                text.push('\n')?;
+                text.push_str(line.text)?;
+            }
+            return Ok(Some(text));
+        }
+    }
+    Ok(None)
+}
+
+/// What is told of a case that differs so: nothing where this is the difference that it wants, and what is told where it wants none.
+pub fn judged(
+    alloc: Global,
+    parts: &[Part<'_>],
+    told: Option<String>,
+) -> Result<Option<String>, AllocError> {
+    let Some(wanted) = wanted_difference(alloc, parts)? else {
+        return Ok(told);
+    };
+    let Some(told) = told else {
+        return Ok(Some(format!(in alloc; "no difference\nwanted difference: {wanted}")?));
+    };
+    if told.as_str() == wanted.as_str() {
+        return Ok(None);
+    }
+    Ok(Some(format!(in alloc; "{told}\nwanted difference: {wanted}")?))
+}
+
 // What differs from the first of some parts that does.
 fn one_difference(
     alloc: Global,

@@ -22,7 +22,7 @@ use case_files::setup::{Failing, Setup, failing_end, other_words, times};
 use each::{each_difference, other_difference};
 use events::events_difference;
 use hosted::{HOSTED, run_hosted};
-use judging::{Came, difference};
+use judging::{Came, difference, judged};
 use reads::reads_difference;
 use running::{Ran, host_case};
 use std::alloc::Global;
@@ -109,7 +109,7 @@ fn case_difference<T: Threads + Wait + Sync>(
     Ok(None)
 }
 
-// The name of the case of some lines, and what differs where it is run.
+// The name of the case of some lines, and what is told of it where it is run.
 fn case_run<'a, T: Threads + Wait + Sync>(
     rt: &T,
     alloc: Global,
@@ -125,12 +125,13 @@ fn case_run<'a, T: Threads + Wait + Sync>(
     let Some((part, others)) = parts.as_slice().split_first() else {
         return Err(first.wrong(Fault::Case));
     };
-    match part.head {
-        Head::Words => Ok((name, case_difference(rt, alloc, parts.as_slice())?)),
-        Head::Events => Ok((name, events_difference(alloc, part.rest, others)?)),
-        Head::Reads => Ok((name, reads_difference(alloc, others)?)),
-        _ => Err(first.wrong(Fault::Case)),
-    }
+    let told = match part.head {
+        Head::Words => case_difference(rt, alloc, parts.as_slice())?,
+        Head::Events => events_difference(alloc, part.rest, others)?,
+        Head::Reads => reads_difference(alloc, others)?,
+        _ => return Err(first.wrong(Fault::Case)),
+    };
+    Ok((name, judged(alloc, others, told)?))
 }
 
 // Runs the cases of a text, and says whether all are right, and were told.

@@ -133,6 +133,7 @@ pub fn reads_difference(alloc: Global, parts: &[Part<'_>]) -> Result<Option<Stri
             Head::Status,
             Head::Wrong,
             Head::Unread,
+            Head::Differs,
         ],
     )?;
     let setup = Setup::of(alloc, parts)?;
