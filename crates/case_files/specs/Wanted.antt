@@ -1,10 +1,11 @@
 -- Which lines are as a wanted one. A text is its bytes; what the signs below stand for is ASCII, so no other character has a byte of theirs.
-use Rattle.std.specs.Prelude.{ℕ, ◌+◌, ◌-◌, Bool, true, false, ◌&&◌, ◌||◌, ◌==◌, nat_lt, nat_eq, List, [], ◌∷◌, length, take, drop, if◌then◌else◌}
+use Rattle.std.specs.Prelude.{ℕ, ◌≡◌, ◌+◌, ◌-◌, ◌≤◌, MatchBool, string_bytes, Bool, true, false, ◌&&◌, ◌||◌, ◌==◌, nat_lt, nat_eq, List, [], ◌∷◌, length, take, drop, if◌then◌else◌}
 use Rattle.std.specs.Char.{is_ascii_digit}
 use Rattle.std.specs.List.{prefix_len, list_all}
 use Rattle.std.specs.Cmp.Lexicographic.{pointwise}
 use Rattle.case_files.specs.declared.wanted.Way.{Way}
 use Rattle.case_files.specs.declared.wanted.Way.TheVariants as way
+use Rattle.case_files.specs.declared.wanted.Wanted.{Wanted}
 
 -- ---- texts
 
@@ -82,3 +83,30 @@ begins_with w (one ∷ more) lines = first_is w one lines && begins_with w more 
 abbrev pub same_len : Way → List (List ℕ) → List (List ℕ) → ℕ
 same_len w [] lines = 0
 same_len w (one ∷ more) lines = if first_is w one lines then 1 + same_len w more (drop 1 lines) else 0
+
+-- ---- gaps
+
+-- a wanted line is `...`, which stands for any number of lines
+unfoldable pub is_any : Wanted → Bool
+is_any one = pointwise nat_eq one.line.text.now (46 ∷ 46 ∷ 46 ∷ [])
+
+-- how many wanted lines stand before the first `...`; all, where there is none
+abbrev pub block_len : List Wanted → ℕ
+block_len [] = 0
+block_len (one ∷ more) = if is_any one then 0 else 1 + block_len more
+
+-- wanted lines from the first `...` on
+abbrev pub from_gap : List Wanted → List Wanted
+from_gap wanted = drop (block_len wanted) wanted
+
+-- Of lines it holds behind some of them, or behind none.
+abbrev pub BehindSome : (List (List ℕ) → Type 0) → List (List ℕ) → Type 0
+BehindSome P lines = (k : ℕ) × (k ≤ length lines) × P (drop k lines)
+
+-- Lines are as wanted. Where none is wanted, there is none. A wanted line `...` stands for any number of lines, none too, and any other one for
+-- the first line; what stands behind them is as wanted by the others.
+abbrev pub IsAsWanted : Way → List Wanted → List (List ℕ) → Type 0
+IsAsWanted w [] lines = length lines ≡ 0
+IsAsWanted w (one ∷ more) lines = MatchBool (is_any one)
+    (BehindSome (IsAsWanted w more) lines)
+    ((first_is w (string_bytes one.text) lines ≡ true) × IsAsWanted w more (drop 1 lines))

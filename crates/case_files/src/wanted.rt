@@ -1,8 +1,8 @@
 //! Wanted lines beside those that came.
-ghost use Rattle.std.specs.Prelude.{◌≡◌, ◌≢◌, ◌<◌, ◌≤◌, ℕ, true, false, length, drop, map, string_bytes, MatchOption};
+ghost use Rattle.std.specs.Prelude.{◌≡◌, ◌≢◌, ◌<◌, ◌≤◌, ◌+◌, ◌-◌, ℕ, ◌↔◌, true, false, length, take, drop, map, max, string_bytes, MatchOption, MatchResult};
 ghost use Rattle.std.specs.List.{list_all};
-ghost use Rattle.case_files.specs.Wanted.{number_len, begins, is_space, first_is, begins_with, same_len};
-ghost use Rattle.case_files.specs.Wanted.{is_told as told_by, is_blank_up_to as blank_up_to, is_shown as shown_by, is_line as line_by, is_blank as blank_row};
+ghost use Rattle.case_files.specs.Wanted.{number_len, begins, is_space, first_is, begins_with, same_len, from_gap, BehindSome, IsAsWanted};
+ghost use Rattle.case_files.specs.Wanted.{is_told as told_by, is_blank_up_to as blank_up_to, is_shown as shown_by, is_line as line_by, is_blank as blank_row, is_any as any_line, block_len as len_by};
 
 use crate::fault::{Fault, Wrong};
 use crate::part::Line;
@@ -29,7 +29,10 @@ pub struct Wanted<'a> {
 
 impl Wanted<'_> {
     // Whether any number of lines may stand here.
-    fn is_any(&self) -> bool {
+    #[tactic(auto, unfolding(crate::specs::Wanted::is_any))]
+    fn is_any(&self) -> bool
+        ensures { result ≡ any_line self.now }
+    {
         self.line.text == "..."
     }
 }
@@ -299,13 +302,109 @@ fn found(way: Way, wanted: &[Wanted<'_>], lines: &[&str], from: usize) -> Option
     None
 }
 
+// How many lines stand before the first that is `...`.
+fn block_len(wanted: &[Wanted<'_>]) -> usize
+    ensures few { result ≤ length wanted.now }
+    ensures value { result ≡ len_by wanted.now }
+{
+    for (at, one) in wanted.iter().enumerate() {
+        if one.is_any() {
+            return at;
+        }
+    }
+    wanted.len()
+}
+
+// The lines before the first that is `...`.
+fn block<'b, 'a>(wanted: &'b [Wanted<'a>]) -> &'b [Wanted<'a>]
+    ensures { result.now ≡ take (len_by wanted.now) wanted.now }
+{
+    &wanted[..block_len(wanted)]
+}
+
 // That one of some lines is not there, at a place.
-fn missing<'a>(wanted: &[Wanted<'a>], one: usize, at: usize) -> Option<Difference<'a>> {
+fn missing<'a>(wanted: &[Wanted<'a>], one: usize, at: usize) -> Difference<'a> {
     let wanted = match wanted.get(one) {
         Some(wanted) => Some(wanted.line),
         None => None,
     };
-    Some(Difference { at, wanted })
+    Difference { at, wanted }
+}
+
+// The place behind some lines that have to stand at a place.
+fn behind_block<'a>(
+    way: Way,
+    block: &[Wanted<'a>],
+    lines: &[&str],
+    from: usize,
+) -> Result<usize, Difference<'a>>
+    requires { from ≤ length lines.now }
+    ensures { MatchResult result
+        (λ behind. (behind ≡ from + length block.now) × (behind ≤ length lines.now)
+        × (begins_with way (map (λ w. string_bytes w.text) block.now) (map (λ l. l.now) (drop from lines.now)) ≡ true))
+        (λ d. begins_with way (map (λ w. string_bytes w.text) block.now) (map (λ l. l.now) (drop from lines.now)) ≡ false) }
+{
+    match first_other(way, block, &lines[from..]) {
+        Some(one) => Err(missing(block, one, from.saturating_add(one))),
+        None => Ok(from + block.len()),
+    }
+}
+
+// Where so many lines end with the last one, but none before a place.
+fn last_place(lines: usize, count: usize, at: usize) -> usize
+    ensures { result ≡ max at (lines - count) }
+{
+    at.max(lines.saturating_sub(count))
+}
+
+// The place behind the lines up to the next gap, if what stands before them, from a place on, is a gap. They are looked for where they first
+// stand, and where no gap follows, at the end.
+fn behind_gap<'a>(
+    way: Way,
+    rest: &[Wanted<'a>],
+    lines: &[&str],
+    at: usize,
+) -> Result<usize, Difference<'a>>
+    requires { at ≤ length lines.now }
+    ensures { MatchResult result
+        (λ behind. (behind ≤ length lines.now)
+        × (BehindSome (IsAsWanted way rest.now) (map (λ l. l.now) (drop at lines.now))
+        ↔ IsAsWanted way (from_gap rest.now) (map (λ l. l.now) (drop behind lines.now))))
+        (λ d. BehindSome (IsAsWanted way rest.now) (map (λ l. l.now) (drop at lines.now)) → ⊥) }
+{
+    let block = block(rest);
+    if block.len() == rest.len() {
+        let from = last_place(lines.len(), block.len(), at);
+        return behind_block(way, block, lines, from);
+    }
+    match found(way, block, lines, at) {
+        Some(from) => behind_block(way, block, lines, from),
+        None => Err(missing(block, 0, at)),
+    }
+}
+
+// The place behind the lines up to the next gap, if the first line is one; otherwise they have been looked at, and the place stays.
+fn behind_first<'a>(
+    way: Way,
+    wanted: &[Wanted<'a>],
+    lines: &[&str],
+    at: usize,
+) -> Result<usize, Difference<'a>>
+    requires { at ≤ length lines.now }
+    ensures { MatchResult result
+        (λ behind. (behind ≤ length lines.now)
+        × (IsAsWanted way (from_gap wanted.now) (map (λ l. l.now) (drop at lines.now))
+        ↔ IsAsWanted way (from_gap (drop 1 wanted.now)) (map (λ l. l.now) (drop behind lines.now))))
+        (λ d. IsAsWanted way (from_gap wanted.now) (map (λ l. l.now) (drop at lines.now)) → ⊥) }
+{
+    let Some((one, rest)) = wanted.split_first() else {
+        return Ok(at);
+    };
+    if one.is_any() {
+        behind_gap(way, rest, lines, at)
+    } else {
+        Ok(at)
+    }
 }
 
 /// The first difference of lines from those that are wanted, where `...` stands for any number of lines.
@@ -313,24 +412,19 @@ pub fn first_difference<'a>(
     way: Way,
     wanted: &[Wanted<'a>],
     lines: &[&str],
-) -> Option<Difference<'a>> {
-    let gaps = wanted.iter().filter(|line| line.is_any()).count();
-    let mut at: usize = 0;
-    for (number, block) in wanted.split(|line| line.is_any()).enumerate() {
-        let from = if number == 0 {
-            Some(0)
-        } else if number == gaps {
-            Some(at.max(lines.len().saturating_sub(block.len())))
-        } else {
-            found(way, block, lines, at)
+) -> Option<Difference<'a>>
+    ensures { MatchOption result (IsAsWanted way wanted.now (map (λ l. l.now) lines.now))
+        (λ d. IsAsWanted way wanted.now (map (λ l. l.now) lines.now) → ⊥) }
+{
+    let mut at = match behind_block(way, block(wanted), lines, 0) {
+        Ok(behind) => behind,
+        Err(other) => return Some(other),
+    };
+    for number in 0..wanted.len() {
+        at = match behind_first(way, &wanted[number..], lines, at) {
+            Ok(behind) => behind,
+            Err(other) => return Some(other),
         };
-        let Some(from) = from else {
-            return missing(block, 0, at);
-        };
-        if let Some(one) = first_other(way, block, lines.get(from..).unwrap_or(&[])) {
-            return missing(block, one, from.saturating_add(one));
-        }
-        at = from.saturating_add(block.len());
     }
     if at < lines.len() {
         Some(Difference { at, wanted: None })
