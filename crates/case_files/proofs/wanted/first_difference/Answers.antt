@@ -1,4 +1,4 @@
-use Rattle.std.proofs.Common.{◌≡◌, ◌<◌, length, map, drop, length-drop, arith}
+use Rattle.std.proofs.Common.{◌≡◌, ◌<◌, ◌≤◌, length, map, drop, length-drop, arith}
 use Rattle.std.proofs.lemmas.List.{length-map}
 use Rattle.case_files.proofs.Gaps.{starts_other, starts_as, one_on, none_left}
 use Rattle.case_files.proofs.wanted.first_difference.Goals as goal
@@ -27,3 +27,11 @@ returns-then-at-lines c t =
     c.loop-number.number c.loop-number-test.false c.loop-number.invariant.1).0 t in
     let some : c.loop-number.at < length c.args.lines.now = c.if-at-lines.true in
     absurd (omega (arith, none, some, length-map (drop c.loop-number.at c.args.lines.now) (λ l. l.now), length-drop c.loop-number.at c.args.lines.now))
+
+pub returns-else-at-lines : goal.returns-else-at-lines
+returns-else-at-lines c =
+    let all : length c.args.lines.now ≤ c.loop-number.at = c.if-at-lines.false in
+    let none : length (map (λ l. l.now) (drop c.loop-number.at c.args.lines.now)) ≡ 0 =
+    omega (arith, all, length-map (drop c.loop-number.at c.args.lines.now) (λ l. l.now), length-drop c.loop-number.at c.args.lines.now) in
+    (none_left c.args.way c.args.wanted.now (map (λ l. l.now) c.args.lines.now) (map (λ l. l.now) (drop c.loop-number.at c.args.lines.now))
+    c.loop-number.number c.loop-number-test.false c.loop-number.invariant.1).1 none
