@@ -1,6 +1,5 @@
-use Rattle.std.proofs.Common.{ap, rules, ◌∙◌}
+use Rattle.std.proofs.Common.{rules}
 use Rattle.std.proofs.lemmas.Result.{IfOk-weaker}
-use Rattle.con_outside.specs.declared.sure.SureSink.{SureSink}
 use Rattle.con_host.proofs.Generations.{made_by}
 use Rattle.con_host.proofs.generating.run.Goals as goal
 
@@ -8,4 +7,4 @@ pub returns : goal.returns
 returns c =
     let done = c.is_done.ensures c.if-not-is_done.false in
     let drawn = c.in_ok-session.ensures in
-    IfOk-weaker c.finished.result _ _ (λ made h. made_by _ _ _ _ _ _ _ _ _ _ _ _ _ _ drawn (search rules) done (search rules) (search rules) c.run_solo-outcome.ensures.outcome (c.into_vec.ensures ∙ ap (λ (t : SureSink). t.written) c.term.view_is) h c.each_record_is_taken_once.ensures.session) c.finished.ensures
+    IfOk-weaker c.finished.result _ _ (λ made h. made_by _ _ _ _ _ _ _ _ _ _ _ _ _ _ drawn (search rules) done (search rules) (search rules) c.run_solo-outcome.ensures.outcome c.into_vec.ensures h c.each_record_is_taken_once.ensures.session) c.finished.ensures
