@@ -3,6 +3,7 @@ use Rattle.std.specs.Prelude.{ℕ, ◌≡◌, ◌+◌, ◌-◌, ◌≤◌, Match
 use Rattle.std.specs.Char.{is_ascii_digit}
 use Rattle.std.specs.List.{prefix_len, list_all}
 use Rattle.std.specs.Cmp.Lexicographic.{pointwise}
+use Rattle.con_units.specs.Units.{is_space}
 use Rattle.case_files.specs.declared.wanted.Way.{Way}
 use Rattle.case_files.specs.declared.wanted.Way.TheVariants as way
 use Rattle.case_files.specs.declared.wanted.Wanted.{Wanted}
@@ -29,9 +30,6 @@ front text = take (length text - 1) text
 -- a text begins with another
 abbrev pub starts : List ℕ → List ℕ → Bool
 starts other text = pointwise nat_eq (take (length other) text) other
-
-abbrev pub is_space : ℕ → Bool
-is_space c = c == 32
 
 -- spaces, and behind them this byte, the last one
 abbrev pub is_blank_up_to : ℕ → List ℕ → Bool

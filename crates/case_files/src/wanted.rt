@@ -1,7 +1,8 @@
 //! Wanted lines beside those that came.
 ghost use Rattle.std.specs.Prelude.{◌≡◌, ◌≢◌, ◌<◌, ◌≤◌, ◌+◌, ◌-◌, ℕ, ◌↔◌, true, false, length, take, drop, map, max, string_bytes, MatchOption, MatchResult};
 ghost use Rattle.std.specs.List.{list_all};
-ghost use Rattle.case_files.specs.Wanted.{number_len, begins, is_space, first_is, begins_with, same_len, from_gap, BehindSome, IsAsWanted};
+ghost use Rattle.con_units.specs.Units.{is_space};
+ghost use Rattle.case_files.specs.Wanted.{number_len, begins, first_is, begins_with, same_len, from_gap, BehindSome, IsAsWanted};
 ghost use Rattle.case_files.specs.Wanted.{is_told as told_by, is_blank_up_to as blank_up_to, is_shown as shown_by, is_line as line_by, is_blank as blank_row, is_any as any_line, block_len as len_by};
 
 use crate::fault::{Fault, Wrong};

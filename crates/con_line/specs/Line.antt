@@ -2,7 +2,7 @@
 use Rattle.std.specs.Prelude.{ℕ, zero, suc, ◌+◌, ◌-◌, ◌≤◌, Bool, not, nat_lt, ◌==◌, ◌&&◌, List, [], ◌++◌, length, take, drop, insert, remove, slice_set, slice_index, min, if◌then◌else◌}
 use Rattle.std.specs.List.{prefix_len}
 use Rattle.con_units.specs.Limits.{line_units}
-use Rattle.con_units.specs.Units.{first_difference}
+use Rattle.con_units.specs.Units.{first_difference, is_space, is_other}
 use Rattle.con_line.specs.declared.press.Press.{Press}
 use Rattle.con_line.specs.declared.press.Press.TheVariants as key
 use Rattle.con_line.specs.declared.edit.Edit.{Edit}
@@ -17,12 +17,6 @@ pub record LineText : Type 0 where
 pub record IsLine (l : LineText) : Type 0 where
   pub few : length l.units ≤ line_units
   pub caret : l.caret ≤ length l.units
-
-abbrev pub is_space : ℕ → Bool
-is_space u = u == 32
-
-abbrev pub is_other : ℕ → Bool
-is_other u = not (u == 32)
 
 -- how far back from a place units pass a test
 abbrev pub back_while : (ℕ → Bool) → List ℕ → ℕ → ℕ

@@ -1,7 +1,7 @@
 //! The edited line.
 ghost use Rattle.std.specs.Prelude.{◌≡◌, ℕ, ◌+◌, ◌≤◌, ◌<◌, ◌==◌, length, not, [], ◌++◌, vec_capacity, if◌then◌else◌, ◌⊎◌, drop, take, IfOk};
-ghost use Rattle.con_line.specs.Line.{LineText, IsLine, is_space, is_other, back_while, on_while, pressed, typed, erased_at, recalled_as, completed_by, matched_as, edit_between};
-ghost use Rattle.con_units.specs.Units.{first_difference};
+ghost use Rattle.con_line.specs.Line.{LineText, IsLine, back_while, on_while, pressed, typed, erased_at, recalled_as, completed_by, matched_as, edit_between};
+ghost use Rattle.con_units.specs.Units.{first_difference, is_space, is_other};
 
 use crate::edit::Edit;
 use crate::press::Press;

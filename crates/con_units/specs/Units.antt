@@ -1,5 +1,5 @@
 -- Texts of units, compared.
-use Rattle.std.specs.Prelude.{ℕ, Bool, List, [], ◌∷◌, nat_eq, if◌then◌else◌}
+use Rattle.std.specs.Prelude.{ℕ, Bool, not, ◌==◌, List, [], ◌∷◌, nat_eq, if◌then◌else◌}
 use Rattle.std.specs.Cmp.Lexicographic.{pointwise}
 use Rattle.std.specs.List.{common_prefix_len}
 
@@ -10,6 +10,13 @@ same_units = pointwise nat_eq
 -- the first place at which two texts differ
 abbrev pub first_difference : List ℕ → List ℕ → ℕ
 first_difference = common_prefix_len nat_eq
+
+abbrev pub is_space : ℕ → Bool
+is_space u = u == 32
+
+-- a unit that is no space
+abbrev pub is_other : ℕ → Bool
+is_other u = not (u == 32)
 
 -- the first item that meets the test, changed
 abbrev pub changed_where : {A : Type 0} → (A → Bool) → (A → A) → List A → List A

@@ -1,7 +1,7 @@
 -- what is left tells
 use Rattle.std.proofs.Common.{◌≡◌, drop}
 use Rattle.std.specs.List.{list_all}
-use Rattle.case_files.specs.Wanted.{is_space}
+use Rattle.con_units.specs.Units.{is_space}
 use Rattle.case_files.proofs.wanted.are_spaces.Given as goal
 
 abbrev pub invariant-loop-c : goal.invariant-loop-c

@@ -1,5 +1,6 @@
 use Rattle.std.proofs.Common.{◌≡◌, ◌≤◌, cond}
-use Rattle.con_line.specs.Line.{is_space, is_other, back_while}
+use Rattle.con_units.specs.Units.{is_space, is_other}
+use Rattle.con_line.specs.Line.{back_while}
 use Rattle.con_line.proofs.line.back_over.Given as goal
 
 abbrev pub invariant-loop-i : goal.invariant-loop-i

@@ -1,5 +1,6 @@
 use Rattle.std.proofs.Common.{◌≡◌, ◌≤◌, ◌-◌, cond, length}
-use Rattle.con_line.specs.Line.{is_space, is_other, on_while}
+use Rattle.con_units.specs.Units.{is_space, is_other}
+use Rattle.con_line.specs.Line.{on_while}
 use Rattle.con_line.proofs.line.on_over.Given as goal
 
 abbrev pub invariant-loop-i : goal.invariant-loop-i
