@@ -15,7 +15,7 @@
 //! report have one table, and what is told is what is read. Input records have a table too (`specs/RecordTable`), read by [`read_record`] and shown by
 //! [`tell_record`].
 //!
-//! [`same_event`], [`same_call`], [`same_wanted`] and [`same_reply`] tell whether two are the same.
+//! [`same_event`], [`same_call`], [`same_wanted`] and [`same_reply`] tell whether two are the same; [`copied_call`] and [`copied_wanted`] make another.
 //!
 //! Nothing is promised here of what an event does.
 #![tactic(auto)]
@@ -35,6 +35,7 @@ pub mod actor;
 mod args;
 pub mod arguments;
 pub mod call;
+mod copying;
 pub mod end;
 pub mod entry;
 pub mod event;
@@ -51,6 +52,7 @@ pub mod telling;
 pub use actor::Actor;
 pub use arguments::{Arguments, Misread};
 pub use call::{Call, Words};
+pub use copying::{copied_call, copied_wanted};
 pub use end::End;
 pub use entry::Entry;
 pub use event::{Event, Wanted};

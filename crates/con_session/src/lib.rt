@@ -27,7 +27,6 @@
 //! Where there is no memory a turn entered nothing, or one event that it may, and says so.
 #![tactic(auto)]
 
-mod copying;
 mod desk;
 mod door;
 mod hands;
@@ -42,7 +41,6 @@ mod terminal;
 mod turn;
 mod worker;
 
-pub use copying::{copied_call, copied_wanted};
 pub use desk::{Brief, Desk, Picture, as_listed, brief_for};
 pub use door::Door;
 pub use hands::Hands;

@@ -1,7 +1,8 @@
 //! Copies of what a script says.
 ghost use Rattle.std.specs.Prelude.{◌≡◌, IfOk};
 
-use con_events::{Call, Wanted, Words};
+use crate::call::{Call, Words};
+use crate::event::Wanted;
 use con_records::Taken;
 use con_units::OutOfMemory;
 
