@@ -17,6 +17,13 @@ no_number = refl
 word_for_a_number : is_told (codes "[" ++ 0 ∷ codes "]") (codes "[x]") ≡ false
 word_for_a_number = refl
 
+-- it stands for the digits from there on, so a digit before it is told by itself; a sign is none of them
+digit_before_a_number : is_told (codes "5" ++ 0 ∷ []) (codes "55") ≡ true
+digit_before_a_number = refl
+
+sign_before_a_number : is_told (0 ∷ []) (codes "-5") ≡ false
+sign_before_a_number = refl
+
 -- a number goes up to the first byte that is no digit, so a digit behind it is never told
 digit_behind_a_number : is_told (0 ∷ codes "5") (codes "15") ≡ false
 digit_behind_a_number = refl

@@ -109,6 +109,16 @@ impl Head {
             _ => None,
         }
     }
+
+    // Whether a part that is headed so is one line alone.
+    fn is_one_line(self) -> bool {
+        match self {
+            Head::Words | Head::Events | Head::Reads => true,
+            Head::Times | Head::Fails | Head::Each | Head::Like | Head::Takes => true,
+            Head::Status | Head::Cells | Head::Wrong | Head::Or => true,
+            _ => false,
+        }
+    }
 }
 
 /// A part of a case: the line that heads it, without its first word, and its lines.
@@ -138,13 +148,16 @@ pub fn parts<'a>(alloc: Global, lines: &'a [Line<'a>]) -> Result<Vec<Part<'a>>, 
 // The part that a line heads.
 fn part_of<'a>(line: Line<'a>, lines: &'a [Line<'a>]) -> Result<Part<'a>, Wrong> {
     let (word, rest) = first_word(line.text);
-    match Head::of(word) {
-        Some(head) => Ok(Part {
+    let Some(head) = Head::of(word) else {
+        return Err(line.wrong(Fault::Head));
+    };
+    match lines.first() {
+        Some(below) if head.is_one_line() => Err(below.wrong(Fault::Head)),
+        _ => Ok(Part {
             head,
             rest: line.part(rest),
             lines,
         }),
-        None => Err(line.wrong(Fault::Head)),
     }
 }
 

@@ -17,7 +17,7 @@ mod showing;
 
 use auditing::{audit_difference, is_session, left_difference};
 use case_files::fault::{Fault, Wrong};
-use case_files::part::{Head, Line, Part, case_name, lines, parts};
+use case_files::part::{Head, Line, Part, case_name, lines, only, parts};
 use case_files::setup::{Failing, Setup, failing_end, other_words, times};
 use each::{each_difference, other_difference};
 use events::events_difference;
@@ -109,6 +109,32 @@ fn case_difference<T: Threads + Wait + Sync>(
     Ok(None)
 }
 
+// That each part says something of a run.
+fn only_of_words(parts: &[Part<'_>]) -> Result<(), Wrong> {
+    only(
+        parts,
+        &[
+            Head::File,
+            Head::Bytes,
+            Head::Link,
+            Head::Times,
+            Head::Fails,
+            Head::Each,
+            Head::Like,
+            Head::Audit,
+            Head::Takes,
+            Head::Status,
+            Head::Report,
+            Head::Stream,
+            Head::Second,
+            Head::Dump,
+            Head::Cells,
+            Head::Or,
+            Head::Differs,
+        ],
+    )
+}
+
 // The name of the case of some lines, and what is told of it where it is run.
 fn case_run<'a, T: Threads + Wait + Sync>(
     rt: &T,
@@ -126,7 +152,10 @@ fn case_run<'a, T: Threads + Wait + Sync>(
         return Err(first.wrong(Fault::Case));
     };
     let told = match part.head {
-        Head::Words => case_difference(rt, alloc, parts.as_slice())?,
+        Head::Words => {
+            only_of_words(others)?;
+            case_difference(rt, alloc, parts.as_slice())?
+        }
         Head::Events => events_difference(alloc, part.rest, others)?,
         Head::Reads => reads_difference(alloc, others)?,
         _ => return Err(first.wrong(Fault::Case)),
