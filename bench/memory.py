@@ -9,7 +9,7 @@ An event of the console that was begun in vain must leave no trace: each run pri
 nothing, where what failed was none of the console's.
 
 A session by turns ends with status 9, and what stands of its report and of its stream is a front of the right ones: whole lines and then the last line, or,
-where there was no memory for those either, a part of that. A Paint without its frame has the length 0. Or it ends with status 0 and all is right. Of the
+where there was no memory for those either, a part of that. A report ends before a Paint that has no frame. Or it ends with status 0 and all is right. Of the
 examples the right reports are worked out by hand. By threads events come in another order each time: each run ends, with status 9 and the last line
 or a part of the report, or with status 0 and the last line.
 
