@@ -1,23 +1,16 @@
 -- Checksums of rows.
-use Rattle.std.proofs.Common.{◌≡◌, ℕ, ◌+◌, ◌-◌, ◌*◌, ◌<◌, ◌≤◌, Bool, true, false, cond, ◌&&◌, ◌||◌, not, inl, inr, nat_lt, List, [], ◌∷◌, ◌++◌, fold, get_or, set, length, take, drop, refl, sym, ap, ◌∙◌, arith, length-drop, length-set}
-use Rattle.std.proofs.lemmas.List.{take_more, take_all, drop-drop, get_or-set_same, get_or-set_other}
-use Rattle.std.proofs.lemmas.List.Sums.{fold-append}
+use Rattle.std.proofs.Common.{◌≡◌, ℕ, ◌+◌, ◌-◌, ◌*◌, ◌<◌, ◌≤◌, Bool, true, false, cond, ◌&&◌, ◌||◌, not, inl, inr, nat_lt, List, get_or, set, length, take, drop, refl, sym, ap, ◌∙◌, arith, length-drop, length-set}
+use Rattle.std.proofs.lemmas.List.{take_all, drop-drop, get_or-set_same, get_or-set_other}
 use Rattle.std.proofs.lemmas.Nat.{mul-le}
 use Rattle.std.proofs.lemmas.Bool.Decides.{nat_tests}
 use Rattle.con_units.specs.Glyph.{Glyph}
 use Rattle.con_units.specs.View.{row_of}
-use Rattle.con_paint.specs.Checksum.{next_checksum, checksum_of, IsSummed, AreSummed}
-use Rattle.con_paint.specs.Compared.{same_cells, IsLifted}
-use Rattle.con_paint.specs.declared.checksum.Checksums.{Checksums}
+use Rattle.con_strokes.specs.Checksum.{checksum_of, IsSummed, AreSummed}
+use Rattle.con_strokes.specs.Compared.{same_cells, IsLifted}
+use Rattle.con_strokes.specs.declared.checksum.Checksums.{Checksums}
 use Rattle.con_paint.proofs.FrameLemmas.{must_equal, slice_is}
 use Rattle.con_paint.proofs.LiftLemmas.{prefix_row}
-use Rattle.con_paint.proofs.SameLemmas.{are_same}
-
-pub summed_more : (row : List Glyph) (i sum next : ℕ) (c : Glyph) → i < length row → c ≡ get_or row i c → sum ≡ checksum_of (take i row) → next ≡ next_checksum sum c → next ≡ checksum_of (take (i + 1) row)
-unfolding checksum_of
-summed_more row i sum next c lt e h n =
-    let more : take (i + 1) row ≡ take i row ++ c ∷ [] = take_more row i c lt ∙ ap (λ z. take i row ++ z ∷ []) (sym e) in
-    n ∙ ap (λ z. next_checksum z c) h ∙ sym (ap (fold next_checksum 0) more ∙ fold-append next_checksum 0 (take i row) (c ∷ []))
+use Rattle.con_strokes.proofs.SameLemmas.{are_same}
 
 -- ---- the checksums of the first rows are renewed
 

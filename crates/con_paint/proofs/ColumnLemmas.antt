@@ -11,18 +11,18 @@ use Rattle.con_units.specs.Glyph.{Glyph, blank_cell}
 use Rattle.con_units.specs.View.{row_of}
 use Rattle.con_term.specs.Effect.{unpended}
 use Rattle.con_term.specs.Page.{Page, erased, filled, place}
-use Rattle.con_paint.specs.Leads.{Leads}
-use Rattle.con_paint.specs.Ink.{pen_for}
-use Rattle.con_paint.specs.Paint.{IsCell, cell_printed, cells_printed, pasted}
-use Rattle.con_paint.specs.Compared.{same_cell}
+use Rattle.con_strokes.specs.Leads.{Leads}
+use Rattle.con_strokes.specs.Ink.{pen_for}
+use Rattle.con_strokes.specs.Paint.{IsCell, cell_printed, cells_printed, pasted}
+use Rattle.con_strokes.specs.Compared.{same_cell}
 use Rattle.con_paint.specs.Columns.{ColumnStep, FirstColumns, IsSameAt, MoreColumns, RunStep}
-use Rattle.con_paint.specs.Spot.{IsAt, IsBehind}
-use Rattle.con_paint.specs.declared.spot.Spot.{Spot}
-use Rattle.con_paint.specs.declared.spot.State.{State}
-use Rattle.con_paint.proofs.PenLemmas.{pen_is}
-use Rattle.con_paint.proofs.LeadLemmas.{leads_then, leads-none}
-use Rattle.con_paint.proofs.RunLemmas.{run, ran}
-use Rattle.con_paint.proofs.SameLemmas.{one_same, any_default}
+use Rattle.con_strokes.specs.Spot.{IsAt, IsBehind}
+use Rattle.con_strokes.specs.declared.spot.Spot.{Spot}
+use Rattle.con_strokes.specs.declared.spot.State.{State}
+use Rattle.con_strokes.proofs.PenLemmas.{pen_is}
+use Rattle.con_strokes.proofs.LeadLemmas.{leads_then, leads-none}
+use Rattle.con_strokes.proofs.RunLemmas.{run, ran}
+use Rattle.con_strokes.proofs.SameLemmas.{one_same, any_default}
 use Rattle.con_paint.proofs.SpanLemmas.{filled_is, length-pasted, small_pen}
 
 -- ---- one column

@@ -3,15 +3,15 @@ use Rattle.std.proofs.Common.{◌≡◌, ℕ, ◌*◌, ◌<◌, Bool, true, fals
 use Rattle.con_units.specs.Attr.{Attribute}
 use Rattle.con_units.specs.Glyph.{Glyph}
 use Rattle.con_term.specs.Page.{Page}
-use Rattle.con_paint.specs.Leads.{Leads}
+use Rattle.con_strokes.specs.Leads.{Leads}
 use Rattle.con_paint.specs.Frame.{rows_to_paint, Stands, Reach, Rows}
 use Rattle.con_paint.specs.Placed.{Placed}
 use Rattle.con_paint.specs.Drawn.{Drawn}
-use Rattle.con_paint.specs.Spot.{IsAt}
+use Rattle.con_strokes.specs.Spot.{IsAt}
 use Rattle.con_paint.specs.declared.frame.Caret.{Caret}
-use Rattle.con_paint.specs.declared.spot.Spot.{Spot}
-use Rattle.con_paint.specs.declared.spot.State.{State}
-use Rattle.con_paint.proofs.LeadLemmas.{leads_then}
+use Rattle.con_strokes.specs.declared.spot.Spot.{Spot}
+use Rattle.con_strokes.specs.declared.spot.State.{State}
+use Rattle.con_strokes.proofs.LeadLemmas.{leads_then}
 use Rattle.con_paint.proofs.FrameLemmas.{mixed_all}
 
 -- a cursor that is hidden, where it is to be

@@ -11,16 +11,16 @@ use Rattle.con_units.specs.View.{row_of}
 use Rattle.con_term.specs.Page.{Page, erased, filled, place}
 use Rattle.con_term.specs.Effect.{unpended}
 use Rattle.con_term.specs.Pen.{IsPen}
-use Rattle.con_paint.specs.Leads.{Leads}
-use Rattle.con_paint.specs.Ink.{pen_for}
-use Rattle.con_paint.specs.Paint.{pasted}
-use Rattle.con_paint.specs.Compared.{same_cell, same_cells, differing}
+use Rattle.con_strokes.specs.Leads.{Leads}
+use Rattle.con_strokes.specs.Ink.{pen_for}
+use Rattle.con_strokes.specs.Paint.{pasted}
+use Rattle.con_strokes.specs.Compared.{same_cell, same_cells, differing}
 use Rattle.con_paint.specs.Frame.{rows_to_paint, mixed, Stands, Painted, Rows, RowStep}
 use Rattle.con_paint.specs.Rest.{RestStep, cleared_from}
-use Rattle.con_paint.specs.Spot.{IsAt}
-use Rattle.con_paint.specs.declared.spot.State.{State}
-use Rattle.con_paint.proofs.LeadLemmas.{leads_then, leads-none}
-use Rattle.con_paint.proofs.SameLemmas.{are_same, same_by, one_same}
+use Rattle.con_strokes.specs.Spot.{IsAt}
+use Rattle.con_strokes.specs.declared.spot.State.{State}
+use Rattle.con_strokes.proofs.LeadLemmas.{leads_then, leads-none}
+use Rattle.con_strokes.proofs.SameLemmas.{are_same, same_by, one_same}
 use Rattle.con_paint.proofs.SpanLemmas.{filled_is}
 
 pub small_pen : IsPen (pen_for (plain 7))

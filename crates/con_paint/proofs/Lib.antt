@@ -1,8 +1,3 @@
-pub mod SpellLemmas
-pub mod PenLemmas
-pub mod LeadLemmas
-pub mod RunLemmas
-pub mod SameLemmas
 pub mod SpanLemmas
 pub mod ColumnLemmas
 pub mod PlaceLemmas

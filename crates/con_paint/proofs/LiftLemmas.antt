@@ -11,14 +11,14 @@ use Rattle.con_units.specs.View.{row_of}
 use Rattle.con_term.specs.Page.{Page}
 use Rattle.con_term.specs.Pen.{starting_pen}
 use Rattle.con_term.specs.Effect.{lifted}
-use Rattle.con_paint.specs.Leads.{Leads}
-use Rattle.con_paint.specs.Ink.{pen_for}
-use Rattle.con_paint.specs.Compared.{same_cells, differing, IsLifted}
+use Rattle.con_strokes.specs.Leads.{Leads}
+use Rattle.con_strokes.specs.Ink.{pen_for}
+use Rattle.con_strokes.specs.Compared.{same_cells, differing, IsLifted}
 use Rattle.con_paint.specs.Lift.{IsLeastBelow, Lifted, Lifts, Rises, lifted_cells}
-use Rattle.con_paint.specs.Spot.{IsAt}
-use Rattle.con_paint.specs.declared.spot.Spot.{Spot}
-use Rattle.con_paint.proofs.LeadLemmas.{leads_then, leads-none}
-use Rattle.con_paint.proofs.SameLemmas.{are_same, same_by}
+use Rattle.con_strokes.specs.Spot.{IsAt}
+use Rattle.con_strokes.specs.declared.spot.Spot.{Spot}
+use Rattle.con_strokes.proofs.LeadLemmas.{leads_then, leads-none}
+use Rattle.con_strokes.proofs.SameLemmas.{are_same, same_by}
 use Rattle.con_paint.specs.Frame.{rows_to_paint}
 use Rattle.con_paint.proofs.FrameLemmas.{must_differ, must_equal, one_row_more, no_more, slice_is, small_pen, differing_none, differing-self}
 

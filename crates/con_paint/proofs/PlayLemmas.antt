@@ -10,19 +10,19 @@ use Rattle.con_term.specs.Pen.{IsPen}
 use Rattle.con_term.specs.Page.{Page}
 use Rattle.con_term.specs.Play.{play, typed, printed}
 use Rattle.con_term.specs.Terminal.{Terminal}
-use Rattle.con_paint.specs.Leads.{Leads}
-use Rattle.con_paint.specs.Ink.{pen_for}
+use Rattle.con_strokes.specs.Leads.{Leads}
+use Rattle.con_strokes.specs.Ink.{pen_for}
 use Rattle.con_paint.specs.Lift.{Lifts}
-use Rattle.con_paint.specs.Compared.{differing}
+use Rattle.con_strokes.specs.Compared.{differing}
 use Rattle.con_paint.specs.Frame.{rows_to_paint, Stands}
 use Rattle.con_paint.specs.Placed.{IsCaret}
 use Rattle.con_paint.specs.Drawn.{Drawn}
 use Rattle.con_paint.specs.Painter.{Kept, Allows, Paints, IsKept, IsShown}
-use Rattle.con_paint.specs.Spot.{IsAt}
+use Rattle.con_strokes.specs.Spot.{IsAt}
 use Rattle.con_paint.specs.declared.frame.Caret.{Caret}
-use Rattle.con_paint.specs.declared.spot.Spot.{Spot}
-use Rattle.con_paint.specs.declared.spot.State.{State}
-use Rattle.con_paint.proofs.LeadLemmas.{leads_then}
+use Rattle.con_strokes.specs.declared.spot.Spot.{Spot}
+use Rattle.con_strokes.specs.declared.spot.State.{State}
+use Rattle.con_strokes.proofs.LeadLemmas.{leads_then}
 
 at_most : (n m k : ℕ) → n ≤ m → m ≤ k → n ≤ k
 at_most n m k a b = omega arith

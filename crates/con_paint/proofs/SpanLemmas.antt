@@ -9,18 +9,18 @@ use Rattle.con_units.specs.View.{row_of}
 use Rattle.con_term.specs.Pen.{IsPen}
 use Rattle.con_term.specs.Page.{Page, erased, filled, place}
 use Rattle.con_term.specs.Effect.{row_end, unpended}
-use Rattle.con_paint.specs.Leads.{Leads}
-use Rattle.con_paint.specs.Ink.{pen_for}
-use Rattle.con_paint.specs.Paint.{pasted}
+use Rattle.con_strokes.specs.Leads.{Leads}
+use Rattle.con_strokes.specs.Ink.{pen_for}
+use Rattle.con_strokes.specs.Paint.{pasted}
 use Rattle.con_paint.specs.Columns.{Columns}
-use Rattle.con_paint.specs.Compared.{same_cell}
+use Rattle.con_strokes.specs.Compared.{same_cell}
 use Rattle.con_paint.specs.Frame.{Stands, Painted}
 use Rattle.con_paint.specs.Span.{IsSpan, piece, behind, patched, end_erased, RowEnd}
 use Rattle.con_paint.specs.declared.span.Span.{Span}
-use Rattle.con_paint.specs.Spot.{IsAt}
-use Rattle.con_paint.specs.declared.spot.State.{State}
-use Rattle.con_paint.proofs.LeadLemmas.{leads_then, leads-none}
-use Rattle.con_paint.proofs.SameLemmas.{one_same}
+use Rattle.con_strokes.specs.Spot.{IsAt}
+use Rattle.con_strokes.specs.declared.spot.State.{State}
+use Rattle.con_strokes.proofs.LeadLemmas.{leads_then, leads-none}
+use Rattle.con_strokes.proofs.SameLemmas.{one_same}
 
 -- ---- cells that are the same
 

@@ -3,11 +3,11 @@ use Rattle.std.specs.Prelude.{ℕ, ◌+◌, ◌*◌, ◌<◌, ◌≤◌, ◌≡�
 use Rattle.con_units.specs.Glyph.{Glyph, blank_cell}
 use Rattle.con_units.specs.View.{row_of}
 use Rattle.con_term.specs.Page.{Page}
-use Rattle.con_paint.specs.Leads.{Leads}
+use Rattle.con_strokes.specs.Leads.{Leads}
 use Rattle.con_paint.specs.Frame.{Stands}
-use Rattle.con_paint.specs.Paint.{pasted}
-use Rattle.con_paint.specs.Spot.{IsAt}
-use Rattle.con_paint.specs.declared.spot.State.{State}
+use Rattle.con_strokes.specs.Paint.{pasted}
+use Rattle.con_strokes.specs.Spot.{IsAt}
+use Rattle.con_strokes.specs.declared.spot.State.{State}
 
 -- the bytes make n cells from a place of a page on these, and print at most so many
 pub record Columns (w h at : ℕ) (new_cells : List Glyph) (most : ℕ) (after : State) (old new : List ℕ) (s : Page) : Type 0 where

@@ -4,12 +4,12 @@ use Rattle.con_units.specs.Attr.{Attribute}
 use Rattle.con_units.specs.Glyph.{Glyph}
 use Rattle.con_units.specs.View.{row_of}
 use Rattle.con_term.specs.Page.{Page, IsPage}
-use Rattle.con_paint.specs.Leads.{Leads}
-use Rattle.con_paint.specs.Ink.{pen_for}
-use Rattle.con_paint.specs.Compared.{differing}
-use Rattle.con_paint.specs.Paint.{pasted}
-use Rattle.con_paint.specs.Spot.{IsAt}
-use Rattle.con_paint.specs.declared.spot.State.{State}
+use Rattle.con_strokes.specs.Leads.{Leads}
+use Rattle.con_strokes.specs.Ink.{pen_for}
+use Rattle.con_strokes.specs.Compared.{differing}
+use Rattle.con_strokes.specs.Paint.{pasted}
+use Rattle.con_strokes.specs.Spot.{IsAt}
+use Rattle.con_strokes.specs.declared.spot.State.{State}
 
 -- of the first y rows, how many are painted: those that differ from what is known, or all
 abbrev pub rows_to_paint : Bool → ℕ → ℕ → List Glyph → List Glyph → ℕ

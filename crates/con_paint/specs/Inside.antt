@@ -1,5 +1,5 @@
 -- A painter as contracts see it.
-use Rattle.con_paint.specs.Checksum.{IsSummed}
+use Rattle.con_strokes.specs.Checksum.{IsSummed}
 use Rattle.con_paint.specs.Painter.{Kept, IsKept}
 use Rattle.con_paint.specs.declared.painter.Painter.TheInside.{Inside}
 

@@ -6,12 +6,12 @@ use Rattle.con_units.specs.View.{row_of}
 use Rattle.con_term.specs.Pen.{IsPen}
 use Rattle.con_term.specs.Effect.{lifted}
 use Rattle.con_term.specs.Page.{Page}
-use Rattle.con_paint.specs.Leads.{Leads}
-use Rattle.con_paint.specs.Ink.{pen_for}
-use Rattle.con_paint.specs.Compared.{differing, IsLifted}
+use Rattle.con_strokes.specs.Leads.{Leads}
+use Rattle.con_strokes.specs.Ink.{pen_for}
+use Rattle.con_strokes.specs.Compared.{differing, IsLifted}
 use Rattle.con_paint.specs.Frame.{Sized}
-use Rattle.con_paint.specs.Spot.{IsAt}
-use Rattle.con_paint.specs.declared.spot.Spot.{Spot}
+use Rattle.con_strokes.specs.Spot.{IsAt}
+use Rattle.con_strokes.specs.declared.spot.Spot.{Spot}
 
 -- the cells go up by a count of places, and blanks in the starting attribute come behind
 abbrev pub lifted_cells : List Glyph → ℕ → List Glyph

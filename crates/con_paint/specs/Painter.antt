@@ -8,8 +8,8 @@ use Rattle.con_term.specs.Pen.{IsPen}
 use Rattle.con_term.specs.Page.{Page}
 use Rattle.con_term.specs.Play.{play, printed}
 use Rattle.con_term.specs.Terminal.{Terminal, IsTerminal, Shows}
-use Rattle.con_paint.specs.Ink.{pen_for}
-use Rattle.con_paint.specs.Compared.{differing, IsLifted}
+use Rattle.con_strokes.specs.Ink.{pen_for}
+use Rattle.con_strokes.specs.Compared.{differing, IsLifted}
 
 -- what a painter keeps: whether it has painted at this size, that view, the attribute whose pen it left, and the cursor: whether
 -- its place is known, with no wrap pending, and whether it shows

@@ -2,9 +2,9 @@
 use Rattle.std.specs.Prelude.{ℕ, pos, Bool, true, false, ◌≡◌, ◌<◌, List}
 use Rattle.con_units.specs.declared.view.View.{View}
 use Rattle.con_term.specs.Page.{Page}
-use Rattle.con_paint.specs.Leads.{Leads}
+use Rattle.con_strokes.specs.Leads.{Leads}
 use Rattle.con_paint.specs.declared.frame.Caret.{Caret}
-use Rattle.con_paint.specs.declared.spot.Spot.{Spot}
+use Rattle.con_strokes.specs.declared.spot.Spot.{Spot}
 
 -- the bytes change the cursor alone, and leave it at the spot, which is the caret where that shows
 pub record Placed (old new : List ℕ) (s : Page) (caret : Caret) (spot : Spot) : Type 0 where

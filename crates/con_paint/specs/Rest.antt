@@ -3,10 +3,10 @@ use Rattle.std.specs.Prelude.{ℕ, ◌-◌, ◌*◌, ◌<◌, ◌≤◌, ◌≡�
 use Rattle.con_units.specs.Attr.{plain}
 use Rattle.con_units.specs.Glyph.{blank_cell}
 use Rattle.con_term.specs.Page.{Page, filled}
-use Rattle.con_paint.specs.Leads.{Leads}
-use Rattle.con_paint.specs.Ink.{pen_for}
-use Rattle.con_paint.specs.Spot.{IsAt}
-use Rattle.con_paint.specs.declared.spot.State.{State}
+use Rattle.con_strokes.specs.Leads.{Leads}
+use Rattle.con_strokes.specs.Ink.{pen_for}
+use Rattle.con_strokes.specs.Spot.{IsAt}
+use Rattle.con_strokes.specs.declared.spot.State.{State}
 
 -- all rows from this one on are blank, and the cursor stands at their first cell
 abbrev pub cleared_from : ℕ → Page → Page

@@ -3,11 +3,11 @@ use Rattle.std.specs.Prelude.{ℕ, ◌+◌, ◌-◌, ◌*◌, ◌<◌, ◌≤◌
 use Rattle.con_units.specs.Attr.{plain}
 use Rattle.con_units.specs.Glyph.{Glyph, blank_cell}
 use Rattle.con_term.specs.Page.{Page, filled}
-use Rattle.con_paint.specs.Leads.{Leads}
-use Rattle.con_paint.specs.Ink.{pen_for}
-use Rattle.con_paint.specs.Paint.{pasted}
-use Rattle.con_paint.specs.Spot.{IsAt}
-use Rattle.con_paint.specs.declared.spot.State.{State}
+use Rattle.con_strokes.specs.Leads.{Leads}
+use Rattle.con_strokes.specs.Ink.{pen_for}
+use Rattle.con_strokes.specs.Paint.{pasted}
+use Rattle.con_strokes.specs.Spot.{IsAt}
+use Rattle.con_strokes.specs.declared.spot.State.{State}
 use Rattle.con_paint.specs.declared.span.Span.{Span}
 
 -- the columns lie in the row

@@ -4,11 +4,10 @@ ghost use Rattle.std.specs.Vec.{vec_len, vec_capacity};
 ghost use Rattle.con_units.specs.Glyph.{blank_cell};
 ghost use Rattle.con_paint.specs.Columns.{ColumnStep, FirstColumns, IsSameAt, MoreColumns, RunStep};
 
-use crate::cells::{cell, is_same, same};
-use crate::emit::erase_some;
-use crate::pen::choose;
-use crate::span::{blank, plain_attr};
-use crate::spot::{Spot, State, go, spot_behind};
+use con_strokes::cells::{blank, cell, is_same, same};
+use con_strokes::emit::erase_some;
+use con_strokes::pen::{choose, plain_attr};
+use con_strokes::spot::{Spot, State, go, spot_behind};
 use con_units::Cell;
 
 // Whether the cursor stands there, as far as it is known.

@@ -3,16 +3,16 @@ ghost use Rattle.std.specs.Prelude.{◌≡◌, ◌+◌, ◌-◌, ◌*◌, ◌<�
 ghost use Rattle.std.specs.Vec.{vec_len, vec_capacity};
 ghost use Rattle.con_units.specs.View.{row_of, IsWhole};
 ghost use Rattle.con_term.specs.Page.{Page};
-ghost use Rattle.con_paint.specs.Leads.{Leads};
+ghost use Rattle.con_strokes.specs.Leads.{Leads};
 ghost use Rattle.con_paint.specs.Frame.{rows_to_paint, Stands};
 ghost use Rattle.con_paint.specs.Drawn.{Drawn};
 ghost use Rattle.con_paint.specs.Placed.{Placed, IsCaret};
-ghost use Rattle.con_paint.specs.Spot.{IsAt};
+ghost use Rattle.con_strokes.specs.Spot.{IsAt};
 
-use crate::emit::show;
 use crate::lift::Lifting;
 use crate::rows::{is_many, rows, tail_of};
-use crate::spot::{Spot, State, go};
+use con_strokes::emit::show;
+use con_strokes::spot::{Spot, State, go};
 use con_units::{Cell, Size, View, index_of};
 
 /// A cursor, counted from 0.

@@ -13,17 +13,11 @@
 //! Never promised: which bytes are written, and that they are the fewest.
 #![tactic(auto)]
 
-pub mod cells;
-pub mod checksum;
 pub mod columns;
-pub mod emit;
 pub mod frame;
 pub mod lift;
 pub mod painter;
-pub mod pen;
 pub mod rows;
 pub mod span;
-pub mod spot;
-pub mod width;
 
 pub use painter::{Painter, room_for};

@@ -6,20 +6,19 @@ ghost use Rattle.con_units.specs.Attr.{plain};
 ghost use Rattle.con_units.specs.Glyph.{blank_cell};
 ghost use Rattle.con_units.specs.View.{row_of};
 ghost use Rattle.con_term.specs.Page.{Page};
-ghost use Rattle.con_paint.specs.Ink.{pen_for};
-ghost use Rattle.con_paint.specs.Checksum.{IsSummed, AreSummed};
-ghost use Rattle.con_paint.specs.Compared.{same_cells, differing, IsLifted};
+ghost use Rattle.con_strokes.specs.Ink.{pen_for};
+ghost use Rattle.con_strokes.specs.Checksum.{IsSummed, AreSummed};
+ghost use Rattle.con_strokes.specs.Compared.{same_cells, differing, IsLifted};
 ghost use Rattle.con_paint.specs.Frame.{rows_to_paint};
 ghost use Rattle.con_paint.specs.Lift.{IsLeastBelow, Lifted, Lifts, Rises, lifted_cells};
-ghost use Rattle.con_paint.specs.Spot.{IsAt};
+ghost use Rattle.con_strokes.specs.Spot.{IsAt};
 
-use crate::cells::same;
-use crate::checksum::{Checksums, agree, renewed};
-use crate::emit::{ground, new_row, up};
-use crate::pen::choose;
 use crate::rows::differs;
-use crate::span::{blank, plain_attr};
-use crate::spot::Spot;
+use con_strokes::cells::{blank, same};
+use con_strokes::checksum::{Checksums, agree, renewed};
+use con_strokes::emit::{ground, new_row, up};
+use con_strokes::pen::{choose, plain_attr};
+use con_strokes::spot::Spot;
 use con_units::{Attr, Cell, Size};
 
 /// What a lift leaves: the attribute of the pen, the cursor's place, whether the rows were lifted, and how many rows at most are

@@ -3,15 +3,15 @@ ghost use Rattle.std.specs.Prelude.{◌≡◌, ◌+◌, ◌-◌, ◌*◌, ◌<�
 ghost use Rattle.std.specs.Vec.{vec_len, vec_capacity};
 ghost use Rattle.con_units.specs.Glyph.{blank_cell};
 ghost use Rattle.con_units.specs.View.{row_of};
-ghost use Rattle.con_paint.specs.Compared.{same_cells};
+ghost use Rattle.con_strokes.specs.Compared.{same_cells};
 ghost use Rattle.con_paint.specs.Frame.{rows_to_paint, Rows, RowStep};
 ghost use Rattle.con_paint.specs.Rest.{RestStep};
 
-use crate::cells::{is_same, same};
-use crate::emit::erase_rest;
-use crate::pen::choose;
-use crate::span::{blank, line, plain_attr, span_of};
-use crate::spot::{Spot, State, go};
+use crate::span::{line, span_of};
+use con_strokes::cells::{blank, is_same, same};
+use con_strokes::emit::erase_rest;
+use con_strokes::pen::{choose, plain_attr};
+use con_strokes::spot::{Spot, State, go};
 use con_units::{Cell, Size};
 
 /// Whether a row has to be painted: all where nothing is known, else those that are marked and differ.

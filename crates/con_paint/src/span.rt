@@ -1,19 +1,18 @@
 //! The part of a row that is written: from the first cell that differs to the last one, or to the blanks at the row's end.
 ghost use Rattle.std.specs.Prelude.{◌≡◌, ◌+◌, ◌-◌, ◌*◌, ◌<◌, ◌≤◌, ℕ, List, true, false, length, take, drop, replicate};
 ghost use Rattle.std.specs.Vec.{vec_len, vec_capacity};
-ghost use Rattle.con_units.specs.Attr.{plain};
 ghost use Rattle.con_units.specs.Glyph.{Glyph, blank_cell};
 ghost use Rattle.con_units.specs.View.{row_of};
 ghost use Rattle.con_term.specs.Page.{Page};
 ghost use Rattle.con_paint.specs.Frame.{Stands, Painted};
 ghost use Rattle.con_paint.specs.Span as spans;
-ghost use Rattle.con_paint.specs.Spot.{IsAt};
+ghost use Rattle.con_strokes.specs.Spot.{IsAt};
 
-use crate::cells::{is_same, is_same_attr};
 use crate::columns::columns;
-use crate::emit::erase_row;
-use crate::pen::choose;
-use crate::spot::{Spot, State, go};
+use con_strokes::cells::{blank, is_same, is_same_attr};
+use con_strokes::emit::erase_row;
+use con_strokes::pen::{choose, plain_attr};
+use con_strokes::spot::{Spot, State, go};
 use con_units::{Attr, Cell};
 
 /// The columns of a row that are printed, and whether those behind them are erased.
@@ -22,20 +21,6 @@ pub struct Span {
     pub from: usize,
     pub upto: usize,
     pub erase: bool,
-}
-
-/// The attribute that a terminal starts with.
-pub(crate) fn plain_attr() -> Attr
-    ensures { result ≡ plain 7 }
-{
-    Attr::of(7)
-}
-
-/// A space in the attribute that a terminal starts with.
-pub(crate) fn blank() -> Cell
-    ensures { result ≡ blank_cell }
-{
-    Cell::new(0x20, plain_attr())
 }
 
 // The first column in which two rows differ, or the last one where there is none.

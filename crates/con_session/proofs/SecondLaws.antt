@@ -18,7 +18,7 @@ use Rattle.con_link.specs.declared.mirror.MirrorFrame.{MirrorFrame}
 use Rattle.con_link.specs.declared.mirror.MirrorFrame.TheVariants.{Plain, Attach, Detach}
 use Rattle.con_term.specs.Play.{play, printed}
 use Rattle.con_term.specs.Terminal.{Terminal}
-use Rattle.con_paint.specs.Compared.{differing, IsLifted}
+use Rattle.con_strokes.specs.Compared.{differing, IsLifted}
 use Rattle.con_paint.specs.Painter.{Kept, Allows, Paints, IsShown, unpainted}
 use Rattle.con_mirror.specs.Part.{part}
 use Rattle.con_mirror.specs.Mirror.{at_size, size_in}

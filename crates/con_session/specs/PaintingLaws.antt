@@ -8,7 +8,7 @@ use Rattle.con_units.specs.declared.view.Sight.{Sight}
 use Rattle.con_units.specs.declared.view.Sight.TheVariants as sights
 use Rattle.con_term.specs.Play.{play, printed}
 use Rattle.con_term.specs.Terminal.{Terminal, IsTerminal}
-use Rattle.con_paint.specs.Compared.{differing, IsLifted}
+use Rattle.con_strokes.specs.Compared.{differing, IsLifted}
 use Rattle.con_paint.specs.Painter.{Kept, Allows, Paints, IsShown, unpainted}
 use Rattle.con_events.specs.declared.actor.Actor.{Actor}
 use Rattle.con_events.specs.declared.actor.Actor.TheVariants as actors

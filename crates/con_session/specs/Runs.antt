@@ -5,7 +5,7 @@ use Rattle.con_units.specs.declared.view.Sight.{Sight}
 use Rattle.con_units.specs.declared.view.Sight.TheVariants as sights
 use Rattle.con_term.specs.Play.{play, printed}
 use Rattle.con_term.specs.Terminal.{Terminal, IsTerminal}
-use Rattle.con_paint.specs.Compared.{differing, IsLifted}
+use Rattle.con_strokes.specs.Compared.{differing, IsLifted}
 use Rattle.con_laws.specs.TerminalRuns.{ShowsView}
 
 -- at most the rows that differ are printed, or the window

@@ -1,6 +1,6 @@
 -- A plain pen, and then the lift.
 use Rattle.con_units.specs.Attr.{plain}
-use Rattle.con_paint.specs.Ink.{pen_for}
+use Rattle.con_strokes.specs.Ink.{pen_for}
 use Rattle.con_paint.proofs.LiftLemmas.{scrolls}
 use Rattle.con_paint.proofs.lift.scroll.Goals as goal
 

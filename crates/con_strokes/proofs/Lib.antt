@@ -1,0 +1,7 @@
+pub mod SpellLemmas
+pub mod SameLemmas
+pub mod PenLemmas
+pub mod LeadLemmas
+pub mod RunLemmas
+pub mod SpotLemmas
+pub mod SumLemmas

@@ -1,0 +1,6 @@
+-- Controls.
+use Rattle.con_strokes.proofs.LeadLemmas.{goes_to_second_row}
+use Rattle.con_strokes.proofs.emit.second_row.Goals as goal
+
+pub returns-clause-leads : goal.returns-clause-leads
+returns-clause-leads c = λ s below. goes_to_second_row _ _ s c.append.ensures.bytes below
