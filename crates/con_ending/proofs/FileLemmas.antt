@@ -8,7 +8,7 @@ use Rattle.con_script.specs.declared.place.SessionFault.TheVariants as faults
 use Rattle.con_script.specs.Document.{document, json_of, path}
 use Rattle.con_script.specs.Places.{IsJson, IsAt}
 use Rattle.con_script.specs.Session.{Where}
-use Rattle.con_trace.specs.Ending.{worded}
+use Rattle.con_lines.specs.Ending.{worded}
 use Rattle.con_ending.specs.declared.file.Unrun.{Unrun}
 use Rattle.con_ending.specs.declared.file.Unrun.TheVariants as unrun
 use Rattle.con_ending.specs.Files.{IsFile, Explains, Misread, no_json, no_session}

@@ -1,8 +1,8 @@
 -- The last line of a report, where the status alone tells it.
 use Rattle.std.specs.Prelude.{◌≡◌, ℕ, ◌==◌, List, [], Option, Some, None, codes, if◌then◌else◌}
 use Rattle.con_outside.specs.Outside.{then_written, WroteFront}
-use Rattle.con_trace.specs.Ending.{Ending, worded, ending_text}
-use Rattle.con_trace.specs.Line.{ended}
+use Rattle.con_lines.specs.Ending.{Ending, worded, ending_text}
+use Rattle.con_lines.specs.Line.{ended}
 
 -- what the last line of a status says, where there is one
 abbrev pub ending_at : ℕ → Option Ending

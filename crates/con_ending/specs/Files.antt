@@ -5,8 +5,8 @@ use Rattle.con_outside.specs.Outside.{then_written, WroteFront, WrotePart}
 use Rattle.con_outside.specs.Named.{IsTooLong}
 use Rattle.con_script.specs.Document.{document, json_of, path}
 use Rattle.con_script.specs.Session.{Where}
-use Rattle.con_trace.specs.Ending.{Ending, worded, status_of, ending_of, ending_text}
-use Rattle.con_trace.specs.Line.{ended}
+use Rattle.con_lines.specs.Ending.{Ending, worded, status_of, ending_of, ending_text}
+use Rattle.con_lines.specs.Line.{ended}
 use Rattle.con_ending.specs.declared.file.Unrun.{Unrun}
 use Rattle.con_ending.specs.declared.file.Unrun.TheVariants as unrun
 use Rattle.std.specs.Str.{encode_utf8_all}

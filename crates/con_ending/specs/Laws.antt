@@ -2,7 +2,7 @@
 use Rattle.std.proofs.Common.{◌≡◌, ◌≢◌, ℕ, zero, ◌<◌, List, [], ◌∷◌, length, Option, sym, ◌∙◌, arith}
 use Rattle.con_outside.specs.Laws.{then_written-none}
 use Rattle.con_outside.specs.Outside.{WrotePart}
-use Rattle.con_trace.specs.Line.{ended}
+use Rattle.con_lines.specs.Line.{ended}
 use Rattle.con_ending.specs.Ending.{end_line}
 
 -- the status is that of want of memory, so the line of another status is not whole

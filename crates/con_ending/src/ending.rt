@@ -2,7 +2,7 @@
 
 ghost use Rattle.std.specs.Prelude.{◌≡◌, ℕ, ◌+◌, ◌<◌, ◌≤◌, ◌≢◌, ◌⊎◌, List, take, IfSome, option_map};
 ghost use Rattle.con_outside.specs.Outside.{Rose, then_written, WroteFront, WrotePart};
-ghost use Rattle.con_trace.specs.Ending.{ending_of};
+ghost use Rattle.con_lines.specs.Ending.{ending_of};
 ghost use Rattle.con_ending.specs.Ending.{ending_at, end_line};
 
 use con_outside::{Fault, Sink};

@@ -3,7 +3,7 @@
 ghost use Rattle.std.specs.Prelude.{◌≡◌, ◌≤◌, ℕ, List, Some, Ok, IfOk, IfErr};
 ghost use Rattle.con_outside.specs.Outside.{Rose};
 ghost use Rattle.con_script.specs.Document.{document};
-ghost use Rattle.con_trace.specs.Ending.{ending_of, status_of};
+ghost use Rattle.con_lines.specs.Ending.{ending_of, status_of};
 ghost use Rattle.con_ending.specs.Files.{IsFile, Explains, Misread, Tells};
 
 use con_events::Session;

@@ -32,10 +32,10 @@ use Rattle.con_machine.specs.ProcessCalls.{on_place}
 use Rattle.con_machine.specs.Reads.{began, collected, took_ctrl, answer_told, units_told}
 use Rattle.con_machine.specs.Step.{client_of, effect, finished, is_outside, step}
 use Rattle.con_machine.specs.declared.reads.noted.Noted.{Noted}
-use Rattle.con_trace.specs.declared.form.Form.{Form}
-use Rattle.con_trace.specs.declared.form.Form.TheVariants as form
-use Rattle.con_trace.specs.Fits.{IsFlag}
-use Rattle.con_trace.specs.Form.{call_form, form_of}
+use Rattle.con_lines.specs.declared.form.Form.{Form}
+use Rattle.con_lines.specs.declared.form.Form.TheVariants as form
+use Rattle.con_lines.specs.Fits.{IsFlag}
+use Rattle.con_lines.specs.Form.{call_form, form_of}
 use Rattle.con_forms.specs.Formed.{HasForm, refuses, is_done, has_number, has_fields, has_flag, has_sides, has_ids, has_units, has_records, has_cells, has_lines, waits_for_units, waits_for_records, has_control}
 use Rattle.con_forms.specs.Laws.{AnswerHasForm, AnswersHaveForms}
 use Rattle.con_forms.proofs.Plain.{rect_plain}

@@ -7,9 +7,9 @@ use Rattle.con_units.specs.declared.shade.Shade.TheVariants.{Plain}
 use Rattle.con_records.specs.declared.record.Record.{Record}
 use Rattle.con_events.specs.declared.reply.Reply.{Reply}
 use Rattle.con_events.specs.declared.reply.Reply.TheVariants as reply
-use Rattle.con_trace.specs.declared.form.Form.{Form}
-use Rattle.con_trace.specs.declared.form.Form.TheVariants.{Nothing, Number, Fields, NumberAndFlag, Sides, Ids, Units, Records, Cells, Lines, Wait, Control}
-use Rattle.con_trace.specs.Fits.{IsFlag}
+use Rattle.con_lines.specs.declared.form.Form.{Form}
+use Rattle.con_lines.specs.declared.form.Form.TheVariants.{Nothing, Number, Fields, NumberAndFlag, Sides, Ids, Units, Records, Cells, Lines, Wait, Control}
+use Rattle.con_lines.specs.Fits.{IsFlag}
 
 -- cells with plain shades
 abbrev pub ArePlain : List Glyph → Type 0

@@ -11,8 +11,8 @@ use Rattle.con_events.specs.declared.end.End.TheVariants as ends
 use Rattle.con_events.specs.declared.entry.Entry.{Entry}
 use Rattle.con_events.specs.declared.reply.Reply.{Reply}
 use Rattle.con_events.specs.declared.reply.Reply.TheVariants as reply
-use Rattle.con_trace.specs.Fits.{EventFits, AreWhole, AreTexts}
-use Rattle.con_trace.specs.Shown.{cell_words}
+use Rattle.con_lines.specs.Fits.{EventFits, AreWhole, AreTexts}
+use Rattle.con_lines.specs.Shown.{cell_words}
 
 abbrev pub ActorKeeps : Actor → Type 0
 ActorKeeps (actor.Client p) = p < 256

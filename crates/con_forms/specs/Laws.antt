@@ -10,7 +10,7 @@ use Rattle.con_machine.specs.Follows.{are_of_session}
 use Rattle.con_machine.specs.History.{is_legal, replies_of}
 use Rattle.con_machine.specs.State.{State}
 use Rattle.con_machine.specs.Step.{step}
-use Rattle.con_trace.specs.Form.{form_of}
+use Rattle.con_lines.specs.Form.{form_of}
 use Rattle.con_trace.specs.Report.{History, IsHistory, pictures, said}
 use Rattle.con_forms.specs.Formed.{HasForm, IsPicture, reported}
 use Rattle.con_forms.specs.Kept.{Kept}

@@ -5,7 +5,7 @@ use Rattle.con_events.specs.declared.event.Event.{Event}
 use Rattle.con_events.specs.declared.event.Event.TheVariants as event
 use Rattle.con_events.specs.declared.reply.Reply.{Reply}
 use Rattle.con_trace.specs.Report.{History, end_of, ends_behind}
-use Rattle.con_trace.specs.declared.said.Said.{Said}
+use Rattle.con_lines.specs.declared.said.Said.{Said}
 
 -- a picture has one of the lengths that are still to come, and any other event none
 abbrev pub has_end : Event → List ℕ → Bool

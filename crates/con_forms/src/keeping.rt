@@ -6,8 +6,8 @@ ghost use Rattle.con_units.specs.Stored.{stored_unit};
 ghost use Rattle.con_events.specs.Arg.{Clip, WordsOf};
 ghost use Rattle.con_events.specs.Fits.{AreUnits, ArgFits, ArgsFit, IsSmall, RecordFits, RecordsFit, RectFits};
 ghost use Rattle.con_events.specs.Table.{args_of};
-ghost use Rattle.con_trace.specs.Fits.{AreBytes, AreTexts, AreWhole, EventFits, IsWhole, WantedFits};
-ghost use Rattle.con_trace.specs.Shown.{cell_words};
+ghost use Rattle.con_lines.specs.Fits.{AreBytes, AreTexts, AreWhole, EventFits, IsWhole, WantedFits};
+ghost use Rattle.con_lines.specs.Shown.{cell_words};
 ghost use Rattle.con_forms.specs.Kept.{ActorKeeps, AreCells, EndKeeps, EndsKeep, EntriesKeep, EntryKeeps, Kept, RepliesKeep, ReplyKeeps};
 
 use con_events::{

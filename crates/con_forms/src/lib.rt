@@ -2,7 +2,7 @@
 //!
 //! con_machine says what the console answers, con_trace what lines a report may have; neither knows of the other. Here is what joins them:
 //!
-//! - [`an_answer_has_its_form`] is the law that every event, in whatever state of the console, is answered by the form that con_trace gives it
+//! - [`an_answer_has_its_form`] is the law that every event, in whatever state of the console, is answered by the form that con_lines gives it
 //!   (`HasForm` of `specs/Formed`): the kind of answer, how many numbers, which of them is a flag, and that cells have plain shades.
 //! - [`types_are_kept`] reads entries, answers, lengths and an end, and tells of them what their types keep (`Kept` of `specs/Kept`): that a unit
 //!   has 16 bits, a number 32. It changes nothing; it is for what the console's definition, which counts without bounds, does not say.

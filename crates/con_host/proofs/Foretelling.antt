@@ -22,7 +22,7 @@ use Rattle.con_events.specs.declared.entry.Entry.{Entry}
 use Rattle.con_events.specs.declared.reply.Reply.{Reply}
 use Rattle.con_session.specs.Outcome.{HasSentBy, LeavesBy}
 use Rattle.con_session.specs.Sender.{IsLinkBy, all_go_on}
-use Rattle.con_trace.specs.Ending.{status_of}
+use Rattle.con_lines.specs.Ending.{status_of}
 use Rattle.con_host.specs.Foretold.{ForetellsBy, HasNoFrameBy, StandsBy}
 use Rattle.con_host.specs.Sessions.{IsStatus, ending_after}
 use Rattle.con_host.proofs.Certain.{Certain, IsTold}

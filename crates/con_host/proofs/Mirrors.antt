@@ -4,8 +4,8 @@ use Rattle.con_events.specs.declared.end.End.{End}
 use Rattle.con_events.specs.declared.end.End.TheVariants as ends
 use Rattle.con_laws.specs.Rounds.{is_memory}
 use Rattle.con_outside.specs.Outside.{then_written, WrotePart}
-use Rattle.con_trace.specs.Ending.{ending_of, status_of}
-use Rattle.con_trace.specs.declared.ending.EndLine.{EndLine}
+use Rattle.con_lines.specs.Ending.{ending_of, status_of}
+use Rattle.con_lines.specs.declared.ending.EndLine.{EndLine}
 use Rattle.con_host.specs.Mirroring.{HasMirrored, IsMirrorStatus, mirror_ending, mirror_failed_after}
 use Rattle.con_ending.specs.Files.{Explains, Tells}
 use Rattle.con_host.specs.Sessions.{IsStatus, ending_after}

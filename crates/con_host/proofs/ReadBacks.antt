@@ -19,7 +19,7 @@ use Rattle.con_machine.specs.Step.{step}
 use Rattle.con_machine.specs.Turns.{is_paint, paints}
 use Rattle.con_session.specs.Desk.{listed}
 use Rattle.con_session.specs.Outcome.{LeavesBy}
-use Rattle.con_trace.specs.Ending.{Ending, IsEnding, alone, done, no_memory, link, terminal, too_long, mirror, frame, status_of}
+use Rattle.con_lines.specs.Ending.{Ending, IsEnding, alone, done, no_memory, link, terminal, too_long, mirror, frame, status_of}
 use Rattle.con_trace.specs.Report.{History, IsHistory, ReportTells, history_of, pictures, report, with_picture}
 use Rattle.con_forms.specs.Formed.{reported}
 use Rattle.con_forms.specs.Kept.{EndKeeps, Kept}

@@ -5,7 +5,7 @@ use Rattle.con_events.specs.Session.{Clients}
 use Rattle.con_outside.specs.Named.{IsTooLong}
 use Rattle.con_script.specs.Document.{document, json_of}
 use Rattle.con_script.specs.Session.{Where, session_in}
-use Rattle.con_trace.specs.Ending.{Ending, status_of}
+use Rattle.con_lines.specs.Ending.{Ending, status_of}
 use Rattle.con_host.specs.Foretold.{IsSession}
 use Rattle.con_ending.specs.Files.{Holds, IsFile, Reason, missing, unread, too_long, no_json, no_session, Tells, ending_for}
 

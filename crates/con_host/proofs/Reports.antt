@@ -3,7 +3,7 @@ use Rattle.std.proofs.Common.{◌≡◌, ◌⊎◌, inl, inr, subst, ℕ, List, 
 use Rattle.con_events.specs.declared.entry.Entry.{Entry}
 use Rattle.con_events.specs.declared.reply.Reply.{Reply}
 use Rattle.con_outside.specs.Outside.{then_written, WroteFront, WrotePart}
-use Rattle.con_trace.specs.Ending.{Ending, status_of}
+use Rattle.con_lines.specs.Ending.{Ending, status_of}
 use Rattle.con_host.specs.Telling.{Reported, ended_report, told_report}
 
 pub status_told : (s : ℕ) (text : List ℕ) (told lost : ℕ) (before now : Option (List ℕ)) (failed : Type 0) → Reported s text told lost before now failed → (s ≡ told) ⊎ ((s ≡ lost) ⊎ (s ≡ 9))

@@ -3,8 +3,8 @@ use Rattle.std.proofs.Common.{◌≡◌, inl, inr, refl, sym, subst, ◌∙◌, 
 use Rattle.con_events.specs.Session.{Clients}
 use Rattle.con_events.specs.declared.end.End.{End}
 use Rattle.con_events.specs.declared.end.End.TheVariants as ends
-use Rattle.con_trace.specs.declared.ending.EndLine.{EndLine}
-use Rattle.con_trace.specs.Ending.{ending_of, status_of}
+use Rattle.con_lines.specs.declared.ending.EndLine.{EndLine}
+use Rattle.con_lines.specs.Ending.{ending_of, status_of}
 use Rattle.con_ending.specs.Files.{Explains, NotRun, Reason, missing, unread, too_long, no_json, no_session, OfFile, Tells, ending_for}
 use Rattle.con_host.specs.Sessions.{IsStatus, HasRun, Soloed, ending_after, failed_after}
 use Rattle.con_ending.specs.declared.file.Unrun.TheVariants as unrun

@@ -7,9 +7,9 @@ use Rattle.con_outside.specs.Outside.{then_written, WroteFront, WrotePart}
 use Rattle.con_outside.specs.Laws.{then_written-none, then_written-more}
 use Rattle.con_events.specs.declared.entry.Entry.{Entry}
 use Rattle.con_events.specs.declared.reply.Reply.{Reply}
-use Rattle.con_trace.specs.declared.said.Said.{Said}
-use Rattle.con_trace.specs.Ending.{Ending, ending_text}
-use Rattle.con_trace.specs.Line.{ended, line_text}
+use Rattle.con_lines.specs.declared.said.Said.{Said}
+use Rattle.con_lines.specs.Ending.{Ending, ending_text}
+use Rattle.con_lines.specs.Line.{ended, line_text}
 use Rattle.con_trace.specs.Report.{said, said_text, report, end_of, ends_behind}
 use Rattle.con_forms.specs.Told.{has_end, is_told, told}
 use Rattle.con_host.specs.Telling.{ended_report, lines_text, told_report}

@@ -3,7 +3,7 @@ use Rattle.std.proofs.Common.{◌≡◌, ◌⊎◌, inl, inr, refl, sym, subst, 
 use Rattle.con_events.specs.declared.end.End.{End}
 use Rattle.con_events.specs.declared.end.End.TheVariants as ends
 use Rattle.con_outside.specs.Outside.{then_written, WrotePart}
-use Rattle.con_trace.specs.Ending.{status_of}
+use Rattle.con_lines.specs.Ending.{status_of}
 use Rattle.con_host.specs.Sessions.{IsStatus, ending_after, failed_after}
 use Rattle.con_host.specs.Telling.{Reported}
 use Rattle.con_host.proofs.Reports.{cut_by, failed_by, status_told, whole_by}

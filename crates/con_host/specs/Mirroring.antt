@@ -10,7 +10,7 @@ use Rattle.con_script.specs.Document.{document}
 use Rattle.con_machine.specs.Follows.{session_start}
 use Rattle.con_laws.specs.Once.{TakenOnce}
 use Rattle.con_session.specs.Second.{IsMirrorOutcome}
-use Rattle.con_trace.specs.Ending.{Ending, worded, status_of}
+use Rattle.con_lines.specs.Ending.{Ending, worded, status_of}
 use Rattle.con_host.specs.Telling.{told_report}
 use Rattle.con_host.specs.Sessions.{IsCut, ReadBack, ending_after, failed_after}
 use Rattle.con_ending.specs.Files.{IsFile, NotRun}

@@ -11,7 +11,7 @@ use Rattle.con_laws.specs.Once.{TakenOnce}
 use Rattle.con_laws.specs.Rounds.{Rounds, is_memory}
 use Rattle.con_session.specs.Outcome.{Leaves}
 use Rattle.con_ending.specs.Files.{OfFile}
-use Rattle.con_trace.specs.Ending.{Ending, IsEnding, alone, worded, at_frame, status_of}
+use Rattle.con_lines.specs.Ending.{Ending, IsEnding, alone, worded, at_frame, status_of}
 use Rattle.con_trace.specs.Report.{History, IsHistory, IsReport, report_of}
 use Rattle.con_trace.specs.declared.trace.Trace.{Trace}
 use Rattle.con_forms.specs.Told.{is_told}

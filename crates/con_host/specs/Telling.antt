@@ -3,8 +3,8 @@ use Rattle.std.specs.Prelude.{◌≡◌, ◌⊎◌, ℕ, List, [], ◌∷◌, �
 use Rattle.con_events.specs.declared.entry.Entry.{Entry}
 use Rattle.con_events.specs.declared.reply.Reply.{Reply}
 use Rattle.con_outside.specs.Outside.{then_written, WrotePart}
-use Rattle.con_trace.specs.Ending.{Ending}
-use Rattle.con_trace.specs.declared.said.Said.{Said}
+use Rattle.con_lines.specs.Ending.{Ending}
+use Rattle.con_lines.specs.declared.said.Said.{Said}
 use Rattle.con_trace.specs.Report.{report, said, said_text}
 use Rattle.con_forms.specs.Told.{is_told, told}
 

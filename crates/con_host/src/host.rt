@@ -5,7 +5,7 @@ ghost use Rattle.con_outside.specs.Outside.{Rose, then_left};
 ghost use Rattle.con_session.specs.Worker.{told_kind};
 ghost use Rattle.con_events.specs.Session.{Clients};
 ghost use Rattle.con_events.specs.declared.end.End.{End};
-ghost use Rattle.con_trace.specs.Ending.{status_of};
+ghost use Rattle.con_lines.specs.Ending.{status_of};
 ghost use Rattle.con_units.specs.declared.place.Size.{Size};
 ghost use Rattle.con_host.specs.Foretold.{Foretells, HasNoFrame, HasNoMirrorFrame, IsSession, MirrorForetells};
 ghost use Rattle.con_host.specs.Sessions.{ending_after};

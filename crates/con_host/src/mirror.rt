@@ -8,7 +8,7 @@ ghost use Rattle.con_host.specs.Foretold.{HasNoMirrorFrame, IsSession, MirrorFor
 ghost use Rattle.con_host.specs.Mirroring.{HasMirrored, RanMirrored, mirror_ending, mirror_failed_after};
 ghost use Rattle.con_host.specs.Sessions.{ending_after};
 ghost use Rattle.con_session.specs.Worker.{told_kind};
-ghost use Rattle.con_trace.specs.Ending.{ending_of, status_of};
+ghost use Rattle.con_lines.specs.Ending.{ending_of, status_of};
 
 use crate::session::{failed_status, last_of, tell_with};
 use con_ending::{Unrun, close, session_of};

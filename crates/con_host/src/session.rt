@@ -2,7 +2,7 @@
 
 ghost use Rattle.std.specs.Prelude.{◌≡◌, ◌≤◌};
 ghost use Rattle.con_outside.specs.Outside.{Rose, then_written, WroteFront};
-ghost use Rattle.con_trace.specs.Ending.{ending_of, status_of};
+ghost use Rattle.con_lines.specs.Ending.{ending_of, status_of};
 ghost use Rattle.con_host.specs.Sessions.{IsCut, IsStatus, ending_after, failed_after, report_text, whole_text};
 ghost use Rattle.con_host.specs.Telling.{Reported, ended_report, told_report};
 

@@ -5,9 +5,9 @@ use Rattle.con_events.specs.Session.{Clients}
 use Rattle.con_outside.specs.Outside.{then_written}
 use Rattle.con_script.specs.Document.{document}
 use Rattle.con_trace.specs.Audit.{a_run, found_text}
-use Rattle.con_trace.specs.Ending.{Ending, status_of, ending_of}
-use Rattle.con_trace.specs.Line.{ended}
-use Rattle.con_trace.specs.declared.ending.EndLine.{EndLine}
+use Rattle.con_lines.specs.Ending.{Ending, status_of, ending_of}
+use Rattle.con_lines.specs.Line.{ended}
+use Rattle.con_lines.specs.declared.ending.EndLine.{EndLine}
 use Rattle.con_ending.specs.Files.{Reason, missing, unread, too_long, no_json, no_session, Misread, Tells, ending_for}
 use Rattle.con_ending.specs.declared.file.Unrun.{Unrun}
 use Rattle.con_ending.specs.declared.file.Unrun.TheVariants as unrun

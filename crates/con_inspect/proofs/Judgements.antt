@@ -6,7 +6,7 @@ use Rattle.con_link.specs.Only.{OneAnswer}
 use Rattle.con_outside.specs.Named.{IsTooLong}
 use Rattle.con_script.specs.Document.{document, json_of}
 use Rattle.con_script.specs.Session.{Where, session_in}
-use Rattle.con_trace.specs.Ending.{Ending, status_of}
+use Rattle.con_lines.specs.Ending.{Ending, status_of}
 use Rattle.con_trace.specs.Report.{History, IsReport, IsWrongAt, NoneIsWrong, ReportTells, history_of}
 use Rattle.con_trace.specs.declared.trace.Trace.{Trace}
 use Rattle.con_ending.specs.Files.{IsFile, Reason, missing, unread, too_long, no_json, no_session, ending_for}

@@ -4,8 +4,8 @@ use Rattle.con_events.specs.Session.{Clients}
 use Rattle.con_outside.specs.Outside.{then_written, WrotePart}
 use Rattle.con_script.specs.Document.{document}
 use Rattle.con_trace.specs.Audit.{a_run, found_text}
-use Rattle.con_trace.specs.Ending.{status_of}
-use Rattle.con_trace.specs.Line.{ended}
+use Rattle.con_lines.specs.Ending.{status_of}
+use Rattle.con_lines.specs.Line.{ended}
 use Rattle.con_trace.specs.Report.{IsReport}
 use Rattle.con_trace.specs.declared.trace.Trace.{Trace}
 use Rattle.con_ending.specs.Files.{Reason, Tells, ending_for}

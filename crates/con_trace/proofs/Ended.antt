@@ -2,7 +2,7 @@
 use Rattle.std.proofs.Common.{ℕ, zero, ◌<◌, List, [], ◌∷◌, length, Option, arith}
 use Rattle.con_outside.specs.Laws.{then_written-none}
 use Rattle.con_outside.specs.Outside.{WrotePart}
-use Rattle.con_trace.specs.Line.{ended}
+use Rattle.con_lines.specs.Line.{ended}
 
 ends_later : (text : List ℕ) → 0 < length (ended text)
 ends_later [] = omega arith

@@ -9,13 +9,13 @@ use Rattle.std.proofs.lemmas.Grind.{common_steps}
 use Rattle.con_events.specs.declared.event.Event.{Event}
 use Rattle.con_events.specs.declared.event.Event.TheVariants as event
 use Rattle.con_events.specs.declared.reply.Reply.{Reply}
-use Rattle.con_trace.specs.declared.said.Said.{Said}
-use Rattle.con_trace.specs.Line.{line_text, ended}
-use Rattle.con_trace.specs.Fits.{AnswerFits}
-use Rattle.con_trace.specs.Ending.{Ending, IsEnding, ending_text}
-use Rattle.con_trace.specs.Report.{IsLine, AreLines, said_text, report, History, end_of, ends_behind, said, with_picture, pictures, IsHistory, report_of, IsWrongAt}
+use Rattle.con_lines.specs.declared.said.Said.{Said}
+use Rattle.con_lines.specs.Line.{line_text, ended}
+use Rattle.con_lines.specs.Fits.{AnswerFits, IsLine}
+use Rattle.con_lines.specs.Ending.{Ending, IsEnding, ending_text}
+use Rattle.con_trace.specs.Report.{AreLines, said_text, report, History, end_of, ends_behind, said, with_picture, pictures, IsHistory, report_of, IsWrongAt}
 use Rattle.con_trace.specs.Cut.{cut_line, IsNeither, texts, with_end, ends_of, with_said, Gathers}
-use Rattle.con_trace.proofs.TablesFit.{map_keeps}
+use Rattle.con_lines.proofs.TablesFit.{map_keeps}
 use Rattle.con_trace.proofs.Tells.{said_cut, ending_cut, ended_then}
 
 -- ---- a text cut at its first line feed

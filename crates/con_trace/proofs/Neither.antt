@@ -1,20 +1,17 @@
 -- Lines that are neither an event's nor a last one.
 use Rattle.std.proofs.Common.{◌≡◌, ℕ, List, ap, sym, subst, ◌∙◌, Option, Some, None, Bool, true, false}
-use Rattle.std.specs.Prelude.{unwrap_or, IfSome, option_map, option_and_then}
+use Rattle.std.specs.Prelude.{unwrap_or, option_and_then}
 use Rattle.std.specs.Str.{IsUtf8}
 use Rattle.serde_json.specs.Data.{Data}
 use Rattle.serde_json.specs.Read.{read}
-use Rattle.con_trace.specs.declared.last.Last.{Last}
-use Rattle.con_trace.specs.declared.said.Said.{Said}
-use Rattle.con_trace.specs.Line.{line_text, line_data}
-use Rattle.con_trace.specs.Ending.{Ending, IsEnding, ending_text, ending_data}
-use Rattle.con_trace.specs.Report.{IsLine}
-use Rattle.con_trace.specs.Last.{last_of, TextFits}
-use Rattle.con_trace.specs.Told.{said_in, ending_in}
+use Rattle.con_lines.specs.declared.said.Said.{Said}
+use Rattle.con_lines.specs.Line.{line_text, line_data}
+use Rattle.con_lines.specs.Ending.{Ending, IsEnding, ending_text, ending_data}
+use Rattle.con_lines.specs.Fits.{IsLine}
+use Rattle.con_lines.specs.Told.{said_in, ending_in}
 use Rattle.con_trace.specs.Cut.{IsNeither}
-use Rattle.con_trace.proofs.EndingFits.{ending_is}
-use Rattle.con_trace.proofs.LineBack.{said_back, ending_back}
-use Rattle.con_trace.proofs.TellsFit.{told_is_line}
+use Rattle.con_lines.proofs.LineBack.{said_back, ending_back}
+use Rattle.con_lines.proofs.TellsFit.{told_is_line}
 use Rattle.con_trace.proofs.Tells.{line_read, line_utf8, ending_read, ending_utf8, ending_says_nothing}
 
 pub clash : (b : Bool) → b ≡ false → b ≡ true → ⊥
@@ -57,10 +54,6 @@ other_line line d s e m not = (
   λ t p h. not (h ∙ ap (λ u. line_text u.entry u.reply u.end) (sym (some_same s t (sym m ∙ (ap said_in (line_tree line d t e p h) ∙ said_back t p))))),
   λ f p h. none_some s (sym (ap said_in (ending_tree line d f e p h) ∙ ending_says_nothing f p) ∙ m),
 )
-
-pub some_ending : (o : Option Last) (d : Data) → option_map last_of o ≡ ending_in d → IfSome o (λ l. TextFits (last_of l)) → IfSome o (λ l. IsEnding (last_of l))
-some_ending None d e t = tt
-some_ending (Some l) d e t = ending_is d (last_of l) (sym e) t
 
 -- the event and the answer that a text says
 pub said_is_line : (o : Option Data) (s : Said) → option_and_then said_in o ≡ Some s → IsLine s

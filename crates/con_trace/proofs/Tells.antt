@@ -9,15 +9,16 @@ use Rattle.con_events.specs.declared.event.Event.{Event}
 use Rattle.con_events.specs.declared.event.Event.TheVariants as event
 use Rattle.con_events.specs.declared.reply.Reply.{Reply}
 use Rattle.serde_json.specs.Read.{read}
-use Rattle.con_trace.specs.declared.said.Said.{Said}
-use Rattle.con_trace.specs.Line.{line_data, line_text, ended}
-use Rattle.con_trace.specs.Ending.{Ending, IsEnding, done, no_memory, usage, document, link, terminal, missing, failed, too_long, mirror, frame, ending_data, ending_text}
-use Rattle.con_trace.specs.Report.{IsLine, AreLines, said_text, report, History, end_of, ends_behind, said, with_picture, pictures, IsHistory, IsWrongAt, ReportTells, NoneIsWrong}
-use Rattle.con_trace.specs.Told.{said_in, ending_in}
+use Rattle.con_lines.specs.declared.said.Said.{Said}
+use Rattle.con_lines.specs.Line.{line_data, line_text, ended}
+use Rattle.con_lines.specs.Ending.{Ending, IsEnding, done, no_memory, usage, document, link, terminal, missing, failed, too_long, mirror, frame, ending_data, ending_text}
+use Rattle.con_lines.specs.Fits.{IsLine}
+use Rattle.con_trace.specs.Report.{AreLines, said_text, report, History, end_of, ends_behind, said, with_picture, pictures, IsHistory, IsWrongAt, ReportTells, NoneIsWrong}
+use Rattle.con_lines.specs.Told.{said_in, ending_in}
 use Rattle.con_trace.specs.Cut.{cut_line, with_end, ends_of}
-use Rattle.con_trace.proofs.LineBack.{said_back, ending_back}
-use Rattle.con_trace.proofs.LinePlain.{line_plain, ending_plain}
-use Rattle.con_trace.proofs.ReadBack.{Clear, clear, utf8, read_back}
+use Rattle.con_lines.proofs.LineBack.{said_back, ending_back}
+use Rattle.con_lines.proofs.LinePlain.{line_plain, ending_plain}
+use Rattle.con_lines.proofs.ReadBack.{Clear, clear, utf8, read_back}
 
 -- ---- one line
 

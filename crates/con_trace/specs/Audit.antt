@@ -4,7 +4,7 @@ use Rattle.serde_json.specs.Data.{Data, string}
 use Rattle.serde_json.specs.Written.{compact_text}
 use Rattle.con_trace.specs.declared.audit.AuditLine.{AuditLine}
 use Rattle.con_trace.specs.declared.audit.AuditLine.TheVariants as line
-use Rattle.con_trace.specs.Shown.{list_of, natural}
+use Rattle.con_lines.specs.Shown.{list_of, natural}
 
 -- it is a run; or it is none, as this place shows in this part
 pub data Found : Type 0 where

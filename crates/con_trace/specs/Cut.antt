@@ -2,14 +2,15 @@
 use Rattle.std.specs.Prelude.{◌≡◌, ℕ, ◌==◌, List, [], ◌∷◌, ◌++◌, length, map, if◌then◌else◌, Option, Some, None, option_map}
 use Rattle.con_events.specs.declared.event.Event.{Event}
 use Rattle.con_events.specs.declared.event.Event.TheVariants as event
-use Rattle.con_trace.specs.declared.said.Said.{Said}
-use Rattle.con_trace.specs.declared.said.LineRead.{LineRead}
-use Rattle.con_trace.specs.declared.said.LineRead.TheVariants as line_read
+use Rattle.con_lines.specs.declared.said.Said.{Said}
+use Rattle.con_lines.specs.declared.said.LineRead.{LineRead}
+use Rattle.con_lines.specs.declared.said.LineRead.TheVariants as line_read
 use Rattle.con_trace.specs.declared.trace.TraceFault.{TraceFault}
 use Rattle.con_trace.specs.declared.trace.TraceFault.TheVariants as fault
-use Rattle.con_trace.specs.Line.{line_text}
-use Rattle.con_trace.specs.Ending.{Ending, IsEnding, status_of, ending_text}
-use Rattle.con_trace.specs.Report.{IsLine, AreLines, said_text, History, IsWrongAt}
+use Rattle.con_lines.specs.Line.{line_text}
+use Rattle.con_lines.specs.Ending.{Ending, IsEnding, status_of, ending_text}
+use Rattle.con_lines.specs.Fits.{IsLine}
+use Rattle.con_trace.specs.Report.{AreLines, said_text, History, IsWrongAt}
 
 -- what stands before and behind the first line feed
 abbrev pub cut_line : List ℕ → Option (List ℕ × List ℕ)

@@ -4,14 +4,11 @@ use Rattle.con_events.specs.declared.entry.Entry.{Entry}
 use Rattle.con_events.specs.declared.event.Event.{Event}
 use Rattle.con_events.specs.declared.event.Event.TheVariants as event
 use Rattle.con_events.specs.declared.reply.Reply.{Reply}
-use Rattle.con_trace.specs.declared.said.Said.{Said}
+use Rattle.con_lines.specs.declared.said.Said.{Said}
 use Rattle.con_trace.specs.declared.trace.Trace.{Trace}
-use Rattle.con_trace.specs.Line.{line_text, ended}
-use Rattle.con_trace.specs.Fits.{LineFits}
-use Rattle.con_trace.specs.Ending.{Ending, IsEnding, status_of, ending_text}
-
-abbrev pub IsLine : Said → Type 0
-IsLine s = LineFits s.entry s.reply s.end
+use Rattle.con_lines.specs.Line.{line_text, ended}
+use Rattle.con_lines.specs.Fits.{IsLine}
+use Rattle.con_lines.specs.Ending.{Ending, IsEnding, status_of, ending_text}
 
 abbrev pub AreLines : List Said → Type 0
 AreLines [] = Unit {0}

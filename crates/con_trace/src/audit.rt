@@ -1,15 +1,13 @@
 //! The line that tells what an audit found.
 
-ghost use Rattle.std.specs.Prelude.{string_bytes, ◌≡◌, ◌≤◌, List, [], ◌∷◌, ◌++◌, IfOk, OnOk, OnErr, length, take, Option};
-ghost use Rattle.json.specs.Print.{escape};
-ghost use Rattle.serde_json.specs.Data.{string};
+ghost use Rattle.std.specs.Prelude.{◌≡◌, ◌≤◌, List, [], ◌∷◌, ◌++◌, IfOk, OnOk, OnErr, length, take, Option};
 ghost use Rattle.con_outside.specs.Outside.{Rose, then_written, WroteFront, WrotePart};
 ghost use Rattle.con_trace.specs.Audit.{a_run, no_run, found_of, found_data, found_text};
-ghost use Rattle.con_trace.specs.Line.{ended};
-ghost use Rattle.con_trace.specs.Writing.{put, nothing_written};
+ghost use Rattle.con_lines.specs.Line.{ended};
+ghost use Rattle.con_lines.specs.Writing.{put, nothing_written};
 
-use crate::ending::owned;
-use crate::line::Line;
+use con_lines::Line;
+use con_lines::ending::owned;
 use con_outside::{Fault, Sink, write_whole};
 use con_units::OutOfMemory;
 use std::alloc::Global;
@@ -23,37 +21,35 @@ pub enum AuditLine {
     No { place: u64, part: &'static str },
 }
 
-#[tactic(auto, using(crate::proofs::Puts::arrays), unfolding(json::specs::Print::escape_byte))]
-impl Line {
-    /// What an audit found.
-    fn audit_line(&mut self, alloc: Global, found: &AuditLine) -> Result<(), OutOfMemory>
-        ensures { IfOk result (λ _. self.new ≡ put self.old (found_data (found_of found.now))) }
-    {
-        match found {
-            AuditLine::Yes => {
-                given!(self.open_with("audit"));
-                given!(self.word("yes"));
-                self.shut()
-            }
-            AuditLine::No { place, part } => {
-                given!(self.open_with("audit"));
-                given!(self.word("no"));
-                given!(self.natural(*place));
-                given!(self.any_text(alloc, given!(owned(alloc, part))));
-                self.shut()
-            }
+/// What an audit found.
+#[tactic(auto, using(con_lines::proofs::Puts::arrays), unfolding(json::specs::Print::escape_byte))]
+fn audit_line(line: &mut Line, alloc: Global, found: &AuditLine) -> Result<(), OutOfMemory>
+    ensures { IfOk result (λ _. line.new ≡ put line.old (found_data (found_of found.now))) }
+{
+    match found {
+        AuditLine::Yes => {
+            given!(line.open_with("audit"));
+            given!(line.word("yes"));
+            line.shut()
+        }
+        AuditLine::No { place, part } => {
+            given!(line.open_with("audit"));
+            given!(line.word("no"));
+            given!(line.natural(*place));
+            given!(line.any_text(alloc, given!(owned(alloc, part))));
+            line.shut()
         }
     }
+}
 
-    /// What an audit found, with its line feed, where nothing is written yet.
-    #[tactic(auto, unfolding(crate::specs::Audit::found_text, crate::specs::Writing::put, crate::specs::Writing::more))]
-    fn ended_audit(&mut self, alloc: Global, found: &AuditLine) -> Result<(), OutOfMemory>
-        requires { self.old ≡ nothing_written }
-        ensures { IfOk result (λ _. self.new.bytes ≡ ended (found_text (found_of found.now))) }
-    {
-        given!(self.audit_line(alloc, found));
-        self.append(b"\n")
-    }
+/// What an audit found, with its line feed, where nothing is written yet.
+#[tactic(auto, unfolding(crate::specs::Audit::found_text, con_lines::specs::Writing::put, con_lines::specs::Writing::more))]
+fn ended_audit(line: &mut Line, alloc: Global, found: &AuditLine) -> Result<(), OutOfMemory>
+    requires { line.old ≡ nothing_written }
+    ensures { IfOk result (λ _. line.new.bytes ≡ ended (found_text (found_of found.now))) }
+{
+    given!(audit_line(line, alloc, found));
+    line.append(b"\n")
 }
 
 /// Writes the line that tells what an audit found, with its line feed. After a refusal a front of the line was written, and never all of it.
@@ -66,7 +62,7 @@ pub fn write_audit<R: Sink>(alloc: Global, out: &mut R, found: &AuditLine) -> Re
     ensures never_falls { R.faults out.old ≤ R.faults out.new }
 {
     let mut line = Line::new(alloc);
-    let Ok(()) = line.ended_audit(alloc, found) else {
+    let Ok(()) = ended_audit(&mut line, alloc, found) else {
         return Err(Fault::OutOfMemory);
     };
     write_whole(out, line.as_slice())

@@ -26,41 +26,20 @@ macro_rules! given {
     };
 }
 
-/// What a call found. Where it found nothing, the function ends with nothing, as by `?`.
-macro_rules! found {
-    ($call:expr) => {
-        match $call {
-            Some(value) => value,
-            None => return None,
-        }
-    };
-}
-
-pub mod answers;
 pub mod audit;
-pub mod cursor;
 pub mod ending;
 pub mod entry;
-pub mod events;
-pub mod form;
-pub mod hex;
 pub mod last;
 pub mod laws;
-pub mod line;
 pub mod lines;
 pub mod reading;
 pub mod reply;
-pub mod said;
-pub mod shows;
 pub mod trace;
-pub mod unhex;
 
 pub use audit::{AuditLine, write_audit};
-pub use ending::{EndLine, write_end};
+pub use con_lines::{EndLine, Form, Line, Said};
+pub use ending::write_end;
 pub use entry::write_entry;
-pub use form::Form;
 pub use laws::{none_is_wrong, report_tells};
-pub use line::Line;
 pub use reading::read;
-pub use said::Said;
 pub use trace::{Trace, TraceFault};

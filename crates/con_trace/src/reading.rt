@@ -5,9 +5,9 @@ ghost use Rattle.con_trace.specs.Report.{IsReport};
 ghost use Rattle.con_trace.specs.Cut.{cut_line as line_cut, IsFault, with_said, with_end};
 
 use crate::lines::line_read;
-use crate::said::{LineRead, Said};
 use crate::trace::{Trace, TraceFault};
 use con_events::{Entries, Entry, Event, PieceEnds, Replies, Reply};
+use con_lines::{LineRead, Said};
 use con_units::OutOfMemory;
 use std::alloc::Global;
 use std::marker::Model;

@@ -1,5 +1,5 @@
 use Rattle.con_events.specs.Fits.{AreUnits}
-use Rattle.con_trace.specs.Shown.{cell_words}
+use Rattle.con_lines.specs.Shown.{cell_words}
 use Rattle.con_forms.specs.Kept.{AreCells}
 use Rattle.con_forms.proofs.Rests.{one_more}
 use Rattle.con_forms.proofs.keeping.cells.Goals as goal

@@ -1,6 +1,6 @@
 use Rattle.std.proofs.Common.{length}
 use Rattle.con_events.specs.Fits.{AreUnits}
-use Rattle.con_trace.specs.Shown.{cell_words}
+use Rattle.con_lines.specs.Shown.{cell_words}
 use Rattle.con_forms.specs.Kept.{AreCells}
 use Rattle.con_forms.proofs.keeping.cells.Given as goal
 

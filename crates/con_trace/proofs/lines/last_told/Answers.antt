@@ -1,5 +1,5 @@
 use Rattle.serde_json.specs.View.{view}
-use Rattle.con_trace.specs.Last.{last_of}
+use Rattle.con_lines.specs.Last.{last_of}
 use Rattle.con_trace.proofs.Neither.{clash, other_ending, tells_nothing}
 use Rattle.con_trace.proofs.lines.last_told.Goals as goal
 

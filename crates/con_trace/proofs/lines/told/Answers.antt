@@ -1,6 +1,6 @@
 use Rattle.std.proofs.Common.{ap, ◌∙◌}
 use Rattle.std.specs.Prelude.{option_and_then}
-use Rattle.con_trace.specs.Told.{said_in}
+use Rattle.con_lines.specs.Told.{said_in}
 use Rattle.con_trace.proofs.lines.told.Goals as goal
 
 pub event_told-requires : goal.event_told-requires

@@ -1,0 +1,12 @@
+pub mod Fronts
+pub mod Plain
+pub mod Puts
+pub mod Names
+pub mod ToldBack
+pub mod LineBack
+pub mod TablesFit
+pub mod TellsFit
+pub mod EndingFits
+pub mod ReadBack
+pub mod LinePlain
+pub mod Shapes

@@ -1,0 +1,11 @@
+-- What a reader must believe: how values are shown, what events are answered with, lines, which lines there are, the last line.
+pub mod Hex
+pub mod Shown
+pub mod Form
+pub mod Line
+pub mod Fits
+pub mod Ending
+-- The code's own words: bytes value by value, and the way back.
+pub mod Writing
+pub mod Told
+pub mod Last

@@ -1,8 +1,0 @@
-use Rattle.std.proofs.Common.{◌≡◌, drop}
-use Rattle.serde_json.specs.View.{items_view}
-use Rattle.con_values.specs.Cursors.{with_front}
-use Rattle.con_trace.specs.Told.{all_in, whole_in}
-use Rattle.con_trace.proofs.answers.numbers_of.Given as goal
-
-abbrev pub invariant-loop-item : goal.invariant-loop-item
-invariant-loop-item l = with_front l.numbers.items (all_in whole_in (items_view (drop l.item-index l.items))) ≡ all_in whole_in (items_view l.items)

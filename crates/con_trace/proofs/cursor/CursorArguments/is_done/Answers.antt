@@ -1,6 +1,0 @@
-use Rattle.std.proofs.Common.{◌∙◌}
-use Rattle.con_trace.proofs.Shapes.{no_told}
-use Rattle.con_trace.proofs.cursor.CursorArguments.is_done.Goals as goal
-
-pub returns : goal.returns
-returns c = c.is_empty.ensures ∙ no_told c.args.self.now.items.left.now

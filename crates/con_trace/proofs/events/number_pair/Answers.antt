@@ -1,8 +1,0 @@
-use Rattle.con_trace.proofs.Shapes.{numbers_short, numbers_long}
-use Rattle.con_trace.proofs.events.number_pair.Goals as goal
-
-pub returns-in_default : goal.returns-in_default
-returns-in_default c = numbers_short c.args.items.now c.in_default.len_below
-
-pub returns-in_default-2 : goal.returns-in_default-2
-returns-in_default-2 c = numbers_long c.args.items.now c.in_default.len_at_least

@@ -1,6 +1,0 @@
-use Rattle.std.proofs.Common.{◌≡◌, ◌++◌, drop}
-use Rattle.con_trace.specs.Hex.{hex_bytes}
-use Rattle.con_trace.proofs.hex.push_bytes.Given as goal
-
-abbrev pub invariant-loop-byte : goal.invariant-loop-byte
-invariant-loop-byte l = l.out.items ++ hex_bytes (drop l.byte-index l.bytes) ≡ l.initial.out.items ++ hex_bytes l.bytes

@@ -1,7 +1,0 @@
-use Rattle.std.proofs.Common.{◌≡◌, drop, map}
-use Rattle.con_trace.specs.Shown.{record_data}
-use Rattle.con_trace.specs.Writing.{put_each}
-use Rattle.con_trace.proofs.line.Line.each_record.Given as goal
-
-abbrev pub invariant-loop-one : goal.invariant-loop-one
-invariant-loop-one l = put_each l.self (map record_data (drop l.one-index l.records)) ≡ put_each l.initial.self (map record_data l.records)
