@@ -1,31 +1,7 @@
 //! The lines of a file of cases, and the parts of a case.
-use crate::fault::{Fault, Wrong};
+use case_lines::fault::{Fault, Wrong};
+use case_lines::line::Line;
 use std::alloc::{AllocError, Global};
-
-/// A line of a file, with its number, counted from 1.
-#[derive(Clone, Copy)]
-pub struct Line<'a> {
-    pub number: usize,
-    pub text: &'a str,
-}
-
-impl<'a> Line<'a> {
-    /// That something is wrong with this line.
-    pub fn wrong(&self, fault: Fault) -> Wrong {
-        Wrong {
-            line: self.number,
-            fault,
-        }
-    }
-
-    /// A part of this line.
-    pub fn part(&self, text: &'a str) -> Line<'a> {
-        Line {
-            number: self.number,
-            text,
-        }
-    }
-}
 
 /// The lines of a file that are neither empty nor a comment.
 pub fn lines<'a>(alloc: Global, text: &'a str) -> Result<Vec<Line<'a>>, AllocError> {

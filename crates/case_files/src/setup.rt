@@ -1,7 +1,8 @@
 //! What a case runs.
-use crate::fault::{Fault, Wrong};
-use crate::part::{Head, Line, Part, first_word};
+use crate::part::{Head, Part, first_word};
 use crate::strings::{bytes, repeated};
+use case_lines::fault::{Fault, Wrong};
+use case_lines::line::Line;
 use std::alloc::{AllocError, Global};
 use std::str::FromStr;
 

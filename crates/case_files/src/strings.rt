@@ -1,6 +1,6 @@
 //! Strings, as they stand in lines of cases.
-use crate::fault::{Fault, Wrong};
-use crate::part::Line;
+use case_lines::fault::{Fault, Wrong};
+use case_lines::line::Line;
 use std::alloc::{AllocError, Global};
 
 /// What a string stands for.

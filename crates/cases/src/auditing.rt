@@ -1,10 +1,12 @@
 //! What a session left is audited: its document, its link and what it wrote, as they are and with changes. So are files that a case has.
 use crate::running::{Ran, host_case};
-use case_files::fault::{Fault, Wrong};
-use case_files::part::{Head, Line, Part, first_word};
+use case_files::expanding::expanded;
+use case_files::part::{Head, Part, first_word};
 use case_files::setup::{End, Setup, number};
 use case_files::strings::bytes;
-use case_files::wanted::{expanded, is_told};
+use case_lines::fault::{Fault, Wrong};
+use case_lines::line::Line;
+use case_lines::wanted::is_told;
 use con_ending::DONE;
 use std::alloc::{AllocError, Global};
 use std::str;

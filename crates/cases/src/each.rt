@@ -1,8 +1,8 @@
 //! What a case leaves where each call of an end of its outside fails in turn, and what it leaves with other words.
 use crate::running::{Ran, host_case};
-use case_files::fault::Wrong;
 use case_files::part::Part;
 use case_files::setup::{End, Failing, Setup};
+use case_lines::fault::Wrong;
 use con_ending::{LINK, MIRROR, REPORT, TERMINAL};
 use con_units::Bytes;
 use std::alloc::Global;

@@ -1,11 +1,13 @@
 //! Events are entered on a new console, one after another.
 use crate::judging::{compared, lines_of};
 use crate::showing::size;
-use case_files::fault::{Fault, Wrong};
-use case_files::part::{Head, Line, Part, first_word, only};
+use case_files::expanding::{dump_lines, report_lines};
+use case_files::part::{Head, Part, first_word, only};
 use case_files::picture::push_picture;
 use case_files::setup::number;
-use case_files::wanted::{Wanted, Way, dump_lines, report_lines};
+use case_lines::fault::{Fault, Wrong};
+use case_lines::line::Line;
+use case_lines::wanted::{Wanted, Way};
 use con_events::{Entry, Reply, Script, Scripts, Session, Steps};
 use con_machine::Console;
 use con_outside::SureSink;

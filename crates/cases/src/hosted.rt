@@ -10,7 +10,7 @@ mod report;
 mod waiting;
 mod watched;
 
-use case_files::fault::Wrong;
+use case_lines::fault::Wrong;
 use std::alloc::Global;
 use std::sync::Wait;
 use std::thread::Threads;

@@ -1,12 +1,12 @@
 //! Whether a case ran as it has to.
 use crate::running::Ran;
 use crate::showing::{cells, dump, size};
-use case_files::fault::{Fault, Wrong};
-use case_files::part::{Head, Line, Part, first_word};
+use case_files::expanding::{dump_lines, report_lines};
+use case_files::part::{Head, Part, first_word};
 use case_files::setup::{Failing, Setup, all_bytes, number};
-use case_files::wanted::{
-    Difference, Wanted, Way, dump_lines, first_difference, is_blank, is_line, report_lines,
-};
+use case_lines::fault::{Fault, Wrong};
+use case_lines::line::Line;
+use case_lines::wanted::{Difference, Wanted, Way, first_difference, is_blank, is_line};
 use con_ending::MEMORY;
 use std::alloc::{AllocError, Global};
 use std::str;

@@ -16,9 +16,10 @@ mod running;
 mod showing;
 
 use auditing::{audit_difference, is_session, left_difference};
-use case_files::fault::{Fault, Wrong};
-use case_files::part::{Head, Line, Part, case_name, lines, only, parts};
+use case_files::part::{Head, Part, case_name, lines, only, parts};
 use case_files::setup::{Failing, Setup, failing_end, other_words, times};
+use case_lines::fault::{Fault, Wrong};
+use case_lines::line::Line;
 use each::{each_difference, other_difference};
 use events::events_difference;
 use hosted::{HOSTED, run_hosted};

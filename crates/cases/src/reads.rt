@@ -1,7 +1,8 @@
 //! Texts are read as reports.
-use case_files::fault::{Fault, Wrong};
-use case_files::part::{Head, Line, Part, only};
+use case_files::part::{Head, Part, only};
 use case_files::setup::{Setup, number};
+use case_lines::fault::{Fault, Wrong};
+use case_lines::line::Line;
 use con_events::Event;
 use con_outside::SureSink;
 use con_trace::{Trace, TraceFault, read, write_entry};

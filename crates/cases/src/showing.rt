@@ -1,7 +1,7 @@
 //! What a terminal shows of a stream, and how many cells it was sent.
-use case_files::fault::{Fault, Wrong};
-use case_files::part::Line;
 use case_files::setup::number;
+use case_lines::fault::{Fault, Wrong};
+use case_lines::line::Line;
 use con_outside::{SureSink, SureSource};
 use con_text::host_play;
 use con_units::{Bytes, Size};

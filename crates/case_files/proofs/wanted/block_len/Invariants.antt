@@ -1,7 +1,0 @@
--- no gap so far
-use Rattle.std.proofs.Common.{◌≡◌, ◌+◌, drop}
-use Rattle.case_files.specs.Wanted.{block_len}
-use Rattle.case_files.proofs.wanted.block_len.Given as goal
-
-abbrev pub invariant-loop-at : goal.invariant-loop-at
-invariant-loop-at l = l.at + block_len (drop l.at l.wanted) ≡ block_len l.wanted

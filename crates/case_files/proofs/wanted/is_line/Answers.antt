@@ -1,5 +1,0 @@
-use Rattle.std.proofs.Common.{rules}
-use Rattle.case_files.proofs.wanted.is_line.Goals as goal
-
-pub returns-in-Picture : goal.returns-in-Picture
-returns-in-Picture c = search rules
