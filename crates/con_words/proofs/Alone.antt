@@ -4,7 +4,7 @@ use Rattle.clap.specs.Words.{fault_of, subcommand_of, Text, Kinds}
 use Rattle.clap.specs.declared.error.kind.ErrorKind.{ErrorKind}
 use Rattle.clap.specs.declared.error.kind.ErrorKind.TheVariants as kind
 use Rattle.clap.proofs.OnLiterals.{clap_on_literals}
-use Rattle.con_words.specs.Command.{host}
+use Rattle.con_command.specs.Command.{host}
 use Rattle.con_words.specs.Naming.{form_met}
 use Rattle.con_words.specs.Words.{of_words}
 

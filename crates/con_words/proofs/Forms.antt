@@ -8,7 +8,7 @@ use Rattle.std.specs.Str.{bytes_eq}
 use Rattle.clap.specs.Words.{fault_of, subcommand_of, Text, Row, Kinds, IsAmong}
 use Rattle.clap.specs.declared.error.kind.ErrorKind.{ErrorKind}
 use Rattle.clap.specs.declared.error.kind.ErrorKind.TheVariants as kind
-use Rattle.con_words.specs.Command.{host}
+use Rattle.con_command.specs.Command.{host}
 use Rattle.con_words.specs.Naming.{form_met, may_be_form}
 use Rattle.con_words.specs.Words.{Asked, is_word, of_words, form_of}
 use Rattle.con_words.proofs.Alone.{Reads, some_kinds, nothing_refused, type_alone, play_alone, solo_alone, gen_alone, run_alone, mirror_alone, audit_alone}

@@ -6,7 +6,7 @@ use Rattle.std.specs.Str.{bytes_eq}
 use Rattle.clap.specs.Words.{fault_of, Text}
 use Rattle.clap.specs.declared.error.kind.ErrorKind.TheVariants as kind
 use Rattle.clap.proofs.OnLiterals.{clap_on_literals}
-use Rattle.con_words.specs.Command.{host}
+use Rattle.con_command.specs.Command.{host}
 use Rattle.con_words.specs.Words.{is_word, of_words}
 use Rattle.con_words.proofs.Alone.{Reads, some_kinds}
 

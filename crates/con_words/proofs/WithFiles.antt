@@ -7,7 +7,7 @@ use Rattle.clap.specs.Simple.{Shape}
 use Rattle.clap.specs.Walk.{Held, Names, Row, Rule, Step, Walk, after_step, arg_by_index, finished, idle, nothing_held, rows_after, settled, to_positional, value, walk, walked, word_met}
 use Rattle.clap.specs.Words.{fault_of, subcommand_of, Text}
 use Rattle.clap.proofs.OnLiterals.{clap_on_literals}
-use Rattle.con_words.specs.Command.{host}
+use Rattle.con_command.specs.Command.{host}
 use Rattle.con_words.specs.Naming.{form_met}
 use Rattle.con_words.specs.Words.{auditing, of_words}
 use Rattle.con_words.proofs.WithWord.{rule, leaf, row}

@@ -8,7 +8,7 @@ use Rattle.clap.specs.Words.{fault_of, subcommand_of, Text}
 use Rattle.clap.specs.declared.error.kind.ErrorKind.TheVariants as kind
 use Rattle.clap.specs.declared.parser.matches.ValueSource.TheVariants.{CommandLine}
 use Rattle.clap.proofs.OnLiterals.{clap_on_literals}
-use Rattle.con_words.specs.Command.{host}
+use Rattle.con_command.specs.Command.{host}
 use Rattle.con_words.specs.Naming.{form_met}
 use Rattle.con_words.specs.Words.{of_words}
 

@@ -2,7 +2,7 @@
 use Rattle.std.specs.Prelude.{Bool, true, false, ◌&&◌, List, [], ◌∷◌, Option, Some, None, codes, option_map, option_and_then, if◌then◌else◌}
 use Rattle.std.specs.Str.{bytes_eq}
 use Rattle.clap.specs.Words.{Row, Text}
-use Rattle.con_words.specs.Command.{Files, Named, files_in, first_word}
+use Rattle.con_command.specs.Command.{Files, Named, files_in, first_word}
 use Rattle.con_words.specs.Words.{Asked, typing, playing, running, solo, mirroring, auditing, generating, is_word, size_of, seed_of}
 
 abbrev pub of_size : Option Text → Option Asked

@@ -3,9 +3,9 @@ ghost use Rattle.std.specs.Prelude.{◌≡◌, ℕ, ◌+◌, ◌*◌, ◌-◌, �
 ghost use Rattle.std.specs.Prelude.{List, [], ◌∷◌, length, map, take, drop, Option, Some, None, IfSome, IfOk, IsTrue, string_bytes};
 ghost use Rattle.std.specs.List.{position};
 
-use crate::command::{Files, files, matches, word};
 use clap::ArgMatches;
 use clap::error::ErrorKind;
+use con_command::{Files, files, matches, word};
 use con_units::limits::{MOST_COLUMNS, MOST_WINDOW_ROWS};
 use con_units::{OutOfMemory, Size};
 use std::alloc::Global;
@@ -59,7 +59,7 @@ impl<'a> Form<'a> {
 
 ghost use Rattle.con_words.specs.Words.{is_word, is_first, is_digit, number_of, side_of, size_of, is_x, digit_of, with_digit, spelled_after, seed_of, IsWindow};
 ghost use Rattle.con_words.specs.Asked.{asked_of, IsWindowed};
-ghost use Rattle.con_words.specs.Command.{files_shown};
+ghost use Rattle.con_command.specs.Command.{files_shown};
 ghost use Rattle.con_words.specs.Naming.{may_be_form, of_size, of_name, of_number, of_run, of_mirror, of_files, form_named, form_in, form_met};
 ghost use Rattle.std.specs.Prelude.{true, false, option_map};
 ghost use Rattle.std.specs.List.{list_all};

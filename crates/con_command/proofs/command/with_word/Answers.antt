@@ -4,7 +4,7 @@ use Rattle.std.proofs.lemmas.Result.{IfOk-weaker}
 use Rattle.clap.specs.Words.{Rule, app_of, new_rule, rule_of, with_rule}
 use Rattle.clap.specs.declared.builder.arg.Arg.{Arg}
 use Rattle.clap.specs.declared.builder.command.Command.TheViews.{out-Command}
-use Rattle.con_words.proofs.command.with_word.Goals as goal
+use Rattle.con_command.proofs.command.with_word.Goals as goal
 
 or_none : (b g : Bool) → g ≡ false → (b || g) ≡ b
 or_none true g e = refl

@@ -1,7 +1,7 @@
 use Rattle.std.proofs.Common.{◌≡◌, ◌∙◌, codes, refl}
 use Rattle.clap.specs.Words.{found_of}
 use Rattle.clap.proofs.WalkLemmas.{first_value-rows}
-use Rattle.con_words.proofs.command.files.Goals as goal
+use Rattle.con_command.proofs.command.files.Goals as goal
 
 four : {A : Type 0} (a b c d k l m n : A) → a ≡ k → b ≡ l → c ≡ m → d ≡ n → ◌≡◌ {A = A × A × A × A} (a, b, c, d) (k, l, m, n)
 four a b c d k l m n p q r s = rw (p, q, r, s) refl

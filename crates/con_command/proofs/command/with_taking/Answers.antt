@@ -1,8 +1,8 @@
 use Rattle.std.proofs.Common.{ap, ◌∙◌}
 use Rattle.std.proofs.lemmas.Result.{IfOk-weaker}
 use Rattle.clap.specs.Words.{App, app_of}
-use Rattle.con_words.specs.Command.{and_more}
-use Rattle.con_words.proofs.command.with_taking.Goals as goal
+use Rattle.con_command.specs.Command.{and_more}
+use Rattle.con_command.proofs.command.with_taking.Goals as goal
 
 pub returns : goal.returns
 returns c =

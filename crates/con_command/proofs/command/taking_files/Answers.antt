@@ -2,8 +2,8 @@ use Rattle.std.proofs.Common.{ap, codes, false, ◌≡◌, ◌∙◌}
 use Rattle.std.proofs.lemmas.Result.{IfOk-weaker}
 use Rattle.clap.specs.Words.{App, app_of, new_app}
 use Rattle.clap.specs.declared.builder.command.Command.TheViews.{out-Command}
-use Rattle.con_words.specs.Command.{with_word}
-use Rattle.con_words.proofs.command.taking_files.Goals as goal
+use Rattle.con_command.specs.Command.{with_word}
+use Rattle.con_command.proofs.command.taking_files.Goals as goal
 
 pub returns-clause-app : goal.returns-clause-app
 returns-clause-app c =

@@ -1,8 +1,8 @@
 use Rattle.std.proofs.Common.{rules, ap, ap₂, codes, ◌≡◌, ◌∙◌}
 use Rattle.std.proofs.lemmas.Result.{IfOk-weaker}
 use Rattle.clap.specs.Words.{App, app_of, new_app, with_subcommand}
-use Rattle.con_words.specs.Command.{and_more, bare, taking, taking_files}
-use Rattle.con_words.proofs.command.command.Goals as goal
+use Rattle.con_command.specs.Command.{and_more, bare, taking, taking_files}
+use Rattle.con_command.proofs.command.command.Goals as goal
 
 abbrev first : App
 first = and_more bare (new_app (codes "type"))

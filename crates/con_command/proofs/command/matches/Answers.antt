@@ -1,8 +1,8 @@
 use Rattle.std.proofs.Common.{ap, refl, true, map, subst, string_bytes, ◌≡◌, ◌∙◌}
 use Rattle.std.proofs.lemmas.Result.{IfOk-weaker}
 use Rattle.clap.specs.Words.{App, app_of, is_simple, is_simple_and_free, FailsBy, fault_of, subcommand_of}
-use Rattle.con_words.specs.Command.{host}
-use Rattle.con_words.proofs.command.matches.Goals as goal
+use Rattle.con_command.specs.Command.{host}
+use Rattle.con_command.proofs.command.matches.Goals as goal
 
 simple : is_simple_and_free host ≡ true
 simple = refl

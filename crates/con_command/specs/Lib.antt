@@ -1,0 +1,2 @@
+-- The command as the reader of command lines sees it.
+pub mod Command
