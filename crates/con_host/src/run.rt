@@ -17,7 +17,7 @@ use con_handlers::CtrlHandler;
 use con_laws::once::each_record_is_taken_once;
 use con_link::{one_answer, one_frame};
 use con_outside::{Files, Gate, Sink, Source};
-use con_threads::run_session;
+use con_run::run_session;
 use con_trace::report_tells;
 use std::alloc::Global;
 use std::sync::Wait;

@@ -45,7 +45,6 @@ use Rattle.con_session.specs.declared.worker.Worker.{Worker}
 use Rattle.con_threads.specs.Clients.{ClientGoes}
 use Rattle.con_threads.specs.Painters.{Draws, DrawsLess}
 use Rattle.con_threads.specs.Post.{AreOthers}
-use Rattle.con_threads.specs.Session.{clients_in}
 use Rattle.con_threads.specs.Sides.{IsSending, SideGoes}
 use Rattle.con_threads.specs.Writers.{Writes}
 
@@ -67,9 +66,6 @@ session = record { size = record { w = 10; h = 3 }; scripts = record { program =
 
 abbrev counting : Begun
 counting = begins session ([] ∷ []) None
-
-one_client : clients_in counting ≡ 1
-one_client = refl
 
 -- ---- what others enter between two events of an actor
 

@@ -6,10 +6,6 @@ pub mod Clients
 pub mod Sides
 pub mod Painters
 pub mod Writers
-pub mod Abreast
-pub mod Crews
-pub mod Taking
-pub mod Session
 -- Laws of these words.
 pub mod LedgerLaws
 pub mod ScribeLaws

@@ -1,4 +1,5 @@
-//! A session by threads: each client, the terminal's side, the painter and the writer has a thread of its own.
+//! The threads of a session, what each of them does, and what it promises: each client, the terminal's side, the painter and the writer has
+//! one of its own.
 //!
 //! - A [`Ledger`] is a console with the replies that it gave, as a book keeps it: one lock, one history.
 //! - A [`Scribe`] enters the events of one actor there, and knows what it has seen of the history.
@@ -8,27 +9,17 @@
 //! Their [`Signals`] tell when all are made, before which none begins: where one cannot be made, which is want of memory, all return. That
 //! nothing was entered, read or written then is no clause.
 //!
-//! [`run_session`] makes all of them, lets them run beside each other, takes their passes together once all have returned, paints what is
-//! still due, closes the book and leaves an `Outcome`, as a session by turns does.
+//! con_run makes them, runs each beside the others, and makes an outcome of what they leave.
 //!
 //! Never promised: that a thread gets its turn, how long it waits, and that two of them ran at once.
 #![tactic(auto)]
 
-mod abreast;
 mod client;
-mod close;
-mod closing;
-mod crew;
-mod edges;
-mod gather;
 mod ledger;
 mod listing;
 mod painter;
-mod paired;
 mod post;
-mod run;
 mod scribe;
-mod session;
 mod side;
 mod signals;
 mod writer;
@@ -37,7 +28,6 @@ pub use client::{ClientThread, Moved};
 pub use ledger::{Ledger, LedgerView, Told};
 pub use painter::PainterThread;
 pub use scribe::Scribe;
-pub use session::run_session;
 pub use side::SideThread;
 pub use signals::Signals;
 pub use writer::WriterThread;

@@ -1,0 +1,12 @@
+pub mod Beginning
+pub mod ClientEntries
+pub mod Closures
+pub mod Crewing
+pub mod Crosses
+pub mod Ending
+pub mod InRow
+pub mod Making
+pub mod Returning
+pub mod Rows
+pub mod Taking
+pub mod WholeLog
