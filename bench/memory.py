@@ -1,12 +1,12 @@
 #!/usr/bin/env python3
 """Runs in which there is no memory for one allocation, for each of them in turn, until a run meets no failure.
 
-    memory.py                 the console: the program of tests_memory
+    memory.py                 the console: the case of crates/cases/data/memory.cases
     memory.py solo [NAME..]   sessions by turns: the examples
     memory.py run [NAME..]    sessions by threads: the examples
 
-An event of the console that was begun in vain must leave no trace: each run prints what it prints with all memory, or ends with status 1 and prints
-nothing, where what failed was none of the console's.
+An event of the console that was begun in vain must leave no trace: each run prints what it prints with all memory, or ends with status 1 or 2 and prints
+nothing, or that the file is none or that there was no memory, where what failed was none of the console's events.
 
 A session by turns ends with status 9, and what stands of its report and of its stream is a front of the right ones: whole lines and then the last line, or,
 where there was no memory for those either, a part of that. A report ends before a Paint that has no frame. Or it ends with status 0 and all is right. Of the
@@ -24,8 +24,10 @@ import examples
 from runs import PROGRAM
 
 CRATES = os.path.join(os.path.dirname(os.path.abspath(__file__)), "..", "crates")
-CONSOLE = os.path.join(CRATES, "tests_memory", "out", "tests_memory")
+CONSOLE = os.path.join(CRATES, "cases", "out", "cases")
+DATA = os.path.join(CRATES, "cases", "data")
 MOST = 100_000
+BEFORE = b"", b"memory.cases: no file of cases\n", b"memory.cases:0: out of memory\n"
 SHIM = """
 #define _GNU_SOURCE
 #include <dlfcn.h>
@@ -99,15 +101,17 @@ def told(what, kinds, others):
 
 
 def console(shim):
-    kinds, others, whole = {"as with all memory": 0, "ended with status 1": 0}, [], None
-    for n, one in sweep(shim, [CONSOLE]):
+    kinds, others, whole = {"as with all memory": 0, "ended before": 0}, [], None
+    for n, one in sweep(shim, [CONSOLE, "memory.cases"], folder=DATA):
         whole = whole or one
         if n == 0:
+            if (one.returncode, one.stdout) != (0, b"memory/events that take memory: ok\n"):
+                others.append(f"with all memory: status {one.returncode}, {one.stdout!r}")
             continue
         if (one.returncode, one.stdout) == (whole.returncode, whole.stdout):
             kinds["as with all memory"] += 1
-        elif (one.returncode, one.stdout) == (1, b""):
-            kinds["ended with status 1"] += 1
+        elif one.returncode in (1, 2) and one.stdout in BEFORE:
+            kinds["ended before"] += 1
         else:
             others.append(f"allocation {n}: status {one.returncode}, {one.stdout!r}")
     return told("console", kinds, others)
@@ -182,7 +186,7 @@ def session(shim, way, name):
 def main():
     way = sys.argv[1] if sys.argv[1:] else "console"
     if not os.access(CONSOLE if way == "console" else PROGRAM, os.X_OK):
-        sys.exit("build the program first: cd crates/tests_memory && rt run; ./conpty type </dev/null >/dev/null")
+        sys.exit("build the program first: cd crates/cases && rt run; ./conpty type </dev/null >/dev/null")
     with tempfile.TemporaryDirectory() as folder:
         shim = os.path.join(folder, "shim.so")
         subprocess.run(["cc", "-shared", "-fPIC", "-O1", "-x", "c", "-", "-o", shim, "-ldl"], input=SHIM, text=True, check=True)

@@ -1,4 +1,8 @@
 //! Events are entered on a new console, one after another.
+ghost use Rattle.std.specs.Prelude.{◌≡◌, true, false, IfOk, IfErr, IfSome};
+ghost use Rattle.con_machine.specs.Marks.{told, Tells};
+ghost use Rattle.con_machine.specs.Step.{is_clients, is_ready, step};
+
 use crate::judging::{compared, lines_of};
 use crate::showing::size;
 use case_files::expanding::{dump_lines, report_lines};
@@ -8,7 +12,7 @@ use case_files::setup::number;
 use case_lines::fault::{Fault, Wrong};
 use case_lines::line::Line;
 use case_lines::wanted::{Wanted, Way};
-use con_events::{Entry, Reply, Script, Scripts, Session, Steps};
+use con_events::{Entry, Event, Reply, Script, Scripts, Session, Steps};
 use con_machine::Console;
 use con_outside::SureSink;
 use con_trace::{Trace, TraceFault, read, write_entry};
@@ -83,12 +87,27 @@ fn read_line(alloc: Global, line: Line<'_>, text: &str) -> Result<Trace, Wrong> 
     }
 }
 
-// Enters an event where it is ready.
-fn entered(console: &mut Console, entry: &Entry) -> Result<Option<Reply>, OutOfMemory> {
+// Enters an event where it is ready, once more where there was no memory: the console steps, and the answer is the step's. Else the state
+// stays. All that a Collect needs was taken at its Begin.
+fn entered(console: &mut Console, entry: &Entry) -> Result<Option<Reply>, OutOfMemory>
+    ensures client { IfOk result (λ o. IfSome o (λ r. is_clients entry.now.event ≡ true
+        → r ≡ (step console.old.state entry.now.actor entry.now.event).reply)) }
+    ensures reply { IfOk result (λ o. IfSome o (λ r. told r ≡ (step console.old.state entry.now.actor entry.now.event).reply)) }
+    ensures tells { IfOk result (λ o. IfSome o (λ r. Tells console.old.state entry.now.event r)) }
+    ensures after { IfOk result (λ o. IfSome o (λ _. console.new.state ≡ (step console.old.state entry.now.actor entry.now.event).after)) }
+    ensures memory { IfErr result (λ _. console.new.state ≡ console.old.state) }
+    ensures unready { is_ready console.old.state entry.now.actor entry.now.event ≡ false → console.new.state ≡ console.old.state }
+{
     if !console.ready(entry.actor, &entry.event) {
         return Ok(None);
     }
-    let room = console.prepare(entry.actor, &entry.event)?;
+    let room = match console.prepare(entry.actor, &entry.event) {
+        Ok(room) => room,
+        Err(OutOfMemory) => match entry.event {
+            Event::Collect => return Ok(None),
+            _ => console.prepare(entry.actor, &entry.event)?,
+        },
+    };
     Ok(Some(console.apply(entry.actor, &entry.event, room)))
 }
 

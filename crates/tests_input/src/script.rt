@@ -1,5 +1,7 @@
-//! Sessions of documents and of numbers: callers of sessions and of values, generated sessions and limits; documents are data of `cases`.
+//! Sessions of documents and of numbers, and reports: callers of sessions, of values and of reports, generated sessions and limits; documents and reports are
+//! data of `cases`.
 mod callers;
 mod drawn;
 mod limits;
+mod reports;
 mod values;
