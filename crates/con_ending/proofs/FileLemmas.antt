@@ -1,13 +1,13 @@
 -- What reading a session tells of its bytes, and of the file that they came from.
 use Rattle.std.proofs.Common.{◌≡◌, ℕ, List, Option, inl, inr, subst, ap}
-use Rattle.std.specs.Prelude.{Result, Ok, Err, Some, None, IfOk, IfErr}
+use Rattle.std.specs.Prelude.{Result, Ok, Err, None, IfOk, IfErr}
 use Rattle.std.specs.Char.Utf16.{utf16_lossy_chars}
 use Rattle.std.specs.Str.{encode_utf8_all}
 use Rattle.con_script.specs.declared.place.SessionFault.{SessionFault}
 use Rattle.con_script.specs.declared.place.SessionFault.TheVariants as faults
-use Rattle.con_script.specs.Document.{document, json_of, path}
+use Rattle.con_script.specs.Document.{IsDocument, json_of}
+use Rattle.con_script.specs.Units.{text_units}
 use Rattle.con_script.specs.Places.{IsJson, IsAt}
-use Rattle.con_script.specs.Session.{Where}
 use Rattle.con_lines.specs.Ending.{worded}
 use Rattle.con_ending.specs.declared.file.Unrun.{Unrun}
 use Rattle.con_ending.specs.declared.file.Unrun.TheVariants as unrun
@@ -18,10 +18,10 @@ pub no_json_by : (bytes : List ℕ) (fault : SessionFault) → fault ≡ faults.
 no_json_by bytes fault is refused = subst (λ f. IsJson f (json_of bytes ≡ None)) is refused
 
 -- bytes that were refused with a path are no session, with that path
-pub no_session_by : (bytes at : List ℕ) (fault : SessionFault) → fault ≡ faults.At at → IsAt fault (λ text. (w : Where) × (document bytes ≡ Some (Err w)) × (text ≡ path w))
-    → (w : Where) × (document bytes ≡ Some (Err w)) × (worded 3 (encode_utf8_all (utf16_lossy_chars at)) ≡ worded 3 (encode_utf8_all (utf16_lossy_chars (path w))))
+pub no_session_by : (bytes at : List ℕ) (fault : SessionFault) → fault ≡ faults.At at → IsAt fault (λ text. (w : List ℕ) × IsDocument bytes (Err w) × (text ≡ text_units w))
+    → (w : List ℕ) × IsDocument bytes (Err w) × (worded 3 (encode_utf8_all (utf16_lossy_chars at)) ≡ worded 3 (encode_utf8_all (utf16_lossy_chars (text_units w))))
 no_session_by bytes at fault is refused =
-    let found = subst (λ f. IsAt f (λ text. (w : Where) × (document bytes ≡ Some (Err w)) × (text ≡ path w))) is refused in
+    let found = subst (λ f. IsAt f (λ text. (w : List ℕ) × IsDocument bytes (Err w) × (text ≡ text_units w))) is refused in
     (found.0, found.1, ap (λ us. worded 3 (encode_utf8_all (utf16_lossy_chars us))) found.2)
 
 -- what came of the bytes of a file came of that file

@@ -3,8 +3,8 @@ use Rattle.std.specs.Prelude.{◌≡◌, ◌⊎◌, ℕ, ◌≤◌, List, length
 use Rattle.con_events.specs.Session.{Clients}
 use Rattle.con_outside.specs.Outside.{then_written, WroteFront, WrotePart}
 use Rattle.con_outside.specs.Named.{IsTooLong}
-use Rattle.con_script.specs.Document.{document, json_of, path}
-use Rattle.con_script.specs.Session.{Where}
+use Rattle.con_script.specs.Document.{IsDocument, json_of}
+use Rattle.con_script.specs.Units.{text_units}
 use Rattle.con_lines.specs.Ending.{Ending, worded, status_of, ending_of, ending_text}
 use Rattle.con_lines.specs.Line.{ended}
 use Rattle.con_ending.specs.declared.file.Unrun.{Unrun}
@@ -18,20 +18,20 @@ use Rattle.std.specs.Char.Utf16.{utf16_lossy_chars}
 abbrev pub IsFile : Option (List ℕ → Option (List ℕ)) → List ℕ → List ℕ → Type 0
 IsFile files name bytes = (length bytes ≤ 16777216) × IfSome files (λ find. find name ≡ Some bytes)
 
--- why there is no session: no file has the name, the files failed, the file is too long, its bytes are no JSON, or no session
+-- why there is no session: no file has the name, the files failed, the file is too long, its bytes are no JSON, or no session, with the path of the fault
 pub data Reason : Type 0 where
   missing : Reason
   unread : Reason
   too_long : Reason
   no_json : List ℕ → Reason
-  no_session : List ℕ → Where → Reason
+  no_session : List ℕ → List ℕ → Reason
 
 abbrev pub Holds : Option (List ℕ → Option (List ℕ)) → List ℕ → Type 0 → Reason → Type 0
 Holds files name failed missing = IfSome files (λ find. find name ≡ None)
 Holds files name failed unread = failed
 Holds files name failed too_long = IfSome files (λ find. IsTooLong (find name))
 Holds files name failed (no_json bytes) = IsFile files name bytes × (json_of bytes ≡ None)
-Holds files name failed (no_session bytes w) = IsFile files name bytes × (document bytes ≡ Some (Err w))
+Holds files name failed (no_session bytes at) = IsFile files name bytes × IsDocument bytes (Err at)
 
 -- the last line that says so
 abbrev pub ending_for : Reason → Ending
@@ -39,7 +39,7 @@ ending_for missing = worded 7 (codes "missing")
 ending_for unread = worded 7 (codes "failed")
 ending_for too_long = worded 3 (codes "length")
 ending_for (no_json bytes) = worded 3 (codes "json")
-ending_for (no_session bytes w) = worded 3 (encode_utf8_all (utf16_lossy_chars (path w)))
+ending_for (no_session bytes at) = worded 3 (encode_utf8_all (utf16_lossy_chars (text_units at)))
 
 -- a last line alone: whole unless the report failed; or there was no memory for it
 abbrev pub Tells : ℕ → Ending → Option (List ℕ) → Option (List ℕ) → Type 0 → Type 0
@@ -62,7 +62,7 @@ abbrev pub OfFile : (Clients → Type 0) → ℕ → Option (List ℕ → Option
     → Option (List ℕ) → Option (List ℕ) → Option (List ℕ) → Option (List ℕ) → Option (List ℕ) → Type 0 → Type 0
 OfFile Came status files name files_failed before left old now before_report report' failed =
     NotRun status files name files_failed before left old now before_report report' failed
-    ⊎ ((bytes : List ℕ) × (session : Clients) × IsFile files name bytes × (document bytes ≡ Some (Ok session)) × Came session)
+    ⊎ ((bytes : List ℕ) × (session : Clients) × IsFile files name bytes × IsDocument bytes (Ok session) × Came session)
 
 -- ---- the code's own words
 
@@ -74,5 +74,5 @@ Explains files name failed unrun.OutOfMemory = Unit {0}
 -- why bytes are no session, where there was memory to tell
 abbrev pub Misread : List ℕ → Unrun → Type 0
 Misread bytes (unrun.Told line) = ((json_of bytes ≡ None) × (ending_of line ≡ ending_for (no_json bytes)))
-    ⊎ ((w : Where) × (document bytes ≡ Some (Err w)) × (ending_of line ≡ ending_for (no_session bytes w)))
+    ⊎ ((at : List ℕ) × IsDocument bytes (Err at) × (ending_of line ≡ ending_for (no_session bytes at)))
 Misread bytes unrun.OutOfMemory = Unit {0}

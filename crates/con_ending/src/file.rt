@@ -1,8 +1,8 @@
 //! The session of a file, and a last line alone.
 
-ghost use Rattle.std.specs.Prelude.{◌≡◌, ◌≤◌, ℕ, List, Some, Ok, IfOk, IfErr};
+ghost use Rattle.std.specs.Prelude.{◌≡◌, ◌≤◌, ℕ, List, Ok, IfOk, IfErr};
 ghost use Rattle.con_outside.specs.Outside.{Rose};
-ghost use Rattle.con_script.specs.Document.{document};
+ghost use Rattle.con_script.specs.Document.{IsDocument};
 ghost use Rattle.con_lines.specs.Ending.{ending_of, status_of};
 ghost use Rattle.con_ending.specs.Files.{IsFile, Explains, Misread, Tells};
 
@@ -40,7 +40,7 @@ pub fn bytes_of<F: Files>(alloc: Global, name: &str, files: &mut F) -> Result<Ve
 /// The session that the bytes of a file are.
 #[tactic(auto, using(crate::proofs::FileLemmas::no_json_by, crate::proofs::FileLemmas::no_session_by))]
 pub fn session_in(alloc: Global, bytes: &[u8]) -> Result<Session, Unrun>
-    ensures session { IfOk result (λ session. document bytes.now ≡ Some (Ok session)) }
+    ensures session { IfOk result (λ session. IsDocument bytes.now (Ok session)) }
     ensures told { IfErr result (Misread bytes.now) }
 {
     match read_session(alloc, bytes) {
@@ -53,7 +53,7 @@ pub fn session_in(alloc: Global, bytes: &[u8]) -> Result<Session, Unrun>
 
 /// The session of the file.
 pub fn session_of<F: Files>(alloc: Global, name: &str, files: &mut F) -> Result<Session, Unrun>
-    ensures session { IfOk result (λ session. (bytes : List ℕ) × IsFile (F.files files.old) name.now bytes × (document bytes ≡ Some (Ok session))) }
+    ensures session { IfOk result (λ session. (bytes : List ℕ) × IsFile (F.files files.old) name.now bytes × IsDocument bytes (Ok session)) }
     ensures told { IfErr result (Explains (F.files files.old) name.now (Rose (F.faults files.old) (F.faults files.new))) }
     ensures never_falls { F.faults files.old ≤ F.faults files.new }
 {

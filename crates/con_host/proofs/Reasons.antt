@@ -1,10 +1,10 @@
 -- Why no session runs, and what is never why.
 use Rattle.std.proofs.Common.{◌≡◌, inl, inr, sym, subst, ap, ◌∙◌, arith, ℕ, ◌<◌, ◌≤◌, List, length, Option, Some, None}
-use Rattle.std.specs.Prelude.{IfSome, Result, Ok, Err, option_map, unwrap_or}
+use Rattle.std.specs.Prelude.{IfSome, Result, Ok, Err, unwrap_or}
 use Rattle.con_events.specs.Session.{Clients}
 use Rattle.con_outside.specs.Named.{IsTooLong}
-use Rattle.con_script.specs.Document.{document, json_of}
-use Rattle.con_script.specs.Session.{Where, session_in}
+use Rattle.con_script.specs.Document.{IsDocument, json_of}
+use Rattle.con_script.specs.StepLaws.{no_document, one_document}
 use Rattle.con_lines.specs.Ending.{Ending, status_of}
 use Rattle.con_host.specs.Foretold.{IsSession}
 use Rattle.con_ending.specs.Files.{Holds, IsFile, Reason, missing, unread, too_long, no_json, no_session, Tells, ending_for}
@@ -24,19 +24,16 @@ its_bytes find files name bytes other e f is =
     let there : find name ≡ Some other = subst (λ o. IfSome o (λ find. find name ≡ Some other)) e is.1 in
     some_is other bytes (sym there ∙ f)
 
-no_document : (bytes : List ℕ) (session : Clients) → json_of bytes ≡ None → document bytes ≡ Some (Ok session) → ⊥
-no_document bytes session none is = let bad : None ≡ Some (Ok session) = sym (ap (option_map session_in) none) ∙ is in absurd (cc)
-
-no_fault : (session : Clients) (w : Where) (o : Option (Result Clients Where)) → o ≡ Some (Err w) → o ≡ Some (Ok session) → ⊥
-no_fault session w o e f = let bad : Some (Err w) ≡ Some (Ok session) = sym e ∙ f in absurd (cc)
+no_fault : (bytes : List ℕ) (session : Clients) (w : List ℕ) → IsDocument bytes (Err w) → IsDocument bytes (Ok session) → ⊥
+no_fault bytes session w e f = let bad : ◌≡◌ {A = Result Clients (List ℕ)} (Err w) (Ok session) = one_document bytes (Err w) (Ok session) e f in absurd (cc)
 
 -- a file that is a session runs, unless the files failed
 pub no_reason : (files : Option (List ℕ → Option (List ℕ))) (name : List ℕ) (failed : Type 0) (session : Clients) (why : Reason) → IsSession files name session → ¬ failed → Holds files name failed why → ⊥
 no_reason files name failed session missing is sure h = no_bytes is.1 (is.0 name) (subst (λ o. IfSome o (λ find. find name ≡ None)) is.2 h) is.3
 no_reason files name failed session unread is sure h = sure h
 no_reason files name failed session too_long is sure h = short is.1 is.4 (subst IsTooLong is.3 (subst (λ o. IfSome o (λ find. IsTooLong (find name))) is.2 h))
-no_reason files name failed session (no_json bytes) is sure h = no_document is.1 session (subst (λ b. json_of b ≡ None) (its_bytes is.0 files name is.1 bytes is.2 is.3 h.0) h.1) is.5
-no_reason files name failed session (no_session bytes w) is sure h = no_fault session w (document is.1) (subst (λ b. document b ≡ Some (Err w)) (its_bytes is.0 files name is.1 bytes is.2 is.3 h.0) h.1) is.5
+no_reason files name failed session (no_json bytes) is sure h = no_document is.1 (Ok session) (subst (λ b. json_of b ≡ None) (its_bytes is.0 files name is.1 bytes is.2 is.3 h.0) h.1) is.5
+no_reason files name failed session (no_session bytes w) is sure h = no_fault is.1 session w (subst (λ b. IsDocument b (Err w)) (its_bytes is.0 files name is.1 bytes is.2 is.3 h.0) h.1) is.5
 
 -- ---- no such status
 

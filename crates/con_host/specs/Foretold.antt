@@ -9,7 +9,7 @@ use Rattle.con_link.specs.declared.fault.LinkFault.TheVariants as faults
 use Rattle.con_events.specs.Session.{Clients}
 use Rattle.con_events.specs.declared.end.End.{End}
 use Rattle.con_events.specs.declared.end.End.TheVariants as ends
-use Rattle.con_script.specs.Document.{document}
+use Rattle.con_script.specs.Document.{IsDocument}
 use Rattle.con_session.specs.Sender.{all_go_on}
 
 -- The link's bytes, read in this way, are frames, one after another from its first byte and none of them an X, and behind them stands what is answered so.
@@ -51,4 +51,4 @@ HasNoMirrorFrame link = HasNoFrameBy mirrored link
 -- files are told, and the one of this name is this session
 abbrev pub IsSession : Option (List ℕ → Option (List ℕ)) → List ℕ → Clients → Type 0
 IsSession files name session = (find : List ℕ → Option (List ℕ)) × (bytes : List ℕ) × (files ≡ Some find) × (find name ≡ Some bytes)
-    × (length bytes ≤ 16777216) × (document bytes ≡ Some (Ok session))
+    × (length bytes ≤ 16777216) × IsDocument bytes (Ok session)

@@ -1,12 +1,12 @@
 -- How a session of a file with a second terminal ends: from the bytes of its file and of its link to those of both terminals and of the report.
-use Rattle.std.specs.Prelude.{◌≡◌, ◌⊎◌, ℕ, Bool, true, false, List, Option, Some, Ok, codes}
+use Rattle.std.specs.Prelude.{◌≡◌, ◌⊎◌, ℕ, Bool, true, false, List, Option, Ok, codes}
 use Rattle.con_events.specs.Session.{Clients}
 use Rattle.con_events.specs.declared.end.End.{End}
 use Rattle.con_events.specs.declared.end.End.TheVariants as ends
 use Rattle.con_events.specs.declared.entry.Entry.{Entry}
 use Rattle.con_events.specs.declared.reply.Reply.{Reply}
 use Rattle.con_outside.specs.Outside.{then_written, WroteFront}
-use Rattle.con_script.specs.Document.{document}
+use Rattle.con_script.specs.Document.{IsDocument}
 use Rattle.con_machine.specs.Follows.{session_start}
 use Rattle.con_laws.specs.Once.{TakenOnce}
 use Rattle.con_session.specs.Second.{IsMirrorOutcome}
@@ -59,5 +59,5 @@ abbrev pub HasMirrored : ℕ → Option (List ℕ → Option (List ℕ)) → Lis
     → Option (List ℕ) → Option (List ℕ) → Option (List ℕ) → Option (List ℕ) → Option (List ℕ) → Option (List ℕ) → Type 0 → Type 0 → Type 0
 HasMirrored status files name files_failed racks before left old now was written before_report report' failed second_failed =
     (NotRun status files name files_failed before left old now before_report report' failed × (written ≡ was))
-    ⊎ ((bytes : List ℕ) × (session : Clients) × IsFile files name bytes × (document bytes ≡ Some (Ok session))
+    ⊎ ((bytes : List ℕ) × (session : Clients) × IsFile files name bytes × IsDocument bytes (Ok session)
     × RanMirrored status session racks before left old now was written before_report report' failed second_failed)

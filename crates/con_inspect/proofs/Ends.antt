@@ -3,7 +3,6 @@ use Rattle.std.proofs.Common.{◌≡◌, ◌⊎◌, inl, inr, refl, sym, ◌∙�
 use Rattle.std.specs.Prelude.{Some, Result, Ok, Err, IfErr}
 use Rattle.con_events.specs.Session.{Clients}
 use Rattle.con_outside.specs.Outside.{then_written}
-use Rattle.con_script.specs.Document.{document}
 use Rattle.con_trace.specs.Audit.{a_run, found_text}
 use Rattle.con_lines.specs.Ending.{Ending, status_of, ending_of}
 use Rattle.con_lines.specs.Line.{ended}

@@ -1,11 +1,11 @@
 -- Told files are found to be one thing.
 use Rattle.std.proofs.Common.{◌≡◌, ◌⊎◌, inl, inr, refl, sym, ap, ◌∙◌, subst, arith, ℕ, ◌≤◌, List, [], ◌∷◌, length, Option, Some, None}
-use Rattle.std.specs.Prelude.{Ok, Err, Result, option_map, replicate}
+use Rattle.std.specs.Prelude.{Ok, Err, Result, replicate}
 use Rattle.con_events.specs.Session.{Clients}
 use Rattle.con_link.specs.Only.{OneAnswer}
 use Rattle.con_outside.specs.Named.{IsTooLong}
-use Rattle.con_script.specs.Document.{document, json_of}
-use Rattle.con_script.specs.Session.{Where, session_in}
+use Rattle.con_script.specs.Document.{IsDocument}
+use Rattle.con_script.specs.StepLaws.{no_document, one_document}
 use Rattle.con_lines.specs.Ending.{Ending, status_of}
 use Rattle.con_trace.specs.Report.{History, IsReport, IsWrongAt, NoneIsWrong, ReportTells, history_of}
 use Rattle.con_trace.specs.declared.trace.Trace.{Trace}
@@ -85,8 +85,8 @@ module _ (audits : OneAnswer) (tells : ReportTells) (none : NoneIsWrong) where
         ap (λ x. four_of x a.link a.stream a.report) e ∙ (ap (λ x. four_of b.session x a.stream a.report) f
         ∙ (ap (λ x. four_of b.session b.link x a.report) g ∙ ap (λ x. four_of b.session b.link b.stream x) h))
 
-    same_session : (text : List ℕ) (s r : Clients) → document text ≡ Some (Ok s) → document text ≡ Some (Ok r) → s ≡ r
-    same_session text s r p q = let e : ◌≡◌ {A = Option (Result Clients Where)} (Some (Ok s)) (Some (Ok r)) = sym p ∙ q in cc
+    same_session : (text : List ℕ) (s r : Clients) → IsDocument text (Ok s) → IsDocument text (Ok r) → s ≡ r
+    same_session text s r p q = let e : ◌≡◌ {A = Result Clients (List ℕ)} (Ok s) (Ok r) = one_document text (Ok s) (Ok r) p q in cc
 
     not_failed : (ns : List (List ℕ)) → LacksFirst files failed unread ns → ⊥
     not_failed [] l = l
@@ -129,21 +129,17 @@ module _ (audits : OneAnswer) (tells : ReportTells) (none : NoneIsWrong) where
     other_text : (four : Four) (bytes : List ℕ) → AreFiles files names four → IsSessions files names bytes → four.session ≡ bytes
     other_text four bytes are of = same_text names.session four.session of.0.session are.0 of.1.0 ∙ of.2
 
-    no_value : (bytes : List ℕ) (s : Clients) → json_of bytes ≡ None → document bytes ≡ Some (Ok s) → ⊥
-    no_value bytes s none_there d =
-        let bad : ◌≡◌ {A = Option (Result Clients Where)} None (Some (Ok s)) = sym (ap (option_map session_in) none_there) ∙ d in absurd (cc)
-
-    no_clients : (bytes : List ℕ) (s : Clients) (w : Where) → document bytes ≡ Some (Err w) → document bytes ≡ Some (Ok s) → ⊥
-    no_clients bytes s w e d = let bad : ◌≡◌ {A = Option (Result Clients Where)} (Some (Err w)) (Some (Ok s)) = sym e ∙ d in absurd (cc)
+    no_clients : (bytes : List ℕ) (s : Clients) (w : List ℕ) → IsDocument bytes (Err w) → IsDocument bytes (Ok s) → ⊥
+    no_clients bytes s w e d = let bad : ◌≡◌ {A = Result Clients (List ℕ)} (Err w) (Ok s) = one_document bytes (Err w) (Ok s) e d in absurd (cc)
 
     barred_kind : (why : Reason) → Bars files names failed why → Kind (barred why)
     barred_kind missing bars = lacking bars
     barred_kind unread bars = absurd (not_failed (listed names) bars)
     barred_kind too_long bars = unfit too_long bars.0 refl (λ f j. none_long j.0 j.1 bars.1)
     barred_kind (no_json bytes) bars = unfit (no_json bytes) (all_there bars.0.0 bars.0.1) refl
-        (λ f j. no_value bytes j.2 bars.1 (subst (λ (text : List ℕ). document text ≡ Some (Ok j.2)) (other_text j.0 bytes j.1 bars.0) j.3))
+        (λ f j. no_document bytes (Ok j.2) bars.1 (subst (λ (text : List ℕ). IsDocument text (Ok j.2)) (other_text j.0 bytes j.1 bars.0) j.3))
     barred_kind (no_session bytes w) bars = unfit (no_session bytes w) (all_there bars.0.0 bars.0.1) refl
-        (λ f j. no_clients bytes j.2 w bars.1 (subst (λ (text : List ℕ). document text ≡ Some (Ok j.2)) (other_text j.0 bytes j.1 bars.0) j.3))
+        (λ f j. no_clients bytes j.2 w bars.1 (subst (λ (text : List ℕ). IsDocument text (Ok j.2)) (other_text j.0 bytes j.1 bars.0) j.3))
 
     kind_of : (judged : Judged) → IsJudged files names failed judged → Kind judged
     kind_of (barred why) j = barred_kind why j
@@ -152,7 +148,7 @@ module _ (audits : OneAnswer) (tells : ReportTells) (none : NoneIsWrong) where
     same_found : (f e : Finding) → IsJudged files names failed (found f) → IsJudged files names failed (found e) → status_found f ≡ status_found e
     same_found f e j k =
         let four = same_four k.0 j.0 k.1 j.1 in
-        let read = subst (λ (x : Four). document x.session ≡ Some (Ok k.2)) four k.3 in
+        let read = subst (λ (x : Four). IsDocument x.session (Ok k.2)) four k.3 in
         let session = same_session j.0.session k.2 j.2 read j.3 in
         let finds = subst (λ (x : Four). Finds k.2 x e) four k.4 in
         one_found j.2 j.0 f e j.1.1.0 j.4 (subst (λ (s : Clients). Finds s j.0 e) session finds)

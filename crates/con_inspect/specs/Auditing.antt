@@ -2,7 +2,7 @@
 use Rattle.std.specs.Prelude.{◌≡◌, ◌⊎◌, ℕ, List, Option, Some, Ok}
 use Rattle.con_events.specs.Session.{Clients}
 use Rattle.con_outside.specs.Outside.{then_written, WrotePart}
-use Rattle.con_script.specs.Document.{document}
+use Rattle.con_script.specs.Document.{IsDocument}
 use Rattle.con_trace.specs.Audit.{a_run, found_text}
 use Rattle.con_lines.specs.Ending.{status_of}
 use Rattle.con_lines.specs.Line.{ended}
@@ -23,7 +23,7 @@ pub data Judged : Type 0 where
 -- there is nothing to audit; or the files have their bytes, of which the first are a session's document, and this is found
 abbrev pub IsJudged : Option (List ℕ → Option (List ℕ)) → Four → Type 0 → Judged → Type 0
 IsJudged files names failed (barred why) = Bars files names failed why
-IsJudged files names failed (found f) = (four : Four) × AreFiles files names four × (session : Clients) × (document four.session ≡ Some (Ok session))
+IsJudged files names failed (found f) = (four : Four) × AreFiles files names four × (session : Clients) × IsDocument four.session (Ok session)
     × Finds session four f
 
 -- the status, where there is memory and the report does not fail
@@ -49,7 +49,7 @@ IsTold status (found f) before now failed = Reports status f before now failed
 -- The files' bytes are a run: a session's document, a link, the stream of a terminal, and a report of status 0, which determines a legal history that
 -- follows the session and the link to the end, the console's replies, and where in the stream each picture is shown.
 abbrev pub AreARun : Option (List ℕ → Option (List ℕ)) → Four → Type 0
-AreARun files names = (four : Four) × AreFiles files names four × (session : Clients) × (document four.session ≡ Some (Ok session))
+AreARun files names = (four : Four) × AreFiles files names four × (session : Clients) × IsDocument four.session (Ok session)
     × (t : Trace) × IsReport four.report t × (t.status ≡ 0) × IsRun (given session four t)
 
 pub record Audits (status : ℕ) (files : Option (List ℕ

@@ -1,7 +1,6 @@
 -- What is found of the bytes of four files.
 use Rattle.std.specs.Prelude.{◌≡◌, ◌≢◌, ℕ, List, [], ◌∷◌, length, replicate, codes}
 use Rattle.con_events.specs.Session.{Clients}
-use Rattle.con_script.specs.Document.{document}
 use Rattle.con_trace.specs.Audit.{Found, a_run, no_run}
 use Rattle.con_trace.specs.Report.{IsReport, IsWrongAt}
 use Rattle.con_trace.specs.declared.trace.Trace.{Trace}

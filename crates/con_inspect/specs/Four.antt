@@ -1,7 +1,7 @@
 -- Four files by name, and why there is nothing to audit.
 use Rattle.std.specs.Prelude.{◌≡◌, ◌⊎◌, ℕ, Bool, true, false, List, [], ◌∷◌, Option, IfSome, Some, None, Err}
 use Rattle.con_outside.specs.Named.{IsTooLong}
-use Rattle.con_script.specs.Document.{document, json_of}
+use Rattle.con_script.specs.Document.{IsDocument, json_of}
 use Rattle.con_lines.specs.Ending.{ending_of}
 use Rattle.con_ending.specs.Files.{IsFile, Reason, missing, unread, too_long, no_json, no_session, Holds, ending_for}
 use Rattle.con_ending.specs.declared.file.Unrun.{Unrun}
@@ -65,7 +65,7 @@ Bars files names failed missing = LacksFirst files failed missing (listed names)
 Bars files names failed unread = LacksFirst files failed unread (listed names)
 Bars files names failed too_long = AreThere files (listed names) × HasLong files (listed names)
 Bars files names failed (no_json bytes) = IsSessions files names bytes × (json_of bytes ≡ None)
-Bars files names failed (no_session bytes w) = IsSessions files names bytes × (document bytes ≡ Some (Err w))
+Bars files names failed (no_session bytes w) = IsSessions files names bytes × IsDocument bytes (Err w)
 
 -- ---- the code's own words
 

@@ -1,8 +1,8 @@
 //! What is found of the bytes of four files.
 
-ghost use Rattle.std.specs.Prelude.{◌≡◌, ◌≤◌, ◌++◌, [], ◌∷◌, length, replicate, Some, Ok, IfOk, IfErr};
+ghost use Rattle.std.specs.Prelude.{◌≡◌, ◌≤◌, ◌++◌, [], ◌∷◌, length, replicate, Ok, IfOk, IfErr};
 ghost use Rattle.con_events.specs.Session.{Clients};
-ghost use Rattle.con_script.specs.Document.{document};
+ghost use Rattle.con_script.specs.Document.{IsDocument};
 ghost use Rattle.con_trace.specs.Report.{IsReport};
 ghost use Rattle.con_ending.specs.Files.{Misread};
 ghost use Rattle.con_inspect.specs.Finding.{kinds, Finds};
@@ -115,7 +115,7 @@ fn found(alloc: Global, session: &Session, contents: &Contents) -> Result<Findin
 /// What is found of the bytes of four files, or why the first is no session's document.
 pub fn judge(alloc: Global, contents: &Contents) -> Result<Finding, Unrun>
     requires few { length contents.now.link ≤ 16777216 }
-    ensures found { IfOk result (λ f. (session : Clients) × (document contents.now.session ≡ Some (Ok session)) × Finds session contents.now f) }
+    ensures found { IfOk result (λ f. (session : Clients) × IsDocument contents.now.session (Ok session) × Finds session contents.now f) }
     ensures told { IfErr result (Misread contents.now.session) }
 {
     let session = given!(session_in(alloc, contents.session.as_slice()));

@@ -12,7 +12,7 @@ use Rattle.serde_json.specs.Find.{as_array, as_number, as_u64}
 use Rattle.con_script.specs.declared.version.Version.{Version}
 use Rattle.con_script.specs.declared.version.Version.TheVariants.{One, Two}
 use Rattle.con_script.specs.Values.{text_in}
-use Rattle.con_script.specs.Session.{key, key_of, client, and_then, or_fault, unless, with_fault, each_from, count, within, array_within, keys_spot, client_keys, member_at, program_units, program_in, group_in, call_at, calls_in, script_in, size_of, size_items, size_in, most_clients, client_at, clients_in, few_calls, of_scripts}
+use Rattle.con_script.specs.Session.{key, key_of, client, and_then, or_fault, unless, with_fault, each_from, count, within, array_within, keys_spot, client_keys, member_at, program_in, group_in, call_at, calls_in, script_in, size_of, size_items, size_in, most_clients, client_at, clients_in, few_calls, of_scripts}
 
 -- ---- what an answer without a fault says
 
@@ -64,7 +64,7 @@ each_count {A} f i (item d ds) xs h =
 
 program_within : (d : Data) (us : List ℕ) → program_in d ≡ Some us → is_within 1 255 (length us) ≡ true
 program_within d us h =
-    let a = some_of (text_in d) program_units us h in
+    let a = some_of (text_in d) (λ xs. if is_within 1 255 (length xs) then Some xs else None) us h in
     let b = kept (is_within 1 255 (length a.0)) a.0 us a.1.1 in
     subst (λ (xs : List ℕ). is_within 1 255 (length xs) ≡ true) b.1 b.0
 
@@ -74,26 +74,26 @@ group_within d n h =
     let b = kept (nat_le 1 a.0) a.0 n a.1.1 in
     subst (λ (m : ℕ). nat_le 1 m ≡ true) b.1 b.0
 
-calls_within : (v : Version) (d : Data) (steps : List Step) → calls_in v d ≡ Ok steps → nat_le (length steps) 1024 ≡ true
+calls_within : (read : Data → Option Step) (d : Data) (steps : List Step) → calls_in read d ≡ Ok steps → nat_le (length steps) 1024 ≡ true
 unfolding calls_in
-calls_within v d steps h =
-    let a = then_ok (or_fault (key (codes "calls")) (array_within 0 1024 d)) (each_from (call_at v) 0) steps h in
-    let n = each_count (call_at v) 0 a.0 steps a.1.1 in
+calls_within read d steps h =
+    let a = then_ok (or_fault (key (codes "calls")) (array_within 0 1024 d)) (each_from (call_at read) 0) steps h in
+    let n = each_count (call_at read) 0 a.0 steps a.1.1 in
     let b = array_count 0 1024 d a.0 (found (key (codes "calls")) (array_within 0 1024 d) a.0 a.1.0) in
     rw n (second (nat_le 0 (count a.0)) (nat_le (count a.0) 1024) b)
 
-script_within : (v : Version) (d : Data) (s : Script) → script_in v d ≡ Ok s → is_script s ≡ true
+script_within : (read : Data → Option Step) (d : Data) (s : Script) → script_in read d ≡ Ok s → is_script s ≡ true
 unfolding script_in
-script_within v d s h =
+script_within read d s h =
     let program = or_fault (key (codes "program")) (program_in (member_at (codes "program") d)) in
     let group = or_fault (key (codes "group")) (group_in (member_at (codes "group") d)) in
-    let calls = calls_in v (member_at (codes "calls") d) in
+    let calls = calls_in read (member_at (codes "calls") d) in
     let r = unless_ok (keys_spot client_keys d) _ s h in
     let p = then_ok program _ s r in
     let g = then_ok group _ s p.1.1 in
     let c = then_ok calls _ s g.1.1 in
     let e : s ≡ record { program = p.0; group = g.0; steps = c.0 } = let same = c.1.1 in cc in
-    rw (e, program_within (member_at (codes "program") d) p.0 (found (key (codes "program")) _ p.0 p.1.0), group_within (member_at (codes "group") d) g.0 (found (key (codes "group")) _ g.0 g.1.0), calls_within v (member_at (codes "calls") d) c.0 c.1.0) refl
+    rw (e, program_within (member_at (codes "program") d) p.0 (found (key (codes "program")) _ p.0 p.1.0), group_within (member_at (codes "group") d) g.0 (found (key (codes "group")) _ g.0 g.1.0), calls_within read (member_at (codes "calls") d) c.0 c.1.0) refl
 
 -- ---- a document
 
@@ -123,33 +123,33 @@ items_size (item w (item k (item more ds))) s h = absurd (cc)
 size_within : (d : Data) (s : Size) → size_in d ≡ Some s → is_size s ≡ true
 size_within d s h = let a = some_of (as_array d) size_items s h in items_size a.0 s a.1.1
 
-all_within : (v : Version) (i : ℕ) (ds : Items) (ss : List Script) → each_from (client_at v) i ds ≡ Ok ss → all_scripts ss ≡ true
-all_within v i no_items ss h = let e : ss ≡ [] = cc in rw e refl
-all_within v i (item d ds) ss h =
-    let a = then_ok (client_at v i d) (λ x. and_then (each_from (client_at v) (suc i) ds) (λ more. Ok (x ∷ more))) ss h in
-    let b = then_ok (each_from (client_at v) (suc i) ds) (λ more. Ok (a.0 ∷ more)) ss a.1.1 in
+all_within : (read : Data → Option Step) (i : ℕ) (ds : Items) (ss : List Script) → each_from (client_at read) i ds ≡ Ok ss → all_scripts ss ≡ true
+all_within read i no_items ss h = let e : ss ≡ [] = cc in rw e refl
+all_within read i (item d ds) ss h =
+    let a = then_ok (client_at read i d) (λ x. and_then (each_from (client_at read) (suc i) ds) (λ more. Ok (x ∷ more))) ss h in
+    let b = then_ok (each_from (client_at read) (suc i) ds) (λ more. Ok (a.0 ∷ more)) ss a.1.1 in
     let e : ss ≡ a.0 ∷ b.0 = let same : Ok (a.0 ∷ b.0) ≡ Ok ss = b.1.1 in cc in
-    rw (e, script_within v d a.0 (with_ok (client i) (script_in v d) a.0 a.1.0), all_within v (suc i) ds b.0 b.1.0) refl
+    rw (e, script_within read d a.0 (with_ok (client i) (script_in read d) a.0 a.1.0), all_within read (suc i) ds b.0 b.1.0) refl
 
 fewer : (v : Version) (n : ℕ) → is_within 1 (most_clients v) n ≡ true → is_within 1 64 n ≡ true
 fewer One n h = grind (arith, nat_tests)
 fewer Two n h = h
 
-clients_within : (v : Version) (d : Data) (ss : List Script) → clients_in v d ≡ Ok ss → (is_within 1 64 (length ss) ≡ true) × (all_scripts ss ≡ true)
+clients_within : (read : Version → Data → Option Step) (v : Version) (d : Data) (ss : List Script) → clients_in read v d ≡ Ok ss → (is_within 1 64 (length ss) ≡ true) × (all_scripts ss ≡ true)
 unfolding clients_in
-clients_within v d ss h =
-    let a = then_ok (or_fault (key_of (codes "clients")) (array_within 1 (most_clients v) d)) (each_from (client_at v) 0) ss h in
-    let n = each_count (client_at v) 0 a.0 ss a.1.1 in
+clients_within read v d ss h =
+    let a = then_ok (or_fault (key_of (codes "clients")) (array_within 1 (most_clients v) d)) (each_from (client_at (read v)) 0) ss h in
+    let n = each_count (client_at (read v)) 0 a.0 ss a.1.1 in
     let b = array_count 1 (most_clients v) d a.0 (found (key_of (codes "clients")) (array_within 1 (most_clients v) d) a.0 a.1.0) in
-    (rw n (fewer v (count a.0) b), all_within v 0 a.0 ss a.1.1)
+    (rw n (fewer v (count a.0) b), all_within (read v) 0 a.0 ss a.1.1)
 
 settled : (b : Bool) (c : Clients) → or_fault (key_of (codes "clients")) (if b then Some c else None) ≡ (if b then Ok c else Err (key_of (codes "clients")))
 settled true c = refl
 settled false c = refl
 
-pub last_test : (v : Version) (d e : Data) (size : Size) (ss : List Script) → or_fault (key_of (codes "size")) (size_in d) ≡ Ok size → clients_in v e ≡ Ok ss
+pub last_test : (read : Version → Data → Option Step) (v : Version) (d e : Data) (size : Size) (ss : List Script) → or_fault (key_of (codes "size")) (size_in d) ≡ Ok size → clients_in read v e ≡ Ok ss
     → of_scripts size ss ≡ or_fault (key_of (codes "clients")) (session_of size ss)
-last_test v d e size ss h k =
+last_test read v d e size ss h k =
     let a = size_within d size (found (key_of (codes "size")) (size_in d) size h) in
-    let b = clients_within v e ss k in
+    let b = clients_within read v e ss k in
     rw (a, b.0, b.1) (sym (settled (few_calls ss) (record { size = size; scripts = ss })))

@@ -52,28 +52,28 @@ program_of d = or_fault (key (codes "program")) (program_in (member_at (codes "p
 abbrev group_of : Data → Result ℕ Spot
 group_of d = or_fault (key (codes "group")) (group_in (member_at (codes "group") d))
 
-abbrev steps_of : Version → Data → Result (List Step) Spot
-steps_of v d = calls_in v (member_at (codes "calls") d)
+abbrev steps_of : (Data → Option Step) → Data → Result (List Step) Spot
+steps_of read d = calls_in read (member_at (codes "calls") d)
 
-pub script_keys : (v : Version) (d : Data) (e : Spot) → keys_spot client_keys d ≡ Some e → script_in v d ≡ Err e
+pub script_keys : (read : Data → Option Step) (d : Data) (e : Spot) → keys_spot client_keys d ≡ Some e → script_in read d ≡ Err e
 unfolding script_in
-script_keys v d e p = rw p refl
+script_keys read d e p = rw p refl
 
-pub script_program : (v : Version) (d : Data) (e : Spot) → keys_spot client_keys d ≡ None → program_of d ≡ Err e → script_in v d ≡ Err e
+pub script_program : (read : Data → Option Step) (d : Data) (e : Spot) → keys_spot client_keys d ≡ None → program_of d ≡ Err e → script_in read d ≡ Err e
 unfolding script_in
-script_program v d e k p = rw (k, p) refl
+script_program read d e k p = rw (k, p) refl
 
-pub script_group : (v : Version) (d : Data) (us : List ℕ) (e : Spot) → keys_spot client_keys d ≡ None → program_of d ≡ Ok us → group_of d ≡ Err e → script_in v d ≡ Err e
+pub script_group : (read : Data → Option Step) (d : Data) (us : List ℕ) (e : Spot) → keys_spot client_keys d ≡ None → program_of d ≡ Ok us → group_of d ≡ Err e → script_in read d ≡ Err e
 unfolding script_in
-script_group v d us e k p g = rw (k, p, g) refl
+script_group read d us e k p g = rw (k, p, g) refl
 
-pub script_steps : (v : Version) (d : Data) (us : List ℕ) (n : ℕ) (e : Spot) → keys_spot client_keys d ≡ None → program_of d ≡ Ok us → group_of d ≡ Ok n → steps_of v d ≡ Err e → script_in v d ≡ Err e
+pub script_steps : (read : Data → Option Step) (d : Data) (us : List ℕ) (n : ℕ) (e : Spot) → keys_spot client_keys d ≡ None → program_of d ≡ Ok us → group_of d ≡ Ok n → steps_of read d ≡ Err e → script_in read d ≡ Err e
 unfolding script_in
-script_steps v d us n e k p g s = rw (k, p, g, s) refl
+script_steps read d us n e k p g s = rw (k, p, g, s) refl
 
-pub script_ok : (v : Version) (d : Data) (us : List ℕ) (n : ℕ) (steps : List Step) → keys_spot client_keys d ≡ None → program_of d ≡ Ok us → group_of d ≡ Ok n → steps_of v d ≡ Ok steps → script_in v d ≡ Ok (record { program = us; group = n; steps = steps })
+pub script_ok : (read : Data → Option Step) (d : Data) (us : List ℕ) (n : ℕ) (steps : List Step) → keys_spot client_keys d ≡ None → program_of d ≡ Ok us → group_of d ≡ Ok n → steps_of read d ≡ Ok steps → script_in read d ≡ Ok (record { program = us; group = n; steps = steps })
 unfolding script_in
-script_ok v d us n steps k p g s = rw (k, p, g, s) refl
+script_ok read d us n steps k p g s = rw (k, p, g, s) refl
 
 -- ---- a document
 
@@ -83,28 +83,28 @@ version_at d = or_fault (key_of (codes "version")) (version_in (member_at (codes
 abbrev size_at : Data → Result Size Where
 size_at d = or_fault (key_of (codes "size")) (size_in (member_at (codes "size") d))
 
-abbrev scripts_at : Version → Data → Result (List Script) Where
-scripts_at v d = clients_in v (member_at (codes "clients") d)
+abbrev scripts_at : (Version → Data → Option Step) → Version → Data → Result (List Script) Where
+scripts_at read v d = clients_in read v (member_at (codes "clients") d)
 
 abbrev top_where : Data → Option Where
 top_where d = option_map as_where (keys_spot top_keys d)
 
-pub session_keys : (d : Data) (e : Where) → top_where d ≡ Some e → session_in d ≡ Err e
+pub session_keys : (read : Version → Data → Option Step) (d : Data) (e : Where) → top_where d ≡ Some e → session_in read d ≡ Err e
 unfolding session_in
-session_keys d e p = rw p refl
+session_keys read d e p = rw p refl
 
-pub session_version : (d : Data) (e : Where) → top_where d ≡ None → version_at d ≡ Err e → session_in d ≡ Err e
+pub session_version : (read : Version → Data → Option Step) (d : Data) (e : Where) → top_where d ≡ None → version_at d ≡ Err e → session_in read d ≡ Err e
 unfolding session_in
-session_version d e k p = rw (k, p) refl
+session_version read d e k p = rw (k, p) refl
 
-pub session_size : (d : Data) (v : Version) (e : Where) → top_where d ≡ None → version_at d ≡ Ok v → size_at d ≡ Err e → session_in d ≡ Err e
+pub session_size : (read : Version → Data → Option Step) (d : Data) (v : Version) (e : Where) → top_where d ≡ None → version_at d ≡ Ok v → size_at d ≡ Err e → session_in read d ≡ Err e
 unfolding session_in
-session_size d v e k p s = rw (k, p, s) refl
+session_size read d v e k p s = rw (k, p, s) refl
 
-pub session_clients : (d : Data) (v : Version) (size : Size) (e : Where) → top_where d ≡ None → version_at d ≡ Ok v → size_at d ≡ Ok size → scripts_at v d ≡ Err e → session_in d ≡ Err e
+pub session_clients : (read : Version → Data → Option Step) (d : Data) (v : Version) (size : Size) (e : Where) → top_where d ≡ None → version_at d ≡ Ok v → size_at d ≡ Ok size → scripts_at read v d ≡ Err e → session_in read d ≡ Err e
 unfolding session_in
-session_clients d v size e k p s c = rw (k, p, s, c) refl
+session_clients read d v size e k p s c = rw (k, p, s, c) refl
 
-pub session_whole : (d : Data) (v : Version) (size : Size) (scripts : List Script) → top_where d ≡ None → version_at d ≡ Ok v → size_at d ≡ Ok size → scripts_at v d ≡ Ok scripts → session_in d ≡ or_fault (key_of (codes "clients")) (session_of size scripts)
+pub session_whole : (read : Version → Data → Option Step) (d : Data) (v : Version) (size : Size) (scripts : List Script) → top_where d ≡ None → version_at d ≡ Ok v → size_at d ≡ Ok size → scripts_at read v d ≡ Ok scripts → session_in read d ≡ or_fault (key_of (codes "clients")) (session_of size scripts)
 unfolding session_in
-session_whole d v size scripts k p s c = rw (k, p, s, c) (last_test v (member_at (codes "size") d) (member_at (codes "clients") d) size scripts s c)
+session_whole read d v size scripts k p s c = rw (k, p, s, c) (last_test read v (member_at (codes "size") d) (member_at (codes "clients") d) size scripts s c)

@@ -1,15 +1,12 @@
--- The row of a name in each version.
-use Rattle.std.proofs.Common.{◌≡◌, ℕ, List, false, refl, Option, Some, None, ap, ◌∙◌}
-use Rattle.std.specs.Prelude.{codes, option_map}
-use Rattle.std.specs.Str.{bytes_eq}
-use Rattle.std.proofs.lemmas.Bool.{false_from_ne_true}
-use Rattle.std.proofs.lemmas.Slice.Eq.{bytes_eq-Decides}
+-- What a call's row reads as a step's.
+use Rattle.std.proofs.Common.{◌≡◌, List, refl, Option, Some, None, ap, ◌∙◌}
+use Rattle.std.specs.Prelude.{option_map}
 use Rattle.con_events.specs.declared.call.Call.{Call}
 use Rattle.con_events.specs.declared.script.Step.{Step}
 use Rattle.con_events.specs.declared.script.Step.TheVariants as steps
-use Rattle.con_events.specs.Table.{Row, row_of}
+use Rattle.con_events.specs.Table.{Row}
 use Rattle.con_events.specs.Reading.{Item, row_from, args_from}
-use Rattle.con_script.specs.Steps.{as_step, row_in_one, row_in_two}
+use Rattle.con_script.specs.Steps.{as_step}
 
 mapped : {A B C : Type 0} (f : A → B) (g : B → C) (o : Option A) → option_map (λ a. g (f a)) o ≡ option_map g (option_map f o)
 mapped f g None = refl
@@ -27,14 +24,3 @@ step_found r ds rest c h = row_is r ds ∙ ap (option_map step_of) h
 
 pub step_lost : (r : Option (Row Call)) (ds : List Item) → row_from r ds ≡ None → row_from (as_step r) ds ≡ None
 step_lost r ds h = row_is r ds ∙ ap (option_map step_of) h
-
-other : (n k : List ℕ) → (n ≡ k → ⊥) → bytes_eq n k ≡ false
-other n k not = false_from_ne_true (bytes_eq n k) (λ is. not ((bytes_eq-Decides n k).0 is))
-
-pub of_calls : (n : List ℕ) → (n ≡ codes "read" → ⊥) → (n ≡ codes "read-input" → ⊥) → (n ≡ codes "exit" → ⊥) → row_in_one n ≡ as_step (row_of n)
-unfolding row_in_one
-of_calls n a b c = rw (other n (codes "read") a, other n (codes "read-input") b, other n (codes "exit") c) refl
-
-pub of_the_first : (n : List ℕ) → (n ≡ codes "read-with" → ⊥) → row_in_two n ≡ row_in_one n
-unfolding row_in_two
-of_the_first n a = rw (other n (codes "read-with") a) refl

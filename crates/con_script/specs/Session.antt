@@ -1,5 +1,6 @@
--- The session that a value of JSON is, or the place of its first fault.
-use Rattle.std.specs.Prelude.{ℕ, suc, ◌||◌, ◌==◌, Bool, false, cond, if◌then◌else◌, List, [], ◌∷◌, length, nat_le, codes, unwrap_or}
+-- The code's own words: the session that a value of JSON is, or the place of its first fault, by a reader of steps; `SessionLaws` has that this is the
+-- session that the document is, and the path of its fault.
+use Rattle.std.specs.Prelude.{ℕ, suc, ◌||◌, ◌==◌, Bool, false, cond, if◌then◌else◌, List, [], ◌∷◌, ◌++◌, nat_le, codes, decimal, unwrap_or}
 use Rattle.std.specs.Prelude.{Option, Some, None, option_map, option_and_then, is_some, Result, Ok, Err}
 use Rattle.std.specs.Str.{bytes_eq}
 use Rattle.con_units.specs.declared.place.Size.{Size}
@@ -11,8 +12,8 @@ use Rattle.serde_json.specs.Find.{get, as_number, as_u64, as_array}
 use Rattle.con_script.specs.declared.version.Version.{Version}
 use Rattle.con_script.specs.declared.version.Version.TheVariants.{One, Two}
 use Rattle.con_values.specs.Values.{below}
-use Rattle.con_script.specs.Values.{text_in}
-use Rattle.con_script.specs.Steps.{step_in}
+use Rattle.con_script.specs.Units.{text_units}
+pub use Rattle.con_script.specs.Document.{between, program_in, and_then, each_from}
 
 -- ---- places, and reading in order
 
@@ -28,11 +29,6 @@ pub data Where : Type 0 where
   key_of : List ℕ → Where
   client : ℕ → Spot → Where
 
--- the first fault, or what the next one makes of the value
-abbrev pub and_then : {A B E : Type 0} → Result A E → (A → Result B E) → Result B E
-and_then (Ok a) f = f a
-and_then (Err e) f = Err e
-
 abbrev pub or_fault : {A E : Type 0} → E → Option A → Result A E
 or_fault e None = Err e
 or_fault e (Some a) = Ok a
@@ -44,11 +40,6 @@ unless (Some e) r = Err e
 abbrev pub with_fault : {A E F : Type 0} → (E → F) → Result A E → Result A F
 with_fault f (Ok a) = Ok a
 with_fault f (Err e) = Err (f e)
-
--- the items in order, each with its number
-abbrev pub each_from : {A E : Type 0} → (ℕ → Data → Result A E) → ℕ → Items → Result (List A) E
-each_from f i no_items = Ok []
-each_from f i (item d ds) = and_then (f i d) (λ a. and_then (each_from f (suc i) ds) (λ more. Ok (a ∷ more)))
 
 -- an array whose length is within the limits, tried before its items
 abbrev pub count : Items → ℕ
@@ -97,29 +88,22 @@ member_at k d = unwrap_or (get k d) null
 abbrev pub client_keys : List (List ℕ)
 client_keys = codes "program" ∷ codes "group" ∷ codes "calls" ∷ []
 
--- 1 to 255 units
-abbrev pub program_units : List ℕ → Option (List ℕ)
-program_units us = if is_within 1 255 (length us) then Some us else None
-
-abbrev pub program_in : Data → Option (List ℕ)
-program_in d = option_and_then program_units (text_in d)
-
 -- 1 to 4,294,967,295
 abbrev pub group_in : Data → Option ℕ
 group_in d = option_and_then (λ n. if nat_le 1 n then Some n else None) (below 4294967296 d)
 
 -- a fault anywhere inside a call is the call's
-abbrev pub call_at : Version → ℕ → Data → Result Step Spot
-call_at v i d = or_fault (call i) (step_in v d)
+abbrev pub call_at : (Data → Option Step) → ℕ → Data → Result Step Spot
+call_at read i d = or_fault (call i) (read d)
 
-unfoldable pub calls_in : Version → Data → Result (List Step) Spot
-calls_in v d = and_then (or_fault (key (codes "calls")) (array_within 0 1024 d)) (each_from (call_at v) 0)
+unfoldable pub calls_in : (Data → Option Step) → Data → Result (List Step) Spot
+calls_in read d = and_then (or_fault (key (codes "calls")) (array_within 0 1024 d)) (each_from (call_at read) 0)
 
-unfoldable pub script_in : Version → Data → Result Script Spot
-script_in v d = unless (keys_spot client_keys d)
+unfoldable pub script_in : (Data → Option Step) → Data → Result Script Spot
+script_in read d = unless (keys_spot client_keys d)
     (and_then (or_fault (key (codes "program")) (program_in (member_at (codes "program") d))) (λ program.
     and_then (or_fault (key (codes "group")) (group_in (member_at (codes "group") d))) (λ group.
-    and_then (calls_in v (member_at (codes "calls") d)) (λ steps.
+    and_then (calls_in read (member_at (codes "calls") d)) (λ steps.
     Ok (record { program = program; group = group; steps = steps })))))
 
 -- ---- a document
@@ -132,10 +116,6 @@ version_of n = if n == 1 then Some One else (if n == 2 then Some Two else None)
 
 abbrev pub version_in : Data → Option Version
 version_in d = option_and_then version_of (option_and_then as_u64 (as_number d))
-
--- a whole number from the first to the second
-abbrev pub between : ℕ → ℕ → Data → Option ℕ
-between low high d = option_and_then (λ n. if is_within low high n then Some n else None) (option_and_then as_u64 (as_number d))
 
 abbrev pub size_of : Option ℕ → Option ℕ → Option Size
 size_of w h = option_and_then (λ width. option_map (λ height. record { w = width; h = height }) h) w
@@ -153,11 +133,11 @@ abbrev pub most_clients : Version → ℕ
 most_clients One = 16
 most_clients Two = 64
 
-abbrev pub client_at : Version → ℕ → Data → Result Script Where
-client_at v i d = with_fault (client i) (script_in v d)
+abbrev pub client_at : (Data → Option Step) → ℕ → Data → Result Script Where
+client_at read i d = with_fault (client i) (script_in read d)
 
-unfoldable pub clients_in : Version → Data → Result (List Script) Where
-clients_in v d = and_then (or_fault (key_of (codes "clients")) (array_within 1 (most_clients v) d)) (each_from (client_at v) 0)
+unfoldable pub clients_in : (Version → Data → Option Step) → Version → Data → Result (List Script) Where
+clients_in read v d = and_then (or_fault (key_of (codes "clients")) (array_within 1 (most_clients v) d)) (each_from (client_at (read v)) 0)
 
 abbrev pub as_where : Spot → Where
 as_where whole = all
@@ -171,8 +151,20 @@ few_calls scripts = nat_le (step_count scripts) 16384
 abbrev pub of_scripts : Size → List Script → Result Clients Where
 of_scripts size scripts = if few_calls scripts then Ok (record { size = size; scripts = scripts }) else Err (key_of (codes "clients"))
 
-unfoldable pub session_in : Data → Result Clients Where
-session_in d = unless (option_map as_where (keys_spot top_keys d))
+unfoldable pub session_in : (Version → Data → Option Step) → Data → Result Clients Where
+session_in read d = unless (option_map as_where (keys_spot top_keys d))
     (and_then (or_fault (key_of (codes "version")) (version_in (member_at (codes "version") d))) (λ v.
     and_then (or_fault (key_of (codes "size")) (size_in (member_at (codes "size") d))) (λ size.
-    and_then (clients_in v (member_at (codes "clients") d)) (of_scripts size))))
+    and_then (clients_in read v (member_at (codes "clients") d)) (of_scripts size))))
+
+-- keys are joined by `.`, and places are written `[i]`
+abbrev pub path_bytes : Where → List ℕ
+path_bytes all = []
+path_bytes (key_of k) = k
+path_bytes (client i whole) = codes "clients[" ++ (decimal i ++ codes "]")
+path_bytes (client i (key k)) = codes "clients[" ++ (decimal i ++ (codes "]." ++ k))
+path_bytes (client i (call j)) = codes "clients[" ++ (decimal i ++ (codes "].calls[" ++ (decimal j ++ codes "]")))
+
+-- the path's UTF-16 units
+abbrev pub path : Where → List ℕ
+path w = text_units (path_bytes w)

@@ -1,4 +1,4 @@
--- The steps of a script: the calls that are answered at once, the reads, and the end.
+-- The code's own words: steps by rows, of the calls that are answered at once, the reads, and the end. `StepLaws` has that they are the steps of `Readers`.
 use Rattle.std.specs.Prelude.{ℕ, List, [], ◌∷◌, codes, Option, None, Some, option_and_then}
 use Rattle.con_events.specs.declared.call.Call.{Call}
 use Rattle.con_events.specs.declared.script.Step.{Step}

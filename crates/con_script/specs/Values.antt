@@ -1,4 +1,5 @@
--- What a value of a document is as an argument of each kind: plain ones are con_values'.
+-- The code's own words: what a value of a document is as an argument of each kind; plain ones are con_values'. `ArgumentLaws` has that it is what is
+-- written.
 use Rattle.std.specs.Prelude.{ℕ, List, [], ◌∷◌, Option, Some, None, option_map, option_and_then}
 use Rattle.con_events.specs.declared.call.Words.{Words}
 use Rattle.con_events.specs.declared.call.Words.TheVariants.{One, Each}

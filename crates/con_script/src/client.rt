@@ -3,7 +3,8 @@
 ghost use Rattle.std.specs.Prelude.{◌≡◌, Some, None, IfOk, IfErr, codes};
 ghost use Rattle.con_events.specs.Reading.{IsForm};
 ghost use Rattle.serde_json.specs.View.{view, items_view};
-ghost use Rattle.con_script.specs.Session.{Spot, key, or_fault, member_at, program_in, group_in, call_at, each_from, calls_in, script_in};
+ghost use Rattle.con_script.specs.Session.{key, or_fault, member_at, program_in, group_in, call_at, each_from, calls_in, script_in};
+ghost use Rattle.con_script.specs.Steps.{step_in};
 ghost use Rattle.con_script.specs.Places.{Gives};
 
 use crate::keys::{array_at, check_keys, halt_at};
@@ -72,7 +73,7 @@ fn group(alloc: Global, value: &Value) -> Result<u32, Halt>
 }
 
 fn call(alloc: Global, version: Version, i: usize, value: &Value) -> Result<Step, Halt>
-    ensures { Gives result (call_at version i (view value.now)) }
+    ensures { Gives result (call_at (step_in version) i (view value.now)) }
 {
     match step(alloc, version, value) {
         Ok(step) => Ok(step),
@@ -82,7 +83,7 @@ fn call(alloc: Global, version: Version, i: usize, value: &Value) -> Result<Step
 }
 
 fn steps_of(alloc: Global, version: Version, items: &[Value]) -> Result<Steps, Halt>
-    ensures { Gives result (each_from (call_at version) 0 (items_view items.now)) }
+    ensures { Gives result (each_from (call_at (step_in version)) 0 (items_view items.now)) }
 {
     let mut steps = Vec::new(alloc);
     for (i, item) in items.iter().enumerate() {
@@ -100,7 +101,7 @@ fn steps_of(alloc: Global, version: Version, items: &[Value]) -> Result<Steps, H
 
 #[tactic(auto, unfolding(crate::specs::Session::calls_in))]
 fn steps(alloc: Global, version: Version, value: &Value) -> Result<Steps, Halt>
-    ensures { Gives result (calls_in version (member_at (codes "calls") (view value.now))) }
+    ensures { Gives result (calls_in (step_in version) (member_at (codes "calls") (view value.now))) }
 {
     match array_at(value, "calls", 0, 1024) {
         Some(items) => steps_of(alloc, version, items),
@@ -110,7 +111,7 @@ fn steps(alloc: Global, version: Version, value: &Value) -> Result<Steps, Halt>
 
 /// A client as a document has it.
 pub(crate) fn script(alloc: Global, version: Version, value: &Value) -> Result<Script, Halt>
-    ensures { Gives result (script_in version (view value.now)) }
+    ensures { Gives result (script_in (step_in version) (view value.now)) }
 {
     let keys = ["program", "group", "calls"];
     check_keys(alloc, value, &keys)?;

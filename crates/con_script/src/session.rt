@@ -1,11 +1,12 @@
 //! Reading a session.
 
-ghost use Rattle.std.specs.Prelude.{◌≡◌, ◌<◌, Some, None, Ok, Err, IfOk, IfErr, codes, option_map};
-ghost use Rattle.con_events.specs.Session.{Clients};
+ghost use Rattle.std.specs.Prelude.{◌≡◌, ◌<◌, ℕ, List, None, Ok, Err, IfOk, IfErr, codes, option_map};
 ghost use Rattle.serde_json.specs.View.{view, items_view};
-ghost use Rattle.con_script.specs.Session.{Where, key_of, or_fault, unless, member_at, size_items, size_in, between};
-ghost use Rattle.con_script.specs.Session.{as_where, keys_spot, top_keys, version_in, client_at, clients_in, each_from, session_in};
-ghost use Rattle.con_script.specs.Document.{json_of, document, path};
+ghost use Rattle.con_script.specs.Session.{key_of, or_fault, member_at, size_items, size_in, between};
+ghost use Rattle.con_script.specs.Session.{as_where, keys_spot, top_keys, version_in, client_at, clients_in, each_from, path, session_in};
+ghost use Rattle.con_script.specs.Document.{IsDocument, json_of};
+ghost use Rattle.con_script.specs.Steps.{step_in};
+ghost use Rattle.con_script.specs.Units.{text_units};
 ghost use Rattle.con_script.specs.Places.{Answers, StopsAt, KeepsAll, IsJson, IsAt, stands};
 
 use crate::client::script;
@@ -91,7 +92,7 @@ fn size_at(alloc: Global, value: &Value) -> Result<Size, Stop>
 }
 
 fn client(alloc: Global, version: Version, i: usize, value: &Value) -> Result<Script, Stop>
-    ensures { Answers result (client_at version i (view value.now)) }
+    ensures { Answers result (client_at (step_in version) i (view value.now)) }
 {
     match script(alloc, version, value) {
         Ok(script) => Ok(script),
@@ -101,7 +102,7 @@ fn client(alloc: Global, version: Version, i: usize, value: &Value) -> Result<Sc
 }
 
 fn scripts_of(alloc: Global, version: Version, items: &[Value]) -> Result<Scripts, Stop>
-    ensures { Answers result (each_from (client_at version) 0 (items_view items.now)) }
+    ensures { Answers result (each_from (client_at (step_in version)) 0 (items_view items.now)) }
 {
     let mut scripts = Vec::new(alloc);
     for (i, item) in items.iter().enumerate() {
@@ -119,7 +120,7 @@ fn scripts_of(alloc: Global, version: Version, items: &[Value]) -> Result<Script
 
 #[tactic(auto, unfolding(crate::specs::Session::clients_in))]
 fn clients(alloc: Global, version: Version, value: &Value) -> Result<Scripts, Stop>
-    ensures { Answers result (clients_in version (member_at (codes "clients") (view value.now))) }
+    ensures { Answers result (clients_in step_in version (member_at (codes "clients") (view value.now))) }
 {
     match array_at(value, "clients", 1, most_clients_of(version)) {
         Some(items) => scripts_of(alloc, version, items),
@@ -129,7 +130,7 @@ fn clients(alloc: Global, version: Version, value: &Value) -> Result<Scripts, St
 
 /// The session that a value of JSON is.
 fn session(alloc: Global, value: &Value) -> Result<Session, Stop>
-    ensures { Answers result (session_in (view value.now)) }
+    ensures { Answers result (session_in step_in (view value.now)) }
 {
     check_top(alloc, value)?;
     let version = version_at(alloc, value)?;
@@ -163,9 +164,9 @@ fn path_of(alloc: Global, site: Site) -> Result<Units, OutOfMemory>
 /// `Json` where the bytes are no value of JSON in UTF-8, nested to depth 127; `At` where the value is no session, with the path
 /// of its first fault. Of equal keys in one object the last one holds.
 pub fn read_session(alloc: Global, bytes: &[u8]) -> Result<Session, SessionFault>
-    ensures ok { IfOk result (λ s. document bytes.now ≡ Some (Ok s)) }
+    ensures ok { IfOk result (λ s. IsDocument bytes.now (Ok s)) }
     ensures json { IfErr result (λ e. IsJson e (json_of bytes.now ≡ None)) }
-    ensures at { IfErr result (λ e. IsAt e (λ text. (w : Where) × (document bytes.now ≡ Some (Err w)) × (text ≡ path w))) }
+    ensures at { IfErr result (λ e. IsAt e (λ text. (at : List ℕ) × IsDocument bytes.now (Err at) × (text ≡ text_units at))) }
 {
     let value = match Value::from_slice(alloc, bytes) {
         Ok(value) => value,

@@ -1,9 +1,9 @@
 //! Callers that use each clause with bytes and numbers that they do not know.
 
-ghost use Rattle.std.specs.Prelude.{◌≡◌, ◌↔◌, IsTrue, Some, None, Ok, Err, IfOk, IfSome, IsSome, length};
+ghost use Rattle.std.specs.Prelude.{◌≡◌, ◌↔◌, ℕ, List, IsTrue, Some, None, Ok, Err, IfOk, IfSome, IsSome, length};
 ghost use Rattle.con_events.specs.Session.{Clients};
-ghost use Rattle.con_script.specs.Session.{Where};
-ghost use Rattle.con_script.specs.Document.{json_of, document, path};
+ghost use Rattle.con_script.specs.Document.{IsDocument, json_of};
+ghost use Rattle.con_script.specs.Units.{text_units};
 ghost use Rattle.con_script.specs.Generated.{session_drawn};
 
 use con_script::{SessionFault, generated, read_session};
@@ -23,7 +23,7 @@ pub fn is_json(alloc: Global, bytes: &[u8]) -> Result<bool, OutOfMemory>
 
 /// The path of the first fault of bytes that are JSON.
 pub fn fault(alloc: Global, bytes: &[u8]) -> Result<Option<Units>, OutOfMemory>
-    ensures { IfOk result (λ found. IfSome found (λ text. (w : Where) × (document bytes.now ≡ Some (Err w)) × (text ≡ path w))) }
+    ensures { IfOk result (λ found. IfSome found (λ text. (at : List ℕ) × IsDocument bytes.now (Err at) × (text ≡ text_units at))) }
 {
     match read_session(alloc, bytes) {
         Err(SessionFault::At(path)) => Ok(Some(path)),
@@ -34,7 +34,7 @@ pub fn fault(alloc: Global, bytes: &[u8]) -> Result<Option<Units>, OutOfMemory>
 
 /// How many clients a document has that is a session.
 pub fn count(alloc: Global, bytes: &[u8]) -> Result<Option<usize>, OutOfMemory>
-    ensures { IfOk result (λ found. IfSome found (λ n. (c : Clients) × (document bytes.now ≡ Some (Ok c)) × (n ≡ length c.scripts))) }
+    ensures { IfOk result (λ found. IfSome found (λ n. (c : Clients) × IsDocument bytes.now (Ok c) × (n ≡ length c.scripts))) }
 {
     match read_session(alloc, bytes) {
         Ok(session) => Ok(Some(session.scripts().len())),

@@ -1,6 +1,7 @@
 use Rattle.std.proofs.Common.{length}
 use borrow.Author.Count.{falls}
 use Rattle.con_script.specs.Session.{call_at}
+use Rattle.con_script.specs.Steps.{step_in}
 use Rattle.con_script.proofs.ListLemmas.{each_on, all_each, none_yet}
 use Rattle.con_script.proofs.client.steps_of.Goals as goal
 
@@ -9,11 +10,11 @@ loop-i-init c = none_yet c.new-steps.result.items _ c.new-steps.ensures.items
 
 pub loop-i-preserved : goal.loop-i-preserved
 loop-i-preserved c =
-    each_on (call_at c.args.version) c.args.items.now c.loop-i.i c.index-items-i.result c.loop-i.steps.items c.push.new.self.items c.in-Ok.step _
+    each_on (call_at (step_in c.args.version)) c.args.items.now c.loop-i.i c.index-items-i.result c.loop-i.steps.items c.push.new.self.items c.in-Ok.step _
     c.loop-i.invariant c.loop-i-test.true c.index-items-i.is c.in-Ok.ensures c.in-Ok-push.ensures.items
 
 pub loop-i-smaller : goal.loop-i-smaller
 loop-i-smaller c = falls (length c.args.items.now) c.loop-i.i c.loop-i-test.true
 
 pub returns : goal.returns
-returns c = all_each (call_at c.args.version) c.args.items.now c.loop-i.i c.loop-i.steps.items _ c.loop-i.invariant c.loop-i-test.false
+returns c = all_each (call_at (step_in c.args.version)) c.args.items.now c.loop-i.i c.loop-i.steps.items _ c.loop-i.invariant c.loop-i-test.false

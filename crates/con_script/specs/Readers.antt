@@ -1,0 +1,37 @@
+-- Which step a value of JSON is. A document writes a call as a report does, but texts as they are and words as numbers.
+use Rattle.std.specs.Prelude.{◌≡◌, ◌≢◌, ◌↔◌, ℕ, List, [], ◌∷◌, map, codes, Option, Some}
+use Rattle.std.specs.List.{AllZip}
+use Rattle.con_events.specs.declared.call.Words.TheVariants.{Each}
+use Rattle.con_events.specs.declared.event.Wanted.TheVariants.{Read, ReadInput, ReadWith}
+use Rattle.con_events.specs.declared.script.Step.{Step}
+use Rattle.con_events.specs.declared.script.Step.TheVariants as steps
+use Rattle.con_events.specs.Arg.{Arg, Number, Text, WordsOf, WordList}
+use Rattle.con_events.specs.Fits.{AreUnits, ArgFits}
+use Rattle.con_events.specs.Table.{name_of, args_of}
+use Rattle.con_lines.specs.Shown.{list_of, natural, shown}
+use Rattle.serde_json.specs.Data.{Data, string}
+use Rattle.con_script.specs.Units.{text_units}
+
+-- the name of a step, and its arguments in order
+abbrev pub step_told : Step → List ℕ × List Arg
+step_told (steps.Call c) = (name_of c, args_of c)
+step_told (steps.Begin (Read h n)) = (codes "read", Number h ∷ Number n ∷ [])
+step_told (steps.Begin (ReadInput h n)) = (codes "read-input", Number h ∷ Number n ∷ [])
+step_told (steps.Begin (ReadWith h n us mask)) = (codes "read-with", Number h ∷ Number n ∷ Text us ∷ Number mask ∷ [])
+step_told (steps.Exit n) = (codes "exit", Number n ∷ [])
+
+-- an argument as a document writes it: a text in UTF-8, words as numbers, and all else as it is shown, within its limits
+abbrev pub IsWritten : Arg → Data → Type 0
+IsWritten (Text us) d = (text : List ℕ) × (d ≡ string text) × (text_units text ≡ us)
+IsWritten (WordsOf (Each ws)) d = (d ≡ list_of (map natural ws)) × AreUnits ws
+IsWritten (WordList ws) d = (d ≡ list_of (map natural ws)) × AreUnits ws
+IsWritten a d = (d ≡ shown a) × ArgFits a
+
+-- an array of the step's name and of its arguments; `read-with` is not of version 1
+abbrev pub IsStep : ℕ → Data → Step → Type 0
+IsStep v d s = ((step_told s).0 ≡ codes "read-with" → v ≢ 1)
+    × ((ds : List Data) × (d ≡ list_of (string (step_told s).0 ∷ ds)) × AllZip IsWritten (step_told s).1 ds)
+
+-- it reads each value that is a step as that step, and no other value
+abbrev pub Reads : (ℕ → Data → Option Step) → Type 0
+Reads reader = (v : ℕ) (d : Data) (s : Step) → (reader v d ≡ Some s) ↔ IsStep v d s
