@@ -6,9 +6,11 @@ use Rattle.con_events.specs.declared.script.Step.{Step}
 use Rattle.con_events.specs.declared.script.Step.TheVariants as steps
 use Rattle.con_events.specs.declared.call.Call.TheVariants as call
 use Rattle.con_events.specs.declared.script.Script.{Script}
-use Rattle.con_events.specs.Session.{session_of}
+use Rattle.con_events.specs.Session.{Clients, session_of}
 use Rattle.con_units.specs.SplitLaws.{append_none}
-use Rattle.con_script.specs.Generated.{moved, drawn, units_drawn, step_drawn, steps_drawn, script_drawn, session_drawn, first_drawn, second_drawn, third_drawn}
+use Rattle.con_script.specs.Generated.{moved, session_drawn}
+use Rattle.con_script.specs.Draws.{drawn, units_drawn, step_drawn, steps_drawn, script_made, scripts_made, first_made, second_made, third_made}
+use Rattle.con_script.specs.DrawLaws.{same_scripts}
 
 units_next : (n m x : ℕ) → n ≡ suc m → units_drawn n x ≡ record { made = (32 + drawn 95 (moved x)) ∷ (units_drawn m (moved x)).made; left = (units_drawn m (moved x)).left }
 unfolding units_drawn
@@ -73,24 +75,24 @@ unfolding steps_drawn
 count_of_steps zero x = refl
 count_of_steps (suc n) x = ap suc (count_of_steps n (step_drawn x).left)
 
-steps_of_script : (p : List ℕ) (g x : ℕ) → length (script_drawn p g x).made.steps ≡ 500
-unfolding script_drawn
+steps_of_script : (p : List ℕ) (g x : ℕ) → length (script_made p g x).made.steps ≡ 500
+unfolding script_made
 steps_of_script p g x = ap suc (count_of_steps 499 x)
 
-program_of_script : (p : List ℕ) (g x : ℕ) → (script_drawn p g x).made.program ≡ p
-unfolding script_drawn
+program_of_script : (p : List ℕ) (g x : ℕ) → (script_made p g x).made.program ≡ p
+unfolding script_made
 program_of_script p g x = refl
 
-group_of_script : (p : List ℕ) (g x : ℕ) → (script_drawn p g x).made.group ≡ g
-unfolding script_drawn
+group_of_script : (p : List ℕ) (g x : ℕ) → (script_made p g x).made.group ≡ g
+unfolding script_made
 group_of_script p g x = refl
 
-pub within_limits : (seed : ℕ) → session_of (session_drawn seed).size (session_drawn seed).scripts ≡ Some (session_drawn seed)
-within_limits seed =
+are_within : (seed : ℕ) → session_of (record { w = 80; h = 25 }) (scripts_made seed) ≡ Some (record { size = record { w = 80; h = 25 }; scripts = scripts_made seed })
+are_within seed =
     let a = seed in
-    let b = (first_drawn seed).left in
-    let c = (second_drawn seed).left in
-    let d = (third_drawn seed).left in
+    let b = (first_made seed).left in
+    let c = (second_made seed).left in
+    let d = (third_made seed).left in
     rw (
       steps_of_script (codes "gen1") 1 a,
       steps_of_script (codes "gen2") 2 b,
@@ -106,8 +108,16 @@ within_limits seed =
       group_of_script (codes "gen4") 4 d,
     ) refl
 
-pub never_outside : (seed : ℕ) (ss : List Script) → ss ≡ (session_drawn seed).scripts → None ≡ session_of (record { w = 80; h = 25 }) ss → ⊥
-never_outside seed ss e h = let both : None ≡ Some (session_drawn seed) = h ∙ (ap (λ xs. session_of (record { w = 80; h = 25 }) xs) e ∙ within_limits seed) in cc
+-- what is made is a session, the one that is drawn
+within_limits : (seed : ℕ) (ss : List Script) → ss ≡ scripts_made seed → session_of (record { w = 80; h = 25 }) ss ≡ Some (session_drawn seed)
+within_limits seed ss e =
+    ap (session_of (record { w = 80; h = 25 })) e ∙ are_within seed ∙ ap (λ (xs : List Script). Some (record { size = record { w = 80; h = 25 }; scripts = xs })) (same_scripts seed)
+
+pub never_outside : (seed : ℕ) (ss : List Script) → ss ≡ scripts_made seed → None ≡ session_of (record { w = 80; h = 25 }) ss → ⊥
+never_outside seed ss e h = let both : None ≡ Some (session_drawn seed) = h ∙ within_limits seed ss e in cc
+
+pub is_drawn : (seed : ℕ) (ss : List Script) (s : Clients) → ss ≡ scripts_made seed → Some s ≡ session_of (record { w = 80; h = 25 }) ss → s ≡ session_drawn seed
+is_drawn seed ss s e h = let both : Some s ≡ Some (session_drawn seed) = h ∙ within_limits seed ss e in cc
 
 pub colour_call : (us : List ℕ) (d e : ℕ) → us ≡ 27 ∷ 91 ∷ 51 ∷ (48 + d) ∷ 109 ∷ [] → d ≡ e → d < 8 → steps.Call (call.Write 2 us) ≡ steps.Call (call.Write 2 (27 ∷ 91 ∷ (decimal (30 + e) ++ 109 ∷ [])))
 colour_call us d e p q less = rw (p, ← q, colour_digits d less) refl

@@ -1,8 +1,9 @@
 -- Sessions from a number: draws by the linear congruence of Knuth's MMIX (The Art of Computer Programming 2, section 3.3.4), and what they choose.
-use Rattle.std.specs.Prelude.{ℕ, zero, suc, ◌+◌, ◌*◌, ◌/◌, ◌%◌, pos, true, List, [], ◌∷◌, ◌++◌, codes, decimal}
+-- Whatever is drawn is a function of the state: what is drawn from it, and the state that is left.
+use Rattle.std.specs.Prelude.{ℕ, zero, suc, ◌+◌, ◌*◌, ◌/◌, ◌%◌, pos, true, List, [], ◌∷◌, ◌++◌, map, get_or, codes, decimal}
 use Rattle.con_records.specs.declared.record.Record.TheVariants as record_of
+use Rattle.con_events.specs.declared.call.Call.{Call}
 use Rattle.con_events.specs.declared.call.Call.TheVariants as call
-use Rattle.con_events.specs.declared.script.Step.{Step}
 use Rattle.con_events.specs.declared.script.Step.TheVariants as steps
 use Rattle.con_events.specs.declared.script.Script.{Script}
 use Rattle.con_events.specs.Session.{Clients}
@@ -11,108 +12,51 @@ use Rattle.con_events.specs.Session.{Clients}
 unfoldable pub moved : ℕ → ℕ
 moved x = (x * 6364136223846793005 + 1442695040888963407) % 18446744073709551616
 
--- the number below m that a draw gives, by the state after it
-unfoldable pub drawn : ℕ → ℕ → ℕ
-drawn m x = x / 8589934592 % m
+-- a draw below m: its number, and the state after it
+unfoldable pub draw : ℕ → ℕ → ℕ × ℕ
+draw m x = (moved x / 8589934592 % m, moved x)
 
--- what draws made, and the state after them
-pub record Made (A : Type 0) : Type 0 where
-  pub made : A
-  pub left : ℕ
+-- what is drawn first, and then what is drawn by it
+abbrev pub chain : {A B : Type 0} → (ℕ → A × ℕ) → (A → ℕ → B × ℕ) → ℕ → B × ℕ
+chain first next x = next (first x).0 (first x).1
 
--- so many units of printable ASCII
-unfoldable pub units_drawn : ℕ → ℕ → Made (List ℕ)
-units_drawn zero x = record { made = []; left = x }
-units_drawn (suc n) x = record { made = (32 + drawn 95 (moved x)) ∷ (units_drawn n (moved x)).made; left = (units_drawn n (moved x)).left }
+-- so many, one after another
+unfoldable pub many : {A : Type 0} → ℕ → (ℕ → A × ℕ) → ℕ → List A × ℕ
+many zero one x = ([], x)
+many (suc n) one x = chain one (λ a. chain (many n one) (λ more y. (a ∷ more, y))) x
 
--- a text of 1 to 40 units is written
-abbrev pub text_drawn : ℕ → Made Step
-text_drawn x = record {
-  made = steps.Call (call.Write 2 (units_drawn (1 + drawn 40 (moved x)) (moved x)).made);
-  left = (units_drawn (1 + drawn 40 (moved x)) (moved x)).left;
-}
+-- the calls of the kinds 0 to 6
+abbrev pub calls_drawn : List (ℕ → Call × ℕ)
+calls_drawn =
+    -- a text of 1 to 40 units of printable ASCII is written
+    chain (draw 40) (λ n. chain (many (1 + n) (draw 95)) (λ us x. (call.Write 2 (map (λ u. 32 + u) us), x)))
+    -- CR LF is written
+    ∷ (λ x. (call.Write 2 (13 ∷ 10 ∷ []), x))
+    -- ESC [, a number of 30 to 37, m is written
+    ∷ chain (draw 8) (λ n x. (call.Write 2 (27 ∷ 91 ∷ (decimal (30 + n) ++ 109 ∷ [])), x))
+    -- the cursor is set to a column and a row
+    ∷ chain (draw 80) (λ c. chain (draw 25) (λ r x. (call.SetCursor 2 (pos c) (pos r), x)))
+    -- from a column and a row on, so many words are filled in
+    ∷ chain (draw 80) (λ c. chain (draw 25) (λ r. chain (draw 200) (λ n. chain (draw 256) (λ w x. (call.FillAttrs 2 (pos c) (pos r) n w, x)))))
+    -- a rectangle is read, of this left, top, right and bottom
+    ∷ chain (draw 80) (λ l. chain (draw 25) (λ t. chain (draw 80) (λ r. chain (draw 25) (λ b x.
+    (call.RectRead 2 (record { left = pos l; top = pos t; right = pos r; bottom = pos b }), x)))))
+    -- a key of a to z goes down
+    ∷ chain (draw 26) (λ k x. (call.WriteInput 1 (record_of.Key (record { down = true; repeat = 1; vk = 0; scan = 0; unit = 97 + k; state = 0 }) ∷ []), x)) ∷ []
 
--- CR LF is written
-abbrev pub line_drawn : ℕ → Made Step
-line_drawn x = record { made = steps.Call (call.Write 2 (13 ∷ 10 ∷ [])); left = x }
+-- a call of a kind that is drawn; kind 7 is a peek of 4 records
+unfoldable pub call_drawn : ℕ → Call × ℕ
+call_drawn x = chain (draw 8) (λ k. get_or calls_drawn k (λ y. (call.Peek 1 4, y))) x
 
--- ESC [, a number of 30 to 37, m is written
-abbrev pub colour_drawn : ℕ → Made Step
-colour_drawn x = record { made = steps.Call (call.Write 2 (27 ∷ 91 ∷ (decimal (30 + drawn 8 (moved x)) ++ 109 ∷ []))); left = moved x }
-
-abbrev pub cursor_drawn : ℕ → Made Step
-cursor_drawn x = record { made = steps.Call (call.SetCursor 2 (pos (drawn 80 (moved x))) (pos (drawn 25 (moved (moved x))))); left = moved (moved x) }
-
--- x, y, the count, the word
-abbrev pub attrs_drawn : ℕ → Made Step
-attrs_drawn x = record {
-  made = steps.Call (call.FillAttrs 2 (pos (drawn 80 (moved x))) (pos (drawn 25 (moved (moved x))))
-      (drawn 200 (moved (moved (moved x)))) (drawn 256 (moved (moved (moved (moved x))))));
-  left = moved (moved (moved (moved x)));
-}
-
--- left, top, right, bottom
-abbrev pub rect_drawn : ℕ → Made Step
-rect_drawn x = record {
-  made = steps.Call (call.RectRead 2 (record {
-    left = pos (drawn 80 (moved x));
-    top = pos (drawn 25 (moved (moved x)));
-    right = pos (drawn 80 (moved (moved (moved x))));
-    bottom = pos (drawn 25 (moved (moved (moved (moved x)))));
-  }));
-  left = moved (moved (moved (moved x)));
-}
-
--- a key of a to z goes down
-abbrev pub key_drawn : ℕ → Made Step
-key_drawn x = record {
-  made = steps.Call (call.WriteInput 1 (record_of.Key (record { down = true; repeat = 1; vk = 0; scan = 0; unit = 97 + drawn 26 (moved x); state = 0 }) ∷ []));
-  left = moved x;
-}
-
-abbrev pub peek_drawn : ℕ → Made Step
-peek_drawn x = record { made = steps.Call (call.Peek 1 4); left = x }
-
--- a call of a kind, which was drawn
-abbrev pub kind_drawn : ℕ → ℕ → Made Step
-kind_drawn zero x = text_drawn x
-kind_drawn (suc zero) x = line_drawn x
-kind_drawn (suc (suc zero)) x = colour_drawn x
-kind_drawn (suc (suc (suc zero))) x = cursor_drawn x
-kind_drawn (suc (suc (suc (suc zero)))) x = attrs_drawn x
-kind_drawn (suc (suc (suc (suc (suc zero))))) x = rect_drawn x
-kind_drawn (suc (suc (suc (suc (suc (suc zero)))))) x = key_drawn x
-kind_drawn (suc (suc (suc (suc (suc (suc (suc n))))))) x = peek_drawn x
-
-unfoldable pub step_drawn : ℕ → Made Step
-step_drawn x = kind_drawn (drawn 8 (moved x)) (moved x)
-
-unfoldable pub steps_drawn : ℕ → ℕ → Made (List Step)
-steps_drawn zero x = record { made = []; left = x }
-steps_drawn (suc n) x = record { made = (step_drawn x).made ∷ (steps_drawn n (step_drawn x).left).made; left = (steps_drawn n (step_drawn x).left).left }
-
--- a script begins with set-mode of 2, 7, and has 499 further calls
-unfoldable pub script_drawn : List ℕ → ℕ → ℕ → Made Script
-script_drawn program group x = record {
-  made = record { program = program; group = group; steps = steps.Call (call.SetMode 2 7) ∷ (steps_drawn 499 x).made };
-  left = (steps_drawn 499 x).left;
-}
-
-abbrev pub first_drawn : ℕ → Made Script
-first_drawn seed = script_drawn (codes "gen1") 1 seed
-
-abbrev pub second_drawn : ℕ → Made Script
-second_drawn seed = script_drawn (codes "gen2") 2 (first_drawn seed).left
-
-abbrev pub third_drawn : ℕ → Made Script
-third_drawn seed = script_drawn (codes "gen3") 3 (second_drawn seed).left
-
-abbrev pub fourth_drawn : ℕ → Made Script
-fourth_drawn seed = script_drawn (codes "gen4") 4 (third_drawn seed).left
+-- the script of client n: set-mode of 2, 7, and 499 further calls
+unfoldable pub script_drawn : ℕ → ℕ → Script × ℕ
+script_drawn n x = chain (many 499 call_drawn)
+    (λ cs y. (record { program = codes "gen" ++ decimal n; group = n; steps = map steps.Call (call.SetMode 2 7 ∷ cs) }, y)) x
 
 -- 80 by 25, with four scripts that are made in order
 abbrev pub session_drawn : ℕ → Clients
 session_drawn seed = record {
   size = record { w = 80; h = 25 };
-  scripts = (first_drawn seed).made ∷ (second_drawn seed).made ∷ (third_drawn seed).made ∷ (fourth_drawn seed).made ∷ [];
+  scripts = (chain (script_drawn 1) (λ a. chain (script_drawn 2) (λ b.
+      chain (script_drawn 3) (λ c. chain (script_drawn 4) (λ d x. (a ∷ b ∷ c ∷ d ∷ [], x))))) seed).0;
 }

@@ -12,9 +12,11 @@ pub mod Steps
 pub mod Session
 pub mod Places
 pub mod Cursors
--- ---- Laws: the code's reader of steps is the one that there is, and finds what a document is.
+pub mod Draws
+-- ---- Laws: the code's reader of steps is the one that there is, and finds what a document is; and what it draws is what is drawn.
 pub mod PlainLaws
 pub mod RowLaws
 pub mod ArgumentLaws
 pub mod SessionLaws
 pub mod StepLaws
+pub mod DrawLaws

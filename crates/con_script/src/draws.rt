@@ -1,8 +1,9 @@
 //! Numbers that are drawn, and the calls that they choose.
 
 ghost use Rattle.std.specs.Prelude.{◌≡◌, ◌+◌, ◌<◌, IfOk, OnOk};
-ghost use Rattle.con_script.specs.Generated.{moved, drawn, units_drawn, text_drawn, line_drawn};
-ghost use Rattle.con_script.specs.Generated.{colour_drawn, cursor_drawn, attrs_drawn, rect_drawn, key_drawn, kind_drawn, step_drawn};
+ghost use Rattle.con_script.specs.Generated.{moved};
+ghost use Rattle.con_script.specs.Draws.{drawn, units_drawn, text_drawn, line_drawn};
+ghost use Rattle.con_script.specs.Draws.{colour_drawn, cursor_drawn, attrs_drawn, rect_drawn, key_drawn, kind_drawn, step_drawn};
 
 use con_events::{Call, Step};
 use con_records::{Key, Record, Taken};
@@ -16,7 +17,7 @@ pub(crate) struct Draws {
 }
 
 /// A number below `below`.
-#[tactic(auto, unfolding(crate::specs::Generated::moved, crate::specs::Generated::drawn))]
+#[tactic(auto, unfolding(crate::specs::Generated::moved, crate::specs::Draws::drawn))]
 fn draw(draws: &mut Draws, below: u64) -> u64
     requires { 0 < below }
     ensures value { result ≡ drawn below (moved draws.old.state) }
@@ -155,7 +156,7 @@ fn kind_step(alloc: Global, draws: &mut Draws, kind: u64) -> Result<Step, OutOfM
 }
 
 /// A call that is drawn.
-#[tactic(auto, unfolding(crate::specs::Generated::step_drawn))]
+#[tactic(auto, unfolding(crate::specs::Draws::step_drawn))]
 pub(crate) fn step(alloc: Global, draws: &mut Draws) -> Result<Step, OutOfMemory>
     ensures made { IfOk result (λ s. s ≡ (step_drawn draws.old.state).made) }
     ensures left { OnOk result (draws.new.state ≡ (step_drawn draws.old.state).left) }

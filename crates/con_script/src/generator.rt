@@ -1,7 +1,8 @@
 //! Generated sessions.
 
 ghost use Rattle.std.specs.Prelude.{◌≡◌, [], ◌∷◌, ◌++◌, IfOk, OnOk};
-ghost use Rattle.con_script.specs.Generated.{step_drawn, steps_drawn, script_drawn, session_drawn};
+ghost use Rattle.con_script.specs.Draws.{step_drawn, steps_drawn, script_made, scripts_made};
+ghost use Rattle.con_script.specs.Generated.{session_drawn};
 
 use crate::draws::{Draws, step, units};
 use con_events::{Call, Script, Scripts, Session, Step, Steps};
@@ -42,15 +43,15 @@ fn push_steps(
     Ok(())
 }
 
-#[tactic(auto, unfolding(crate::specs::Generated::script_drawn))]
+#[tactic(auto, unfolding(crate::specs::Draws::script_made))]
 fn script(
     alloc: Global,
     draws: &mut Draws,
     program: &[u16],
     group: u32,
 ) -> Result<Script, OutOfMemory>
-    ensures made { IfOk result (λ s. s ≡ (script_drawn program.now group draws.old.state).made) }
-    ensures left { OnOk result (draws.new.state ≡ (script_drawn program.now group draws.old.state).left) }
+    ensures made { IfOk result (λ s. s ≡ (script_made program.now group draws.old.state).made) }
+    ensures left { OnOk result (draws.new.state ≡ (script_made program.now group draws.old.state).left) }
 {
     let program = units(alloc, program)?;
     let mut steps = Vec::new(alloc);
@@ -67,7 +68,7 @@ fn script(
 
 /// The four scripts of a number.
 fn scripts(alloc: Global, seed: u32) -> Result<Scripts, OutOfMemory>
-    ensures { IfOk result (λ ss. ss ≡ (session_drawn seed).scripts) }
+    ensures { IfOk result (λ ss. ss ≡ scripts_made seed) }
 {
     let mut draws = Draws { state: seed as u64 };
     let first = script(alloc, &mut draws, &[103, 101, 110, 49], 1)?;

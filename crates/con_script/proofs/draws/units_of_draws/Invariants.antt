@@ -1,5 +1,5 @@
 use Rattle.std.proofs.Common.{◌≡◌, ◌++◌}
-use Rattle.con_script.specs.Generated.{units_drawn}
+use Rattle.con_script.specs.Draws.{units_drawn}
 use Rattle.con_script.proofs.draws.units_of_draws.Given as goal
 
 abbrev pub invariant-loop-more : goal.invariant-loop-more

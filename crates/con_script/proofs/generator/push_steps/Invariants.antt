@@ -1,5 +1,5 @@
 use Rattle.std.proofs.Common.{◌≡◌, ◌++◌}
-use Rattle.con_script.specs.Generated.{steps_drawn}
+use Rattle.con_script.specs.Draws.{steps_drawn}
 use Rattle.con_script.proofs.generator.push_steps.Given as goal
 
 abbrev pub invariant-loop-more : goal.invariant-loop-more
