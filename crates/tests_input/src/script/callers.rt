@@ -15,7 +15,8 @@ pub fn is_json(alloc: Global, bytes: &[u8]) -> Result<bool, OutOfMemory>
     ensures { IfOk result (λ yes. IsTrue yes ↔ IsSome (json_of bytes.now)) }
 {
     match read_session(alloc, bytes) {
-        Ok(_) | Err(SessionFault::At(_)) => Ok(true),
+        Ok(_session) => Ok(true),
+        Err(SessionFault::At(_path)) => Ok(true),
         Err(SessionFault::Json) => Ok(false),
         Err(SessionFault::OutOfMemory) => Err(OutOfMemory),
     }
