@@ -1,5 +1,5 @@
 -- Texts of units, compared.
-use Rattle.std.specs.Prelude.{ℕ, Bool, not, ◌==◌, List, [], ◌∷◌, nat_eq, if◌then◌else◌}
+use Rattle.std.specs.Prelude.{ℕ, zero, suc, Bool, not, ◌==◌, List, [], ◌∷◌, nat_eq, if◌then◌else◌}
 use Rattle.std.specs.Cmp.Lexicographic.{pointwise}
 use Rattle.std.specs.List.{common_prefix_len}
 
@@ -22,3 +22,9 @@ is_other u = not (u == 32)
 abbrev pub changed_where : {A : Type 0} → (A → Bool) → (A → A) → List A → List A
 changed_where test f [] = []
 changed_where test f (x ∷ xs) = if test x then f x ∷ xs else x ∷ changed_where test f xs
+
+-- the item at a place, changed
+abbrev pub changed_at : {A : Type 0} → (A → A) → List A → ℕ → List A
+changed_at f [] k = []
+changed_at f (x ∷ xs) zero = f x ∷ xs
+changed_at f (x ∷ xs) (suc k) = x ∷ changed_at f xs k
