@@ -1,8 +1,7 @@
 -- The text of an edited line, and what each key does to it.
-use Rattle.std.specs.Prelude.{ℕ, zero, suc, ◌+◌, ◌-◌, ◌≤◌, Bool, not, nat_lt, ◌==◌, ◌&&◌, List, [], ◌++◌, length, take, drop, insert, remove, slice_set, slice_index, min, if◌then◌else◌}
-use Rattle.std.specs.List.{prefix_len}
-use Rattle.con_units.specs.Limits.{line_units}
-use Rattle.con_units.specs.Units.{first_difference, is_space, is_other}
+use Rattle.std.specs.Prelude.{ℕ, zero, suc, ◌+◌, ◌-◌, ◌≤◌, Bool, not, nat_eq, nat_lt, ◌==◌, ◌&&◌, List, [], ◌++◌, length, take, drop, insert, remove, slice_set, slice_index, min, if◌then◌else◌}
+use Rattle.std.specs.List.{prefix_len, common_prefix_len}
+use Rattle.con_units.specs.Units.{is_space}
 use Rattle.con_line.specs.declared.press.Press.{Press}
 use Rattle.con_line.specs.declared.press.Press.TheVariants as key
 use Rattle.con_line.specs.declared.edit.Edit.{Edit}
@@ -15,7 +14,7 @@ pub record LineText : Type 0 where
 
 -- a line of at most 1,024 units, with its caret inside or at its end
 pub record IsLine (l : LineText) : Type 0 where
-  pub few : length l.units ≤ line_units
+  pub few : length l.units ≤ 1024
   pub caret : l.caret ≤ length l.units
 
 -- how far back from a place units pass a test
@@ -32,7 +31,7 @@ on_while p units k = k + prefix_len p (drop k units)
 abbrev pub typed : LineText → ℕ → LineText
 typed l u =
     if nat_lt l.caret (length l.units) && not l.insert then record l { units = slice_set l.units l.caret u; caret = l.caret + 1 }
-    else if nat_lt (length l.units) line_units then record l { units = insert l.units l.caret u; caret = l.caret + 1 }
+    else if nat_lt (length l.units) 1024 then record l { units = insert l.units l.caret u; caret = l.caret + 1 }
     else l
 
 -- the unit at a place goes, and the caret is there
@@ -55,8 +54,8 @@ abbrev pub pressed : LineText → Press → List ℕ → LineText
 pressed l (key.Unit u) recalled = typed l u
 pressed l key.Left recalled = record l { caret = l.caret - 1 }
 pressed l key.Right recalled = record l { caret = min (l.caret + 1) (length l.units) }
-pressed l key.WordLeft recalled = record l { caret = back_while is_other l.units (back_while is_space l.units l.caret) }
-pressed l key.WordRight recalled = record l { caret = on_while is_space l.units (on_while is_other l.units l.caret) }
+pressed l key.WordLeft recalled = record l { caret = back_while (λ u. not (is_space u)) l.units (back_while is_space l.units l.caret) }
+pressed l key.WordRight recalled = record l { caret = on_while is_space l.units (on_while (λ u. not (is_space u)) l.units l.caret) }
 pressed l key.Home recalled = record l { caret = 0 }
 pressed l key.End recalled = record l { caret = length l.units }
 pressed l key.Back recalled = if l.caret == 0 then l else erased_at l (l.caret - 1)
@@ -70,4 +69,4 @@ pressed l key.Nothing recalled = l
 
 -- what changed between two texts
 abbrev pub edit_between : List ℕ → List ℕ → Edit
-edit_between old new = record { first = first_difference old new; before = length old }
+edit_between old new = record { first = common_prefix_len nat_eq old new; before = length old }
