@@ -1,6 +1,6 @@
 -- A line read: its line after all presses, what each press answers, and how it ends.
-use Rattle.std.specs.Prelude.{ℕ, ◌+◌, ◌-◌, Bool, true, false, ◌==◌, List, [], ◌∷◌, ◌++◌, Option, Some, None, length, take, drop, fold, min, slice_index_or, unwrap_or, if◌then◌else◌}
-use Rattle.con_units.specs.Units.{first_difference}
+use Rattle.std.specs.Prelude.{ℕ, ◌+◌, ◌-◌, Bool, true, false, nat_eq, ◌==◌, List, [], ◌∷◌, ◌++◌, Option, Some, None, length, take, drop, fold, min, slice_index_or, unwrap_or, if◌then◌else◌}
+use Rattle.std.specs.List.{common_prefix_len}
 use Rattle.con_records.specs.declared.record.Record.{Record}
 use Rattle.con_line.specs.Line.{LineText, pressed as line_pressed}
 use Rattle.con_line.specs.declared.press.Press.{Press}
@@ -107,7 +107,7 @@ after_press r one histories = record r { presses = r.presses ++ (let m : Moment 
 -- what is drawn again between two lines
 abbrev pub echo_between : LineText → LineText → Echo
 echo_between old new = record {
-  offset = first_difference old.units new.units;
+  offset = common_prefix_len nat_eq old.units new.units;
   end = length new.units;
   blanks = length old.units - length new.units;
   caret = new.caret;
