@@ -3,7 +3,8 @@ use Rattle.std.specs.Prelude.{ℕ, ◌+◌, Bool, not, nat_lt, nat_le, ◌==◌,
 use Rattle.std.specs.List.{list_any}
 use Rattle.std.specs.Cmp.Lexicographic.{pointwise}
 use Rattle.con_units.specs.Stored.{is_control}
-use Rattle.con_units.specs.Units.{same_units, changed_where}
+use Rattle.std.specs.Str.{bytes_eq as same_units}
+use Rattle.con_units.specs.Units.{changed_where}
 use Rattle.con_units.specs.declared.code.Code.{Code}
 use Rattle.con_units.specs.declared.code.Code.TheVariants as code
 
