@@ -1,7 +1,8 @@
 -- Line histories: for each program the lines that were typed, oldest first, and the programs in order of use.
 use Rattle.std.specs.Prelude.{ℕ, zero, suc, ◌+◌, ◌-◌, ◌≤◌, Bool, not, nat_eq, nat_lt, ◌==◌, ◌||◌, List, [], ◌∷◌, ◌++◌, Option, Some, None, length, take, drop, remove, filter, map, min, replicate, slice_index_or, if◌then◌else◌}
 use Rattle.std.specs.List.{starts_with, position_or_len, list_any}
-use Rattle.con_units.specs.Units.{same_units, changed_where}
+use Rattle.std.specs.Str.{bytes_eq as same_units}
+use Rattle.con_units.specs.Units.{changed_where}
 use Rattle.con_history.specs.declared.info.HistoryInfo.{HistoryInfo}
 
 -- a program's lines, oldest first, and how many there are at most
