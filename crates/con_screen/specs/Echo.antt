@@ -1,7 +1,7 @@
 -- What a changed line does to the screen that it is typed on.
 use Rattle.std.specs.Prelude.{ℕ, ℤ, pos, negsuc, ◌≡◌, ◌+◌, ◌-◌, ◌+ℤ◌, ◌-ℤ◌, ◌*ℤ◌, ◌<ℤ◌, ◌↔◌, ◌<◌, ◌≤◌, ◌*◌, ◌/◌, ◌%◌, false}
-use Rattle.std.specs.Prelude.{nat_lt, List, length, map, take, drop, slice_index, slice_index_or, None, if◌then◌else◌}
-use Rattle.std.specs.List.{range_with_len}
+use Rattle.std.specs.Prelude.{nat_eq, nat_lt, List, length, map, take, drop, slice_index, slice_index_or, None, if◌then◌else◌}
+use Rattle.std.specs.List.{range_with_len, common_prefix_len}
 use Rattle.con_units.specs.Natural.{natural}
 use Rattle.con_units.specs.Glyph.{Glyph, cell_of}
 use Rattle.con_units.specs.Units.{first_difference}
@@ -66,7 +66,7 @@ drawn_by p o rule = with_cells p (map (λ i. ruled p o rule i (slice_index_or p.
 -- blank, and the others stay.
 abbrev pub texts_rule : Page → List ℕ → List ℕ → ℕ → Glyph → Glyph
 texts_rule p old new k was =
-    if nat_lt k (first_difference old new) then was
+    if nat_lt k (common_prefix_len nat_eq old new) then was
     else if nat_lt k (length new) then cell_of (slice_index new k) (attr p)
     else if nat_lt k (length old) then blank p
     else was
