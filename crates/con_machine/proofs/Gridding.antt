@@ -75,11 +75,11 @@ unfolding words_written redrawn
 words_sides p h at ws was = ap (λ (x : Picture). sides (record p { grid = x })) was
 
 pub unit_sides : (p : Page) (h g : Picture) (at : Coord) (n u : ℕ) → h ≡ p.grid → g ≡ unit_filled h at n u → sides (record p { grid = g }) ≡ sides p
-unfolding unit_filled redrawn
+unfolding units_written redrawn
 unit_sides p h g at n u was is = ap (λ (x : Picture). sides (record p { grid = x })) is ∙ ap (λ (x : Picture). sides (record p { grid = x })) was
 
 pub word_sides : (p : Page) (h g : Picture) (at : Coord) (n w : ℕ) → h ≡ p.grid → g ≡ word_filled h at n w → sides (record p { grid = g }) ≡ sides p
-unfolding word_filled redrawn
+unfolding words_written redrawn
 word_sides p h g at n w was is = ap (λ (x : Picture). sides (record p { grid = x })) is ∙ ap (λ (x : Picture). sides (record p { grid = x })) was
 
 pub scroll_sides : (p : Page) (h g : Picture) (r : Rect) (clip : Option Rect) (at : Coord) (fill : Glyph) → h ≡ p.grid → g ≡ scrolled h r clip at fill → sides (record p { grid = g }) ≡ sides p

@@ -12,9 +12,9 @@ use Rattle.con_events.specs.declared.call.Words.TheVariants as words
 use Rattle.con_events.specs.declared.reply.Reply.{Reply}
 use Rattle.con_events.specs.declared.reply.Reply.TheVariants as replies
 use Rattle.con_grid.specs.Picture.{Picture}
-use Rattle.con_rects.specs.Area.{used_rect, used_size, cell_count}
+use Rattle.con_rects.specs.Area.{used_rect, cell_count}
 use Rattle.con_rects.specs.Rules.{rect_cells, rect_written}
-use Rattle.con_rects.specs.Runs.{run_count, run_cells, units_written, words_written, unit_filled, word_filled}
+use Rattle.con_rects.specs.Runs.{run_count, run_cells, units_written, words_written}
 use Rattle.con_rects.specs.Scroll.{scrolled}
 use Rattle.con_screens.specs.Buffers.{Buffers}
 use Rattle.con_machine.specs.State.{State}
@@ -41,7 +41,7 @@ is_over count = nat_lt most_items count
 
 -- how many cells of a rectangle the buffer has
 abbrev pub used_in : Picture → Rect → ℕ
-used_in g r = used_size r g.width g.height
+used_in g r = cell_count (used_rect r g.width g.height)
 
 abbrev pub used_of : Picture → Rect → Rect
 used_of g r = used_rect r g.width g.height
@@ -117,11 +117,11 @@ wrote_run_words s p h x y ws = on_buffer s p h 2 (λ id.
 
 abbrev pub filled_units : State → ℕ → ℕ → ℤ → ℤ → ℕ → ℕ → Outcome
 filled_units s p h x y n unit = on_buffer s p h 2 (λ id.
-    answered (with_cells s id (unit_filled (cells_of s id) (at_place x y) n unit)) (replies.Number (run_count (cells_of s id) (at_place x y) n)))
+    answered (with_cells s id (units_written (cells_of s id) (at_place x y) (replicate n unit))) (replies.Number (run_count (cells_of s id) (at_place x y) n)))
 
 abbrev pub filled_words : State → ℕ → ℕ → ℤ → ℤ → ℕ → ℕ → Outcome
 filled_words s p h x y n word = on_buffer s p h 2 (λ id.
-    answered (with_cells s id (word_filled (cells_of s id) (at_place x y) n word)) (replies.Number (run_count (cells_of s id) (at_place x y) n)))
+    answered (with_cells s id (words_written (cells_of s id) (at_place x y) (replicate n word))) (replies.Number (run_count (cells_of s id) (at_place x y) n)))
 
 -- ScrollConsoleScreenBuffer
 abbrev pub scrolled_cells : State → ℕ → ℕ → Rect → Option Rect → ℤ → ℤ → ℕ → ℕ → Outcome

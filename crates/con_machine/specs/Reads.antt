@@ -2,7 +2,7 @@
 use Rattle.std.specs.Prelude.{ℕ, zero, suc, ◌==◌, ◌&&◌, ◌||◌, Bool, true, false, not, nat_lt, List, [], ◌∷◌, ◌++◌, length, take, drop, min, filter, slice_get}
 use Rattle.std.specs.Prelude.{pos, Option, None, Some, Result, Ok, Err, if◌then◌else◌}
 use Rattle.std.specs.List.{list_any}
-use Rattle.con_units.specs.Limits.{most_items, most_records, line_units}
+use Rattle.con_units.specs.Limits.{most_items, most_records}
 use Rattle.con_units.specs.Stored.{is_control}
 use Rattle.con_units.specs.declared.code.Code.{Code}
 use Rattle.con_units.specs.declared.code.Code.TheVariants as code
@@ -113,7 +113,7 @@ began_units s p n = if n == 0 then answered_with s p [] else with_read s p (read
 
 -- an initial text with a control, of more than 1,024 units, or of more than the read asks for
 abbrev pub is_no_initial : List ℕ → ℕ → Bool
-is_no_initial text n = list_any is_control text || nat_lt line_units (length text) || nat_lt n (length text)
+is_no_initial text n = list_any is_control text || nat_lt 1024 (length text) || nat_lt n (length text)
 
 -- whether a read of n units may begin, where its handle is right: an open read and a bad initial text, and the limit, in this order
 abbrev pub initial_checked : State → ℕ → ℕ → List ℕ → Result (Unit {0}) Code

@@ -1,7 +1,7 @@
 -- Calls on a screen buffer as a whole, on modes, and on the title.
 use Rattle.std.specs.Prelude.{ℕ, ℤ, pos, ◌+◌, ◌==◌, ◌&&◌, ◌||◌, Bool, true, not, nat_lt, nat_le, int_le, int_lt, List, [], ◌∷◌, ◌++◌, length, map, unwrap_or}
 use Rattle.std.specs.Prelude.{bit_and, if◌then◌else◌}
-use Rattle.con_units.specs.Limits.{most_columns, most_buffer_rows, most_items}
+use Rattle.con_units.specs.Limits.{most_items}
 use Rattle.con_units.specs.Natural.{natural}
 use Rattle.con_units.specs.declared.code.Code.TheVariants as code
 use Rattle.con_events.specs.declared.reply.Reply.TheVariants as replies
@@ -72,7 +72,7 @@ told_info s p h = on_buffer s p h 1 (λ id. answered s (replies.Numbers (numbers
 -- ---- SetConsoleScreenBufferSize: not below the window, not above 512 by 2,048, and the window's on an alternate screen
 
 abbrev pub is_size : Buffers → ℕ → ℕ → ℕ → Bool
-is_size b id w h = nat_le b.w w && nat_le b.h h && nat_le w most_columns && nat_le h most_buffer_rows && (not (is_alternate b id) || ((w == b.w) && (h == b.h)))
+is_size b id w h = nat_le b.w w && nat_le b.h h && nat_le w 512 && nat_le h 2048 && (not (is_alternate b id) || ((w == b.w) && (h == b.h)))
 
 -- the buffer has another size, and the window keeps its own
 abbrev pub refitted_at : Buffers → ℕ → ℕ → ℕ → Buffers
