@@ -1,10 +1,9 @@
 -- Nor does what a call does, or answers.
-use Rattle.std.proofs.Common.{◌≡◌, ℕ, Bool, true, false, not, ◌&&◌, List, ◌++◌, length, Option, Some, None, Result, Ok, Err, refl, sym, ap, ◌∙◌}
-use Rattle.std.specs.Prelude.{if◌then◌else◌, ◌==◌, ◌||◌, nat_lt, nat_le, zero, suc, ◌+◌, ◌-◌}
+use Rattle.std.proofs.Common.{◌≡◌, ℕ, Bool, true, false, not, ◌&&◌, List, length, Option, Some, None, Result, Ok, Err, refl, sym, ap, ◌∙◌}
+use Rattle.std.specs.Prelude.{if◌then◌else◌, ◌==◌, ◌||◌, nat_lt, nat_le}
 use Rattle.con_units.specs.Attr.{plain}
 use Rattle.con_units.specs.Glyph.{Glyph, cell_of}
 use Rattle.con_units.specs.Natural.{natural}
-use Rattle.con_units.specs.View.{row_part}
 use Rattle.con_units.specs.declared.code.Code.{Code}
 use Rattle.con_units.specs.declared.code.Code.TheVariants as code
 use Rattle.con_units.specs.declared.place.Rect.{Rect}
@@ -21,9 +20,7 @@ use Rattle.con_handles.specs.declared.handle.Object.{Object}
 use Rattle.con_handles.specs.declared.handle.Object.TheVariants as object
 use Rattle.con_history.specs.Histories.{configured, is_refused}
 use Rattle.con_procs.specs.Procs.{add_answer, handler_added, remove_answer, handler_removed}
-use Rattle.con_rects.specs.Area.{area_in, rows_of}
-use Rattle.con_rects.specs.declared.area.Area.{Area}
-use Rattle.con_rects.specs.Rules.{redrawn, rows_part, rect_cells, rect_written, as_read}
+use Rattle.con_rects.specs.Rules.{redrawn, rect_cells, rect_written}
 use Rattle.con_rects.specs.Runs.{run_count, units_written, words_written, unit_filled, word_filled}
 use Rattle.con_rects.specs.Scroll.{scrolled}
 use Rattle.con_screen.specs.ModeSet.{mode_set}
@@ -78,13 +75,9 @@ released_same (object.Output id) b = released_one b id.0
 
 -- ---- cells that are read
 
-rows_same : (g : Picture) (l r y n : ℕ) → rows_part (unstamped_grid g) l r y n ≡ rows_part g l r y n
-rows_same g l r y zero = refl
-rows_same g l r y (suc n) = ap (λ (cells : List Glyph). cells ++ row_part g.width g.cells l (r - l) (y + n)) (rows_same g l r y n)
-
 cells_same : (g : Picture) (r : Rect) → rect_cells (unstamped_grid g) r ≡ rect_cells g r
 unfolding rect_cells
-cells_same g r = let a : Area = area_in r g.width g.height in rows_same (as_read g) a.left a.right a.top (rows_of a)
+cells_same g r = refl
 
 rect_same : (g : Picture) (r : Rect) → rect_told (unstamped_grid g) r ≡ rect_told g r
 rect_same g r = ap (λ (cells : List Glyph). if is_over (used_in g r) then replies.Fail code.Limit else replies.Cells (used_of g r) cells) (cells_same g r)
@@ -230,7 +223,7 @@ placed s at r t = if_open s (on_place s at (by_answer s r t)) (on_place (unstamp
 -- ---- each call
 
 pub call_same : (s : State) (p : ℕ) (x : Call) → out (called s p x) ≡ called (unstamped s) p x
-unfolding called shown rect_written units_written words_written unit_filled word_filled scrolled redrawn
+unfolding called shown rect_written units_written words_written scrolled redrawn
 call_same s p (calls.BufferCreate rights) =
     if_open s _ _ (either (are_rights rights) (buffer_made s p rights (new_number s.handles p) (free_id s.buffers))
     (refused s code.BadArgument) _ (refused (unstamped s) code.BadArgument)
