@@ -1,11 +1,14 @@
 -- Cells that are read have plain shades.
-use Rattle.std.proofs.Common.{refl, ℕ, zero, suc, ◌+◌, ◌*◌, ◌-◌, List, [], ◌∷◌, ◌++◌, map, take, drop}
+use Rattle.std.proofs.Common.{refl, ℕ, zero, suc, ◌+◌, ◌*◌, List, [], ◌∷◌, ◌++◌, map, take, drop}
+use Rattle.std.specs.Prelude.{flat_map}
+use Rattle.std.specs.List.{range_with_len}
 use Rattle.con_units.specs.Glyph.{Glyph, plain_cell}
+use Rattle.con_units.specs.Natural.{natural}
 use Rattle.con_units.specs.View.{row_part}
 use Rattle.con_units.specs.declared.place.Rect.{Rect}
 use Rattle.con_grid.specs.Picture.{Picture}
-use Rattle.con_rects.specs.Area.{area_in, rows_of}
-use Rattle.con_rects.specs.Rules.{as_read, rows_part, rect_cells}
+use Rattle.con_rects.specs.Area.{used_rect, span}
+use Rattle.con_rects.specs.Rules.{rect_cells}
 use Rattle.con_forms.specs.Formed.{ArePlain}
 
 both_plain : (xs ys : List Glyph) → ArePlain xs → ArePlain ys → ArePlain (xs ++ ys)
@@ -26,13 +29,13 @@ read_plain : (xs : List Glyph) → ArePlain (map plain_cell xs)
 read_plain [] = tt
 read_plain (x ∷ xs) = (refl, refl, read_plain xs)
 
-rows_plain : (p : Picture) (left right y n : ℕ) → ArePlain p.cells → ArePlain (rows_part p left right y n)
-rows_plain p left right y zero k = tt
-rows_plain p left right y (suc n) k = both_plain (rows_part p left right y n) (row_part p.width p.cells left (right - left) (y + n)) (rows_plain p left right y n k)
-    (take_plain (right - left) (drop ((y + n) * p.width + left) p.cells) (drop_plain ((y + n) * p.width + left) p.cells k))
+rows_plain : (width left wide : ℕ) (cells : List Glyph) (ys : List ℕ) → ArePlain cells → ArePlain (flat_map (λ y. row_part width cells left wide y) ys)
+rows_plain width left wide cells [] k = tt
+rows_plain width left wide cells (y ∷ ys) k = both_plain (row_part width cells left wide y) (flat_map (λ z. row_part width cells left wide z) ys)
+    (take_plain wide (drop (y * width + left) cells) (drop_plain (y * width + left) cells k)) (rows_plain width left wide cells ys k)
 
 pub rect_plain : (p : Picture) (r : Rect) → ArePlain (rect_cells p r)
 unfolding rect_cells
 rect_plain p r =
-    let a = area_in r p.width p.height in
-    rows_plain (as_read p) a.left a.right a.top (rows_of a) (read_plain p.cells)
+    let used = used_rect r p.width p.height in
+    rows_plain p.width (natural used.left) (span used.left used.right) (map plain_cell p.cells) (range_with_len (natural used.top) (span used.top used.bottom)) (read_plain p.cells)
