@@ -4,7 +4,7 @@ ghost use Rattle.con_machine.specs.Marks.{told, Tells};
 ghost use Rattle.con_machine.specs.Step.{is_clients, is_ready, step};
 
 use crate::judging::{compared, lines_of};
-use crate::showing::size;
+use case_files::cells::size;
 use case_files::expanding::{dump_lines, report_lines};
 use case_files::part::{Head, Part, first_word, only};
 use case_files::picture::push_picture;

@@ -1,6 +1,7 @@
 //! Whether a case ran as it has to.
 use crate::running::Ran;
-use crate::showing::{cells, dump, size};
+use crate::showing::dump;
+use case_files::cells::{cells, size};
 use case_files::expanding::{dump_lines, report_lines};
 use case_files::part::{Head, Part, first_word};
 use case_files::setup::{Failing, Setup, all_bytes, number};

@@ -6,11 +6,9 @@
 mod auditing;
 mod callers;
 mod each;
-mod ends;
 mod events;
 mod hosted;
 mod judging;
-mod order;
 mod reads;
 mod running;
 mod showing;

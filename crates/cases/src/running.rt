@@ -2,8 +2,8 @@
 ghost use Rattle.std.specs.Prelude.{◌≤◌, All, length};
 
 use crate::callers::status;
-use crate::ends::{OrderedSink, OrderedSource};
-use crate::order::{Order, Plan};
+use case_files::ends::{OrderedSink, OrderedSource};
+use case_files::order::{Order, Plan};
 use case_files::setup::{Failing, Setup};
 use con_handlers::{CtrlHandler, Note, Once, Swallow, Tally};
 use con_outside::{MemoryFiles, MemorySink, MemorySource};

@@ -1,8 +1,8 @@
 // A terminal whose first write waits for clients, which nobody else may wait for.
 use super::report::{first_wrong, has_from, session, tell};
-use crate::order::{Order, Plan, Rule};
 use crate::running::host_ordered;
 use crate::showing::dump;
+use case_files::order::{Order, Plan, Rule};
 use con_ending::DONE;
 use con_units::Size;
 use std::alloc::{AllocError, Global};

@@ -1,7 +1,7 @@
 // Clients that wait for each other.
 use super::report::{count_from, ends_with, first_wrong, has_from, session, tell};
-use crate::order::{Order, Plan};
 use crate::running::host_ordered;
+use case_files::order::{Order, Plan};
 use con_ending::DONE;
 use std::alloc::{AllocError, Global};
 use std::sync::Wait;

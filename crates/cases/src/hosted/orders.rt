@@ -2,8 +2,8 @@
 ghost use Rattle.std.specs.Prelude.{◌≤◌, All, IfOk, length};
 
 use super::report::{ends_with, first_wrong, has_from, session, tell};
-use crate::order::{Order, Plan, Rule};
 use crate::running::{Racks, Ran, host_ordered};
+use case_files::order::{Order, Plan, Rule};
 use con_ending::DONE;
 use con_handlers::{CtrlHandler, Swallow};
 use std::alloc::{AllocError, Global};

@@ -1,7 +1,7 @@
 // A link whose next frame comes once the frame of bytes that shows the last one was written.
 use super::report::{first_wrong, session, tell};
-use crate::order::{Order, Plan};
 use crate::running::host_ordered;
+use case_files::order::{Order, Plan};
 use con_ending::DONE;
 use std::alloc::{AllocError, Global};
 use std::sync::Wait;
