@@ -1,6 +1,5 @@
 pub mod Beginning
 pub mod ClientEntries
-pub mod Closures
 pub mod Crewing
 pub mod Crosses
 pub mod Ending

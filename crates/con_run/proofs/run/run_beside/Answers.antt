@@ -17,7 +17,7 @@ use Rattle.con_threads.specs.contracts.ledger.LedgerView as page
 use Rattle.con_threads.specs.contracts.ledger.Told as told
 use Rattle.con_run.specs.contracts.run.run_beside.dyn-1 as dyn
 use Rattle.con_threads.specs.contracts.signals.Signals as signals
-use Rattle.con_run.proofs.Closures.{closure_send}
+use Rattle.con_crossing.specs.Closures.{closure_send}
 use Rattle.con_run.proofs.Crewing.{served_lent}
 use Rattle.con_run.proofs.Crosses.{book_sync, client_send, signals_sync}
 use Rattle.con_run.proofs.run.run_beside.Goals as goal

@@ -14,7 +14,7 @@ use Rattle.con_threads.specs.contracts.ledger.LedgerView as page
 use Rattle.con_threads.specs.contracts.ledger.Told as told
 use Rattle.con_threads.specs.contracts.side.SideThread as side_thread
 use Rattle.con_threads.specs.contracts.signals.Signals as signals
-use Rattle.con_run.proofs.Closures.{closure_send}
+use Rattle.con_crossing.specs.Closures.{closure_send}
 use Rattle.con_run.proofs.Crosses.{book_sync, side_thread_send, signals_sync}
 use Rattle.con_run.proofs.run.run_edges.Goals as goal
 

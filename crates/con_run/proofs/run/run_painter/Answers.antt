@@ -17,7 +17,7 @@ use Rattle.con_threads.specs.contracts.ledger.Told as told
 use Rattle.con_pipe.specs.contracts.put.PipeIn as put
 use Rattle.con_threads.specs.contracts.painter.PainterThread as painter_thread
 use Rattle.con_threads.specs.contracts.signals.Signals as signals
-use Rattle.con_run.proofs.Closures.{closure_send}
+use Rattle.con_crossing.specs.Closures.{closure_send}
 use Rattle.con_run.proofs.Crosses.{book_sync, painter_thread_send, put_send, signals_sync}
 use Rattle.con_run.proofs.run.run_painter.Goals as goal
 

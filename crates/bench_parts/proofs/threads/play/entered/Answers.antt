@@ -8,8 +8,8 @@ use Rattle.std.proofs.Common.{◌∷◌, []}
 use Rattle.std.proofs.Crossing.{crosses}
 use Rattle.std.specs.contracts.sync.Mutex as Mutex
 use Rattle.bench_parts.specs.contracts.threads.client.Desk as desk
-use Rattle.con_run.proofs.Closures.{closure_sync}
-use Rattle.con_run.proofs.Crosses.{console_send}
+use Rattle.con_crossing.specs.Closures.{closure_sync}
+use Rattle.con_crossing.specs.Consoles.{console_send}
 use Rattle.bench_parts.proofs.threads.play.entered.Goals as goal
 
 desk_send : (a : NamedLft) → IsSend (desk.the_row a)

@@ -1,0 +1,3 @@
+-- Laws alone; a reader has nothing here to believe.
+pub mod Closures
+pub mod Consoles
