@@ -7,3 +7,4 @@ pub mod TitleLemmas
 pub mod SpokenLemmas
 pub mod PlainLemmas
 pub mod FewLemmas
+pub mod PenLemmas

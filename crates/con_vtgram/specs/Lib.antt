@@ -6,6 +6,8 @@ pub mod Few
 pub mod Plain
 pub mod Reads
 pub mod State
+pub mod Pen
+pub mod Sgr
 -- The code's own words, and laws.
 pub mod Reader
 pub mod Reading
