@@ -7,65 +7,66 @@ use Rattle.con_units.specs.Glyph.{Glyph, blank_in}
 use Rattle.con_vtgram.specs.declared.item.Csi.{Csi}
 use Rattle.con_vtgram.specs.declared.item.Item.{Item}
 use Rattle.con_vtgram.specs.declared.item.Item.TheVariants as items
-use Rattle.con_term.specs.Pen.{attr_of, starting_pen, indexed, pen_after}
-use Rattle.con_term.specs.Sgr.{pen_by}
-use Rattle.con_term.specs.SgrSteps.{read_at, read_next}
+use Rattle.con_vtgram.specs.Pen.{attr_of, starting_pen, indexed, pen_after}
+use Rattle.con_vtgram.specs.Sgr.{pen_by}
+use Rattle.con_vtgram.specs.Sgr.{styled_in, styled, with_next}
 use Rattle.con_vtgram.specs.State.{item_of}
 use Rattle.con_vtgram.specs.declared.found.Found.{Found}
 use Rattle.con_vtgram.specs.declared.found.Found.TheVariants as founds
 use Rattle.con_term.specs.Page.{Page, IsPage, blank_page}
-use Rattle.con_term.specs.Effect.{effect, plain_effect, pen_of}
+use Rattle.con_term.specs.Effect.{effect, plain_effect}
+use Rattle.con_vtgram.specs.Sgr.{pen_of}
 use Rattle.con_term.specs.SidesLaws.{effect-sides}
-use Rattle.con_term.specs.declared.pen.Pen.{Pen}
-use Rattle.con_term.specs.declared.pen.Layer.TheVariants.{Fore, Back}
-use Rattle.con_term.specs.declared.pen.Reader.{Reader}
-use Rattle.con_term.specs.declared.pen.Place.{Place}
-use Rattle.con_term.specs.declared.pen.Place.TheVariants.{Next, Kind, Index, Skip, Ended}
+use Rattle.con_vtgram.specs.declared.pen.Pen.{Pen}
+use Rattle.con_vtgram.specs.declared.pen.Layer.TheVariants.{Fore, Back}
+use Rattle.con_vtgram.specs.declared.pen.Styling.{Styling}
+use Rattle.con_vtgram.specs.declared.pen.ParameterRole.{ParameterRole}
+use Rattle.con_vtgram.specs.declared.pen.ParameterRole.TheVariants.{Plain, Kind, Number, Skip, Over}
 use Rattle.con_audit.specs.Known.{Known, ink, marked, no_marks, learned, all_learned, rests_on_cursor, tells_pen, tells_visible, tells_cursor, has_zero, is_single, final, resets}
 use Rattle.con_audit.specs.Partial.{Partial, unknown}
 use Rattle.con_audit.specs.Agrees.{SameCells, none, more}
-use Rattle.con_audit.specs.Flags.{any_of, known_by, is_sgr, flags_after, forgotten, shade_csi, lift_csi, plain_csi, next_place}
+use Rattle.con_audit.specs.Flags.{any_of, known_by, is_sgr, flags_after, forgotten, shade_csi, lift_csi, plain_csi, next_role}
 use Rattle.con_audit.specs.declared.marking.Flags.{Flags}
 use Rattle.con_audit.proofs.Near.{look, effect-alike}
 use Rattle.con_audit.proofs.Tells.{effect-visible, pen_after_item, effect-pen, plain_final}
 
--- ---- a zero, place by place
+-- ---- a zero, parameter by parameter
 
-place_of : (p : Pen) (n : ℕ) (at : Place) → (read_at p n at).place ≡ next_place at n
-place_of p n Next = by (n == 38) (n == 48)
+role_of : (p : Pen) (n : ℕ) (at : ParameterRole) → (styled_in p n at).reading ≡ next_role at n
+role_of p n Plain = by (n == 38) (n == 48)
   where
-    by : (a b : Bool) → (cond a (let r : Reader = record { pen = p; place = Kind Fore } in r) (cond b (record { pen = p; place = Kind Back }) (record { pen = pen_after p n; place = Next }))).place ≡ cond a (Kind Fore) (cond b (Kind Back) Next)
+    by : (a b : Bool) → (cond a (with_next p (Kind Fore)) (cond b (with_next p (Kind Back)) (with_next (pen_after p n) Plain))).reading ≡ cond a (Kind Fore) (cond b (Kind Back) Plain)
     by true b = refl
     by false true = refl
     by false false = refl
-place_of p n (Kind layer) = refl
-place_of p n (Index layer) = refl
-place_of p n (Skip k) = refl
-place_of p n Ended = refl
+role_of p n (Kind layer) = refl
+role_of p n (Number layer) = refl
+role_of p n (Skip k) = refl
+role_of p n Over = refl
 
-zero_same : (r q : Reader) (ns : List ℕ) → r.place ≡ q.place → has_zero r ns ≡ has_zero q ns
+zero_same : (r q : Styling) (ns : List ℕ) → r.reading ≡ q.reading → has_zero r ns ≡ has_zero q ns
 unfolding has_zero
 zero_same r q [] e = refl
 zero_same r q (n ∷ ns) e =
-    let f : (read_next r n).place ≡ (read_next q n).place = place_of r.pen n r.place ∙ ap (λ at. next_place at n) e ∙ sym (place_of q.pen n q.place) in
-    let g = zero_same (read_next r n) (read_next q n) ns f in
-    ap (λ at. (is_single at && (n == 0)) || has_zero (read_next r n) ns) e ∙ ap (λ b. (is_single q.place && (n == 0)) || b) g
+    let f : (styled r n).reading ≡ (styled q n).reading = role_of r.pen n r.reading ∙ ap (λ at. next_role at n) e ∙ sym (role_of q.pen n q.reading) in
+    let g = zero_same (styled r n) (styled q n) ns f in
+    ap (λ at. (is_single at && (n == 0)) || has_zero (styled r n) ns) e ∙ ap (λ b. (is_single q.reading && (n == 0)) || b) g
 
-abbrev pub at : Place → Reader
-at place = record { pen = starting_pen; place = place }
+abbrev at : ParameterRole → Styling
+at role = with_next starting_pen role
 
 -- one parameter more, which is no such 0
-pub zero_more : (place : Place) (n : ℕ) (ns : List ℕ) → (is_single place && (n == 0)) ≡ false → has_zero (at (next_place place n)) ns ≡ has_zero (at place) (n ∷ ns)
+pub zero_more : (role : ParameterRole) (n : ℕ) (ns : List ℕ) → (is_single role && (n == 0)) ≡ false → has_zero (at (next_role role n)) ns ≡ has_zero (at role) (n ∷ ns)
 unfolding has_zero
-zero_more place n ns e = rw e (zero_same (at (next_place place n)) (read_next (at place) n) ns (sym (place_of starting_pen n place)))
+zero_more role n ns e = rw e (zero_same (at (next_role role n)) (styled (at role) n) ns (sym (role_of starting_pen n role)))
 
-pub zero_here : (place : Place) (n : ℕ) (ns : List ℕ) → (is_single place && (n == 0)) ≡ true → has_zero (at place) (n ∷ ns) ≡ true
+pub zero_here : (role : ParameterRole) (n : ℕ) (ns : List ℕ) → (is_single role && (n == 0)) ≡ true → has_zero (at role) (n ∷ ns) ≡ true
 unfolding has_zero
-zero_here place n ns e = rw e refl
+zero_here role n ns e = rw e refl
 
-pub zero_none : (place : Place) → has_zero (at place) [] ≡ false
+pub zero_none : (role : ParameterRole) → has_zero (at role) [] ≡ false
 unfolding has_zero
-zero_none place = refl
+zero_none role = refl
 
 -- ---- marks go on as the page does
 
@@ -184,14 +185,14 @@ first_unknown w h p m bytes units e is b u = rw (e, is, b, u) refl
 drop_next : (ns : List ℕ) (k n : ℕ) → n ≡ get_or ns k 0 → k < length ns → drop k ns ≡ n ∷ drop (k + 1) ns
 drop_next ns k n is lt = rw (add-one k) (drop-cons ns k 0 lt ∙ ap (λ x. x ∷ drop (suc k) ns) (sym is))
 
-pub zero_found : (ns : List ℕ) (k : ℕ) (place : Place) (n : ℕ) → n ≡ get_or ns k 0 → k < length ns → (is_single place && (n == 0)) ≡ true → has_zero (at place) (drop k ns) ≡ true
-zero_found ns k place n is lt e = ap (has_zero (at place)) (drop_next ns k n is lt) ∙ zero_here place n (drop (k + 1) ns) e
+pub zero_found : (ns : List ℕ) (k : ℕ) (role : ParameterRole) (n : ℕ) → n ≡ get_or ns k 0 → k < length ns → (is_single role && (n == 0)) ≡ true → has_zero (at role) (drop k ns) ≡ true
+zero_found ns k role n is lt e = ap (has_zero (at role)) (drop_next ns k n is lt) ∙ zero_here role n (drop (k + 1) ns) e
 
-pub zero_step : (ns : List ℕ) (k : ℕ) (place : Place) (n : ℕ) → n ≡ get_or ns k 0 → k < length ns → (is_single place && (n == 0)) ≡ false → has_zero (at (next_place place n)) (drop (k + 1) ns) ≡ has_zero (at place) (drop k ns)
-zero_step ns k place n is lt e = zero_more place n (drop (k + 1) ns) e ∙ ap (has_zero (at place)) (sym (drop_next ns k n is lt))
+pub zero_step : (ns : List ℕ) (k : ℕ) (role : ParameterRole) (n : ℕ) → n ≡ get_or ns k 0 → k < length ns → (is_single role && (n == 0)) ≡ false → has_zero (at (next_role role n)) (drop (k + 1) ns) ≡ has_zero (at role) (drop k ns)
+zero_step ns k role n is lt e = zero_more role n (drop (k + 1) ns) e ∙ ap (has_zero (at role)) (sym (drop_next ns k n is lt))
 
-pub zero_end : (ns : List ℕ) (k : ℕ) (place : Place) → length ns ≤ k → has_zero (at place) (drop k ns) ≡ false
-zero_end ns k place e = ap (has_zero (at place)) (drop_all k ns e) ∙ zero_none place
+pub zero_end : (ns : List ℕ) (k : ℕ) (role : ParameterRole) → length ns ≤ k → has_zero (at role) (drop k ns) ≡ false
+zero_end ns k role e = ap (has_zero (at role)) (drop_all k ns e) ∙ zero_none role
 
 shaded : (m : Page) (b : Bool) (x y : Page) (s l : Csi) → m.pen ≡ ink b → IsPage m → s ≡ shade_csi → l ≡ lift_csi → x ≡ effect m (items.Csi s) → y ≡ effect x (items.Csi l) → y ≡ record (forgotten m) { pen = ink false }
 shaded m b x y s l p is e f g h =

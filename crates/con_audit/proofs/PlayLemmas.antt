@@ -11,12 +11,13 @@ use Rattle.con_vtgram.specs.Text.{grammar}
 use Rattle.con_vtgram.specs.declared.item.Item.{Item}
 use Rattle.con_term.specs.Page.{Page}
 use Rattle.con_term.specs.Effect.{effect}
-use Rattle.con_term.specs.Play.{units_of, typed, play}
+use Rattle.con_term.specs.Play.{units_of, play}
+use Rattle.con_term.specs.Steps.{typed}
 use Rattle.con_term.specs.PlayLaws.{typed-append, play-append}
 use Rattle.con_term.specs.Terminal.{Terminal}
 use Rattle.con_audit.specs.Known.{Known, learned, all_learned}
-use Rattle.con_audit.specs.Partial.{Partial, played, items_of}
-use Rattle.con_audit.specs.Playing.{typed_partial}
+use Rattle.con_audit.specs.Partial.{Partial, played}
+use Rattle.con_audit.specs.Playing.{typed_partial, items_of}
 
 learned-append : (s : Page) (k : Known) (is js : List Item) → all_learned s k (is ++ js) ≡ all_learned (fold effect s is) (all_learned s k is) js
 learned-append s k [] js = refl
@@ -48,7 +49,7 @@ pair p mid after c large first second = let b : nat_lt c 0x10000 ≡ false = gri
     second ∙ ap (λ s. typed_partial s ((0xDC00 + (c - 0x10000) % 1024) ∷ [])) first ∙ typed_partial-append p _ _ ∙ rw b refl
 
 played_is : (p : Partial) (bytes : List ℕ) → played p bytes ≡ typed_partial (record { terminal = record p.terminal { bytes = (split_after utf8 p.terminal.bytes bytes).tail }; known = p.known }) (flat_map units_of (split_after utf8 p.terminal.bytes bytes).items)
-unfolding played play typed_partial
+unfolding played play typed typed_partial
 played_is p bytes = refl
 
 pub byte : (p mid after : Partial) (b : ℕ) (held first second : List ℕ) → first ++ second ≡ (next utf8 p.terminal.bytes b).items → held ≡ (next utf8 p.terminal.bytes b).tail

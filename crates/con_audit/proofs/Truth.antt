@@ -9,15 +9,17 @@ use Rattle.con_units.specs.declared.view.View.{View}
 use Rattle.con_vtgram.specs.Text.{grammar}
 use Rattle.con_vtgram.specs.declared.item.Item.{Item}
 use Rattle.con_vtgram.specs.declared.item.Item.TheVariants as items
-use Rattle.con_term.specs.Pen.{attr_of}
+use Rattle.con_vtgram.specs.Pen.{attr_of}
 use Rattle.con_term.specs.Page.{Page}
 use Rattle.con_term.specs.Effect.{effect}
-use Rattle.con_term.specs.Play.{units_of, typed, play}
+use Rattle.con_term.specs.Play.{units_of, play}
+use Rattle.con_term.specs.Steps.{typed}
 use Rattle.con_term.specs.SidesLaws.{effect-sides}
 use Rattle.con_term.specs.Terminal.{Terminal, IsTerminal, Shows}
-use Rattle.con_term.specs.declared.pen.Pen.{Pen}
+use Rattle.con_vtgram.specs.declared.pen.Pen.{Pen}
 use Rattle.con_audit.specs.Known.{Known, ink, marked, no_marks, marks_after, rests_on_cursor, tells_cursor, tells_visible, tells_pen, learned, all_learned}
-use Rattle.con_audit.specs.Partial.{Partial, unknown, played, IsKnown, items_of}
+use Rattle.con_audit.specs.Playing.{items_of}
+use Rattle.con_audit.specs.Partial.{Partial, unknown, played, IsKnown}
 use Rattle.con_audit.specs.Agrees.{SameCells, HasPlace, PageAgrees, Agrees, StaysTrue}
 use Rattle.con_audit.proofs.Cells.{same-drop, same-append, same-replicate, same-unknown, same-all}
 use Rattle.con_audit.proofs.Near.{look, Inked, Alike, effect-alike}

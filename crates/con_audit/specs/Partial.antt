@@ -1,14 +1,11 @@
 -- A partial terminal: a terminal, of which what is known counts, and what is known of it.
-use Rattle.std.specs.Prelude.{ℕ, ◌≡◌, true, false, List, [], flat_map}
-use Rattle.con_units.specs.Split.{split_after}
-use Rattle.con_units.specs.Utf8.{utf8}
+use Rattle.std.specs.Prelude.{ℕ, ◌≡◌, true, false, List, []}
+use Rattle.std.specs.List.{list_all}
 use Rattle.con_units.specs.declared.view.View.{View}
-use Rattle.con_vtgram.specs.Text.{grammar}
-use Rattle.con_vtgram.specs.declared.item.Item.{Item}
 use Rattle.con_term.specs.Page.{blank_page}
-use Rattle.con_term.specs.Play.{units_of, play}
+use Rattle.con_term.specs.Play.{sequences, play}
 use Rattle.con_term.specs.Terminal.{Terminal, Shows}
-use Rattle.con_audit.specs.Known.{Known, no_marks, are_sure, all_learned}
+use Rattle.con_audit.specs.Known.{Known, no_marks, is_sure, all_learned}
 
 pub record Partial : Type 0 where
   pub terminal : Terminal
@@ -21,17 +18,13 @@ unknown w h = record {
   known = record { marks = no_marks (blank_page w h); pen = false; visible = false; cursor = false };
 }
 
--- the items that bytes complete; con_term's `printed` counts the cells of these
-abbrev pub items_of : Terminal → List ℕ → List Item
-items_of t bytes = (split_after grammar t.units (flat_map units_of (split_after utf8 t.bytes bytes).items)).items
-
--- after bytes
+-- after bytes, by the items that they complete
 unfoldable pub played : Partial → List ℕ → Partial
-played p bytes = record { terminal = play p.terminal bytes; known = all_learned p.terminal.page p.known (items_of p.terminal bytes) }
+played p bytes = let t = p.terminal in record { terminal = play t bytes; known = all_learned t.page p.known (sequences t.bytes t.units bytes).items }
 
 -- it is known that the terminal shows the view: all that a view tells is known, and it is so
 pub record IsKnown (p : Partial) (v : View) : Type 0 where
-  pub cells : are_sure p.known.marks ≡ true
+  pub cells : list_all is_sure p.known.marks ≡ true
   pub visible : p.known.visible ≡ true
   pub cursor : v.visible ≡ true → p.known.cursor ≡ true
   pub shows : Shows p.terminal v

@@ -2,7 +2,8 @@
 ghost use Rattle.std.specs.Prelude.{◌≡◌, ◌↔◌, true, pos, []};
 ghost use Rattle.con_term.specs.Inside.{parts};
 ghost use Rattle.con_term.specs.Terminal.{Shows};
-ghost use Rattle.con_audit.specs.Known.{is_sure, are_sure};
+ghost use Rattle.con_audit.specs.Known.{is_sure};
+ghost use Rattle.con_audit.specs.Flags.{are_sure};
 
 use crate::marking::Flags;
 use con_term::page::Page;

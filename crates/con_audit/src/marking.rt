@@ -1,16 +1,18 @@
 //! What becomes known with an item.
 ghost use Rattle.std.specs.Prelude.{◌≡◌, ℕ, ◌&&◌, ◌==◌, true, false, not, length, fold, option_to_list, if◌then◌else◌};
 ghost use Rattle.con_term.specs.Effect.{effect};
-ghost use Rattle.con_term.specs.Pen.{starting_pen};
+ghost use Rattle.con_vtgram.specs.Pen.{starting_pen};
 ghost use Rattle.con_term.specs.Page.{Page};
 ghost use Rattle.con_vtgram.specs.State.{item_of};
 ghost use Rattle.con_vtgram.specs.declared.item.Item.TheVariants as Item;
 ghost use Rattle.con_audit.specs.Known.{ink, marked, final, rests_on_cursor, tells_cursor, tells_visible};
-ghost use Rattle.con_audit.specs.Known.{tells_pen, all_learned, has_zero, reading, resets, is_single};
-ghost use Rattle.con_audit.specs.Flags.{any_of, known_by, is_sgr, forgotten, shade_csi, lift_csi, plain_csi, flags_after, next_place};
+ghost use Rattle.con_audit.specs.Known.{tells_pen, all_learned, has_zero, resets, is_single};
+ghost use Rattle.con_vtgram.specs.Sgr.{with_next};
+ghost use Rattle.con_vtgram.specs.declared.pen.ParameterRole.TheVariants.{Plain};
+ghost use Rattle.con_audit.specs.Flags.{any_of, known_by, is_sgr, forgotten, shade_csi, lift_csi, plain_csi, flags_after, next_role};
 
 use con_term::page::Page;
-use con_term::pen::{Layer, Place};
+use con_vtgram::pen::{Layer, ParameterRole};
 use con_vtgram::{Csi, Found};
 
 /// Which of pen, visibility and cursor are known.
@@ -125,49 +127,49 @@ fn tells_visible(found: Found, unit: u16, csi: &Csi) -> bool
 }
 
 // What the parameter of SGR behind this one is.
-fn next_place(place: Place, n: u16) -> Place
-    ensures { result ≡ next_place place n }
+fn next_role(role: ParameterRole, n: u16) -> ParameterRole
+    ensures { result ≡ next_role role n }
 {
-    match place {
-        Place::Next => match n {
-            38 => Place::Kind(Layer::Fore),
-            48 => Place::Kind(Layer::Back),
-            _ => Place::Next,
+    match role {
+        ParameterRole::Plain => match n {
+            38 => ParameterRole::Kind(Layer::Fore),
+            48 => ParameterRole::Kind(Layer::Back),
+            _ => ParameterRole::Plain,
         },
-        Place::Kind(layer) => match n {
-            5 => Place::Index(layer),
-            2 => Place::Skip(3),
-            _ => Place::Ended,
+        ParameterRole::Kind(layer) => match n {
+            5 => ParameterRole::Number(layer),
+            2 => ParameterRole::Skip(3),
+            _ => ParameterRole::Over,
         },
-        Place::Index(_) => Place::Next,
-        Place::Skip(count) => {
+        ParameterRole::Number(_) => ParameterRole::Plain,
+        ParameterRole::Skip(count) => {
             if 1 < count {
-                Place::Skip(count - 1)
+                ParameterRole::Skip(count - 1)
             } else {
-                Place::Next
+                ParameterRole::Plain
             }
         }
-        Place::Ended => Place::Ended,
+        ParameterRole::Over => ParameterRole::Over,
     }
 }
 
 // A 0 that stands by itself.
-fn is_reset(place: Place, n: u16) -> bool
-    ensures { result ≡ (is_single place && (n == 0)) }
+fn is_reset(role: ParameterRole, n: u16) -> bool
+    ensures { result ≡ (is_single role && (n == 0)) }
 {
-    matches!(place, Place::Next) && n == 0
+    matches!(role, ParameterRole::Plain) && n == 0
 }
 
 // Whether a 0 stands by itself among parameters.
 fn has_zero(parameters: &[u16]) -> bool
-    ensures { result ≡ has_zero (reading starting_pen) parameters.now }
+    ensures { result ≡ has_zero (with_next starting_pen Plain) parameters.now }
 {
-    let mut place = Place::Next;
+    let mut role = ParameterRole::Plain;
     for parameter in parameters {
-        if is_reset(place, *parameter) {
+        if is_reset(role, *parameter) {
             return true;
         }
-        place = next_place(place, *parameter);
+        role = next_role(role, *parameter);
     }
     false
 }

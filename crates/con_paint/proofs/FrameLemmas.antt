@@ -10,7 +10,7 @@ use Rattle.con_units.specs.Glyph.{Glyph, blank_cell}
 use Rattle.con_units.specs.View.{row_of}
 use Rattle.con_term.specs.Page.{Page, erased, filled, place}
 use Rattle.con_term.specs.Effect.{unpended}
-use Rattle.con_term.specs.Pen.{IsPen}
+use Rattle.con_vtgram.specs.Pen.{IsPen}
 use Rattle.con_strokes.specs.Leads.{Leads}
 use Rattle.con_strokes.specs.Ink.{pen_for}
 use Rattle.con_strokes.specs.Paint.{pasted}

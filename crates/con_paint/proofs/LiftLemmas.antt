@@ -9,8 +9,8 @@ use Rattle.con_units.specs.Attr.{Attribute, plain}
 use Rattle.con_units.specs.Glyph.{Glyph, blank_cell}
 use Rattle.con_units.specs.View.{row_of}
 use Rattle.con_term.specs.Page.{Page}
-use Rattle.con_term.specs.Pen.{starting_pen}
-use Rattle.con_term.specs.Effect.{lifted}
+use Rattle.con_vtgram.specs.Pen.{starting_pen}
+use Rattle.con_term.specs.Steps.{lifted}
 use Rattle.con_strokes.specs.Leads.{Leads}
 use Rattle.con_strokes.specs.Ink.{pen_for}
 use Rattle.con_strokes.specs.Compared.{same_cells, differing, IsLifted}

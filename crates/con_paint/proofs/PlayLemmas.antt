@@ -6,9 +6,10 @@ use Rattle.std.specs.Prelude.{pos}
 use Rattle.con_units.specs.Attr.{Attribute}
 use Rattle.con_units.specs.Glyph.{Glyph}
 use Rattle.con_units.specs.declared.view.View.{View}
-use Rattle.con_term.specs.Pen.{IsPen}
+use Rattle.con_vtgram.specs.Pen.{IsPen}
 use Rattle.con_term.specs.Page.{Page}
-use Rattle.con_term.specs.Play.{play, typed, printed}
+use Rattle.con_term.specs.Play.{play, printed}
+use Rattle.con_term.specs.Steps.{typed}
 use Rattle.con_term.specs.Terminal.{Terminal}
 use Rattle.con_strokes.specs.Leads.{Leads}
 use Rattle.con_strokes.specs.Ink.{pen_for}

@@ -6,7 +6,7 @@ use Rattle.std.proofs.Math.Seq.{take-add}
 use Rattle.con_units.specs.Attr.{Attribute, plain}
 use Rattle.con_units.specs.Glyph.{Glyph, blank_cell}
 use Rattle.con_units.specs.View.{row_of}
-use Rattle.con_term.specs.Pen.{IsPen}
+use Rattle.con_vtgram.specs.Pen.{IsPen}
 use Rattle.con_term.specs.Page.{Page, erased, filled, place}
 use Rattle.con_term.specs.Effect.{row_end, unpended}
 use Rattle.con_strokes.specs.Leads.{Leads}

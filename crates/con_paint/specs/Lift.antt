@@ -3,8 +3,8 @@ use Rattle.std.specs.Prelude.{ℕ, ◌-◌, ◌*◌, ◌<◌, ◌≤◌, ◌≡�
 use Rattle.con_units.specs.Attr.{Attribute}
 use Rattle.con_units.specs.Glyph.{Glyph, blank_cell}
 use Rattle.con_units.specs.View.{row_of}
-use Rattle.con_term.specs.Pen.{IsPen}
-use Rattle.con_term.specs.Effect.{lifted}
+use Rattle.con_vtgram.specs.Pen.{IsPen}
+use Rattle.con_term.specs.Steps.{lifted}
 use Rattle.con_term.specs.Page.{Page}
 use Rattle.con_strokes.specs.Leads.{Leads}
 use Rattle.con_strokes.specs.Ink.{pen_for}

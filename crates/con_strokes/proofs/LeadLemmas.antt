@@ -12,9 +12,10 @@ use Rattle.con_vtgram.specs.Text.{sixteen}
 use Rattle.con_vtgram.specs.declared.item.Item.{Item}
 use Rattle.con_vtgram.specs.declared.item.Item.TheVariants.{Print, Control, Csi}
 use Rattle.con_term.specs.Page.{Page, erased, lowered, place, printed}
-use Rattle.con_term.specs.Pen.{starting_pen, pen_after}
-use Rattle.con_term.specs.Sgr.{pen_by}
-use Rattle.con_term.specs.Effect.{effect, plain_effect, private_effect, line_erased, display_erased, row_end, unpended, gone_to, lifted, moved_down, moved_left, moved_right, moved_to, moved_up}
+use Rattle.con_vtgram.specs.Pen.{starting_pen, pen_after}
+use Rattle.con_vtgram.specs.Sgr.{pen_by}
+use Rattle.con_term.specs.Effect.{effect, part_erased, plain_effect, private_effect, row_end, unpended, gone_to, moved_to}
+use Rattle.con_term.specs.Steps.{lifted, moved_down, moved_left, moved_right, moved_up}
 use Rattle.con_term.specs.Cost.{cost, costs, plain_cost}
 use Rattle.con_strokes.specs.Bytes.{part, parts, separated, csi_bytes, utf8_of, ground_bytes, more_numbers}
 use Rattle.con_strokes.specs.Spells.{AllSmall, Spells, csi, question, ground_items}
@@ -117,8 +118,8 @@ pub chooses_none : (old : List ℕ) (before a : Attribute) (s : Page) → s.pen 
 chooses_none old before a s p e = let same : s.pen ≡ pen_for a = p ∙ ap pen_for e in rw (← same) (leads-none old s)
 
 pub erases_row : (old new : List ℕ) (s : Page) → new ≡ old ++ (0x1B ∷ 0x5B ∷ 0x4B ∷ []) → Leads old new s (unpended (erased s (place s) (row_end s))) (s.w - s.x)
-unfolding effect plain_effect line_erased cost plain_cost sixteen
-erases_row old new s e = leads_one old new _ (Csi (csi [] 0x4B)) s _ (s.w - s.x) e erase_row_spells refl refl
+unfolding effect plain_effect part_erased cost plain_cost sixteen
+erases_row old new s e = leads_one old new _ (Csi (csi [] 0x4B)) s _ (s.w - s.x) e erase_row_spells refl (let few : s.y * s.w + s.w - (s.y * s.w + s.x) ≡ s.w - s.x = omega arith in few)
 
 pub erases_some : (old new : List ℕ) (n : ℕ) (s : Page) → n < 1000 → 0 < n → s.x + n ≤ s.w → new ≡ old ++ csi_bytes (count_numbers n) 0x58 → Leads old new s (unpended (erased s (place s) (place s + n))) n
 unfolding effect plain_effect cost plain_cost
@@ -131,7 +132,7 @@ erases_some old new n s small some fits e =
     (ap (λ z. unpended (erased s (place s) (min (place s + z) (row_end s)))) m ∙ ap (λ z. unpended (erased s (place s) z)) upto) (ap (λ z. min z (s.w - s.x)) m ∙ few)
 
 pub erases_rest : (old new : List ℕ) (s : Page) → new ≡ old ++ (0x1B ∷ 0x5B ∷ 0x4A ∷ []) → Leads old new s (unpended (erased s (place s) (s.h * s.w))) (s.h * s.w - place s)
-unfolding effect plain_effect display_erased cost plain_cost sixteen
+unfolding effect plain_effect part_erased cost plain_cost sixteen
 erases_rest old new s e = leads_one old new _ (Csi (csi [] 0x4A)) s _ (s.h * s.w - place s) e erase_rest_spells refl refl
 
 pub returns_in_row : (old new : List ℕ) (s : Page) → new ≡ old ++ (0x0D ∷ []) → Leads old new s (record s { x = 0; pending = false }) 0

@@ -10,11 +10,11 @@ use Rattle.con_units.specs.declared.shade.Shade.{Shade}
 use Rattle.con_units.specs.declared.shade.Shade.TheVariants.{Plain, Index}
 use Rattle.con_vtgram.specs.Text.{sixteen}
 use Rattle.con_vtgram.specs.declared.item.Item.TheVariants.{Csi}
-use Rattle.con_term.specs.Pen.{attr_of, indexed, lacking, pen_after, word_of, IsPen}
-use Rattle.con_term.specs.Sgr.{pen_by, past_colour, past_index}
+use Rattle.con_vtgram.specs.Pen.{attr_of, indexed, pen_after, word_of, IsPen}
+use Rattle.con_vtgram.specs.Sgr.{pen_by}
 use Rattle.con_term.specs.Page.{Page}
 use Rattle.con_term.specs.Effect.{effect, plain_effect}
-use Rattle.con_term.specs.declared.pen.Pen.{Pen}
+use Rattle.con_vtgram.specs.declared.pen.Pen.{Pen}
 use Rattle.con_strokes.specs.Spells.{AllSmall, csi}
 use Rattle.con_strokes.specs.Bytes.{part, parts}
 use Rattle.con_strokes.specs.Ink.{bold_for, fore_for, pen_for}
@@ -51,17 +51,13 @@ small_near n = by_test (nat_le n 231) (near_in_cube ((n - 16) / 36) ((n - 16) / 
 -- ---- the attribute of a pen
 
 -- a bold foreground is the word's
-intensity : (s : Shade) (c : ℕ) → IsNearestOrBright s c → cond (bold_for s c) (lacking (fore_for s c)) 0 + fore_for s c ≡ c
-intensity Plain c h = omega arith
+intensity : (s : Shade) (c : ℕ) → IsNearestOrBright s c → cond (bold_for s c) (fore_for s c % 8 + 8) (fore_for s c) ≡ c
+intensity Plain c h = refl
 intensity (Index n) c h = by_test (c == near n) refl
   where
-    bright : (t : Bool) → nat_lt (near n) 8 ≡ t → c ≡ near n % 8 + 8 → (c == near n) ≡ false → cond t 8 0 + near n ≡ c
-    bright true e is differs = let small = small_near n in grind (arith, nat_tests)
-    bright false e is differs = let small = small_near n in grind (arith, nat_tests)
-
-    by_test : (t : Bool) → (c == near n) ≡ t → cond (not t) (lacking (near n)) 0 + near n ≡ c
+    by_test : (t : Bool) → (c == near n) ≡ t → cond (not t) (near n % 8 + 8) (near n) ≡ c
     by_test true e = grind (arith, nat_tests)
-    by_test false e = elim h.2 [ inl is ↦ grind (arith, nat_tests) | inr is ↦ bright (nat_lt (near n) 8) refl is e ]
+    by_test false e = elim h.2 [ inl is ↦ grind (arith, nat_tests) | inr is ↦ sym is ]
 
 middle : (w : ℕ) → masked w ≡ w → w / 256 ≡ w / 256 / 64 % 4 * 64
 middle w h = ap (λ n. n / 256) (sym h) ∙ and_shr w 0xC0FF 8 ∙ and_high (w / 256) 2 6
@@ -177,20 +173,18 @@ back_number p a ns = by_test (is_default a) refl
 
 -- an index of 16 to 255
 fore_shade : (p : Pen) (n : ℕ) (ns : List ℕ) → 16 ≤ n → n < 256 → pen_by p (38 ∷ 5 ∷ n ∷ ns) ≡ pen_by (record p { foreground = near n; fore = Index n }) ns
-unfolding pen_by past_colour past_index indexed
+unfolding pen_by indexed
 fore_shade p n ns low high =
-    let a : nat_lt n 8 ≡ false = grind (arith, nat_tests) in
     let b : nat_lt n 16 ≡ false = grind (arith, nat_tests) in
     let c : nat_lt n 256 ≡ true = grind (arith, nat_tests) in
-    rw (a, b, c) refl
+    rw (b, c) refl
 
 back_shade : (p : Pen) (n : ℕ) (ns : List ℕ) → 16 ≤ n → n < 256 → pen_by p (48 ∷ 5 ∷ n ∷ ns) ≡ pen_by (record p { background = near n; back = Index n }) ns
-unfolding pen_by past_colour past_index indexed
+unfolding pen_by indexed
 back_shade p n ns low high =
-    let a : nat_lt n 8 ≡ false = grind (arith, nat_tests) in
     let b : nat_lt n 16 ≡ false = grind (arith, nat_tests) in
     let c : nat_lt n 256 ≡ true = grind (arith, nat_tests) in
-    rw (a, b, c) refl
+    rw (b, c) refl
 
 fore_numbers : (p : Pen) (s : Shade) (n c : ℕ) (ns : List ℕ) → IsNearestOrBright s c → pen_by p (n ∷ ns) ≡ pen_by (record p { foreground = c; fore = Plain }) ns → pen_by p (colour_numbers 38 s n ++ ns) ≡ pen_by (record p { foreground = fore_for s c; fore = s }) ns
 fore_numbers p Plain n c ns h one = one

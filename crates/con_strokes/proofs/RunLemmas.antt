@@ -5,8 +5,9 @@ use Rattle.std.proofs.lemmas.List.Sums.{fold-append}
 use Rattle.std.proofs.lemmas.Bool.Decides.{nat_tests}
 use Rattle.con_units.specs.Attr.{Attribute}
 use Rattle.con_units.specs.Glyph.{Glyph}
-use Rattle.con_term.specs.Page.{Page, place, advanced, printed, lowered, wrapped, put, scrolled}
-use Rattle.con_term.specs.declared.pen.Pen.{Pen}
+use Rattle.con_term.specs.Page.{Page, place, printed, lowered, wrapped}
+use Rattle.con_term.specs.Steps.{advanced, put, scrolled}
+use Rattle.con_vtgram.specs.declared.pen.Pen.{Pen}
 use Rattle.con_strokes.specs.Leads.{Leads}
 use Rattle.con_strokes.specs.Ink.{pen_for}
 use Rattle.con_strokes.specs.Paint.{IsCell, AllCells, cell_printed, cells_printed, pasted, last_attr}

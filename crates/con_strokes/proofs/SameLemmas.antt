@@ -6,7 +6,7 @@ use Rattle.con_units.specs.Attr.{Attribute}
 use Rattle.con_units.specs.Glyph.{Glyph}
 use Rattle.con_units.specs.declared.shade.Shade.{Shade}
 use Rattle.con_units.specs.declared.shade.Shade.TheVariants.{Plain, Index}
-use Rattle.con_term.specs.Dump.{same_attr, same_shade}
+use Rattle.con_term.specs.Same.{same_attr, same_shade}
 use Rattle.con_strokes.specs.Compared.{same_cell, same_cells}
 
 pub both : (a b : Bool) → (a && b) ≡ true → (a ≡ true) × (b ≡ true)

@@ -1,7 +1,8 @@
 -- The cursor's moves from a known place.
 use Rattle.std.proofs.Common.{◌≡◌, ℕ, ◌+◌, ◌-◌, ◌<◌, ◌≤◌, true, false, min, max, List, refl, sym, ◌∙◌, arith}
 use Rattle.con_term.specs.Page.{Page}
-use Rattle.con_term.specs.Effect.{gone_to, moved_down, moved_left, moved_right, moved_up}
+use Rattle.con_term.specs.Effect.{gone_to}
+use Rattle.con_term.specs.Steps.{moved_down, moved_left, moved_right, moved_up}
 use Rattle.con_strokes.specs.Leads.{Leads}
 use Rattle.con_strokes.specs.Spot.{IsAt}
 use Rattle.con_strokes.specs.declared.spot.Spot.{Spot}

@@ -2,7 +2,7 @@
 use Rattle.std.specs.Prelude.{ℕ, zero, suc, ◌+◌, ◌-◌, ◌*◌, ◌≡◌, Bool, true, false, ◌==◌, ◌&&◌, List, [], ◌∷◌, take, drop, if◌then◌else◌}
 use Rattle.con_units.specs.Glyph.{Glyph}
 use Rattle.con_units.specs.View.{row_of}
-use Rattle.con_term.specs.Dump.{same_attr}
+use Rattle.con_term.specs.Same.{same_attr}
 
 -- the same unit, word and shades
 abbrev pub same_cell : Glyph → Glyph → Bool
@@ -10,9 +10,8 @@ same_cell a b = (a.unit == b.unit) && same_attr a.attr b.attr
 
 abbrev pub same_cells : List Glyph → List Glyph → Bool
 same_cells [] [] = true
-same_cells [] (b ∷ bs) = false
-same_cells (a ∷ as') [] = false
 same_cells (a ∷ as') (b ∷ bs) = same_cell a b && same_cells as' bs
+same_cells _ _ = false
 
 -- of the first y rows, how many differ
 unfoldable pub differing : ℕ → ℕ → List Glyph → List Glyph → ℕ

@@ -4,7 +4,7 @@ use Rattle.con_units.specs.Attr.{Attribute, foreground, background}
 use Rattle.con_units.specs.Shade.{near}
 use Rattle.con_units.specs.declared.shade.Shade.{Shade}
 use Rattle.con_units.specs.declared.shade.Shade.TheVariants.{Plain, Index}
-use Rattle.con_term.specs.declared.pen.Pen.{Pen}
+use Rattle.con_vtgram.specs.declared.pen.Pen.{Pen}
 
 -- a pen's foreground for a word's: beside an index the one that stands for it
 abbrev pub fore_for : Shade → ℕ → ℕ

@@ -4,7 +4,7 @@ use Rattle.con_units.specs.Attr.{Attribute, plain, foreground, background}
 use Rattle.con_units.specs.Attr as attrs
 use Rattle.con_units.specs.declared.shade.Shade.{Shade}
 use Rattle.con_units.specs.declared.shade.Shade.TheVariants.{Plain, Index}
-use Rattle.con_term.specs.Nibble.{nibble}
+use Rattle.con_vtgram.specs.Pen.{nibble}
 use Rattle.con_strokes.specs.Bytes.{part, parts}
 use Rattle.con_strokes.specs.Ink.{bold_for}
 use Rattle.con_strokes.specs.declared.pen.Changes.{Changes}

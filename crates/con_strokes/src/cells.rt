@@ -4,7 +4,7 @@ ghost use Rattle.std.specs.Vec.{vec_len, vec_capacity};
 ghost use Rattle.con_units.specs.Attr.{IsAttribute};
 ghost use Rattle.con_units.specs.Glyph.{blank_cell};
 ghost use Rattle.con_units.specs.Stored.{stored_unit};
-ghost use Rattle.con_term.specs.Dump.{same_attr, same_shade};
+ghost use Rattle.con_term.specs.Same.{same_attr, same_shade};
 ghost use Rattle.con_term.specs.Page.{Page};
 ghost use Rattle.con_strokes.specs.Leads.{Leads};
 ghost use Rattle.con_strokes.specs.Ink.{pen_for};

@@ -3,9 +3,10 @@ ghost use Rattle.std.specs.Prelude.{◌≡◌, ◌+◌, ◌-◌, ◌*◌, ◌<�
 ghost use Rattle.std.specs.Vec.{vec_len, vec_capacity};
 ghost use Rattle.con_units.specs.Stored.{stored_unit};
 ghost use Rattle.con_units.specs.Decimal.{decimal};
-ghost use Rattle.con_term.specs.Pen.{starting_pen};
+ghost use Rattle.con_vtgram.specs.Pen.{starting_pen};
 ghost use Rattle.con_term.specs.Page.{Page, erased, place, printed};
-ghost use Rattle.con_term.specs.Effect.{gone_to, lifted, moved_down, moved_left, moved_right, moved_up, row_end, unpended};
+ghost use Rattle.con_term.specs.Effect.{gone_to, row_end, unpended};
+ghost use Rattle.con_term.specs.Steps.{lifted, moved_down, moved_left, moved_right, moved_up};
 ghost use Rattle.con_strokes.specs.Bytes.{csi_bytes, part, separated, utf8_of};
 ghost use Rattle.con_strokes.specs.Leads.{Leads};
 ghost use Rattle.con_strokes.specs.Places.{count_numbers, place_numbers};

@@ -2,7 +2,7 @@
 ghost use Rattle.std.specs.Prelude.{◌≡◌, ◌+◌, ◌/◌, ◌%◌, ◌<◌, ◌≤◌, ◌++◌, ◌==◌, true, false, nat_le, ◌||◌};
 ghost use Rattle.std.specs.Vec.{vec_len, vec_capacity};
 ghost use Rattle.con_units.specs.Attr.{IsAttribute, plain};
-ghost use Rattle.con_term.specs.Nibble.{nibble as nibble_of};
+ghost use Rattle.con_vtgram.specs.Pen.{nibble as nibble_of};
 ghost use Rattle.con_term.specs.Page.{Page};
 ghost use Rattle.con_strokes.specs.Bytes.{csi_bytes, parts, separated};
 ghost use Rattle.con_strokes.specs.Ink.{pen_for};
@@ -36,13 +36,7 @@ fn nibble(c: u16) -> u16
     ensures number { result ≡ nibble_of c }
     ensures small { result < 8 }
 {
-    match c {
-        1 => 4,
-        3 => 6,
-        4 => 1,
-        6 => 3,
-        _ => c,
-    }
+    c % 2 * 4 + c / 2 % 2 * 2 + c / 4 % 2
 }
 
 #[tactic(auto, unfolding(crate::specs::Pens::colour_number))]

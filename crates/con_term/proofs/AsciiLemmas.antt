@@ -15,7 +15,8 @@ use Rattle.con_term.specs.Page.{Page}
 use Rattle.con_term.specs.Effect.{effect}
 use Rattle.con_term.specs.Run.{printed_next, all_printed}
 use Rattle.con_term.specs.Terminal.{Terminal}
-use Rattle.con_term.specs.Play.{units_of, typed, play}
+use Rattle.con_term.specs.Play.{units_of, play}
+use Rattle.con_term.specs.Steps.{typed}
 
 not_cut : (u : ℕ) → is_ascii_byte u ≡ true → is_cut_character (u ∷ []) ≡ false
 not_cut u h = grind (arith, nat_tests)
@@ -34,7 +35,7 @@ none_held (x ∷ xs) n h k = absurd (omega arith)
 
 -- one byte of ASCII
 pub ascii_byte : (t after : Terminal) (b : ℕ) → t.bytes ≡ [] → b < 0x80 → after ≡ typed t (b ∷ []) → after ≡ play t (b ∷ [])
-unfolding play
+unfolding play typed
 ascii_byte t after b none small e = let h : is_ascii_byte b ≡ true = grind (arith, nat_tests) in e ∙ sym (rw (none, ascii_next b h, one_unit b h) refl)
 
 plain_ascii : (u : ℕ) → is_plain u ≡ true → is_ascii_byte u ≡ true

@@ -16,7 +16,8 @@ use Rattle.con_term.specs.Page.{Page, IsPage, blank, raised, lowered}
 use Rattle.con_term.specs.Effect.{control_effect, unpended, effect}
 use Rattle.con_term.specs.Ends.{is_end, all_done, one_more, feeds_in, ended}
 use Rattle.con_term.specs.Terminal.{Terminal}
-use Rattle.con_term.specs.Play.{typed, play}
+use Rattle.con_term.specs.Play.{play}
+use Rattle.con_term.specs.Steps.{typed}
 use Rattle.con_term.proofs.BlockLemmas.{two_steps}
 use Rattle.con_term.proofs.FillLemmas.{append_none}
 use Rattle.con_term.proofs.AsciiLemmas.{ascii_split, ascii_units}

@@ -14,7 +14,8 @@ use Rattle.con_vtgram.specs.declared.item.Item.TheVariants.{Print}
 use Rattle.con_term.specs.Page.{Page}
 use Rattle.con_term.specs.Run.{all_printed}
 use Rattle.con_term.specs.Terminal.{Terminal}
-use Rattle.con_term.specs.Play.{units_of, typed, play}
+use Rattle.con_term.specs.Play.{units_of, play}
+use Rattle.con_term.specs.Steps.{typed}
 use Rattle.con_term.specs.PlayLaws.{play-none}
 use Rattle.con_term.specs.Front.{IsFront, IsPrintedAs}
 use Rattle.con_term.proofs.AsciiLemmas.{prints_fold}

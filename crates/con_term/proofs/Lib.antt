@@ -1,6 +1,5 @@
 pub mod BlockLemmas
 pub mod SheetLemmas
-pub mod SgrLemmas
 pub mod FillLemmas
 pub mod CopyLemmas
 pub mod RunLemmas
@@ -8,5 +7,3 @@ pub mod EndLemmas
 pub mod FrontLemmas
 pub mod AsciiLemmas
 pub mod PlayLemmas
-pub mod DecodeLemmas
-pub mod DumpLemmas

@@ -11,7 +11,8 @@ use Rattle.con_vtgram.specs.Text.{grammar}
 use Rattle.con_vtgram.specs.declared.item.Item.{Item}
 use Rattle.con_term.specs.Page.{Page}
 use Rattle.con_term.specs.Effect.{effect}
-use Rattle.con_term.specs.Play.{units_of, typed, play}
+use Rattle.con_term.specs.Play.{units_of, play}
+use Rattle.con_term.specs.Steps.{typed}
 use Rattle.con_term.specs.Terminal.{Terminal}
 use Rattle.con_term.specs.PlayLaws.{typed-append, play-append}
 
@@ -26,7 +27,7 @@ pair t mid after c high low is first second =
 
 pub byte : (t mid after : Terminal) (b : ℕ) (held first second : List ℕ) → first ++ second ≡ (next utf8 t.bytes b).items → held ≡ (next utf8 t.bytes b).tail
     → mid ≡ typed (record t { bytes = held }) (flat_map units_of first) → after ≡ typed mid (flat_map units_of second) → after ≡ play t (b ∷ [])
-unfolding play
+unfolding play typed
 byte t mid after b held first second items rest one two =
     two ∙ ap (λ s. typed s (flat_map units_of second)) one ∙ typed-append (record t { bytes = held }) _ _
     ∙ rw (split_after-one utf8 t.bytes b, ← items, flat_map-append units_of first second, rest) refl

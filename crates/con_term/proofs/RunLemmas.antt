@@ -4,8 +4,9 @@ use Rattle.std.proofs.lemmas.List.{take_more_set, drop-set-lt, take-append-drop,
 use Rattle.std.proofs.lemmas.Bool.Decides.{nat_tests}
 use Rattle.con_units.specs.Attr.{Attribute}
 use Rattle.con_units.specs.Glyph.{Glyph, cell_of}
-use Rattle.con_term.specs.Pen.{attr_of}
-use Rattle.con_term.specs.Page.{Page, place, advanced, printed, put}
+use Rattle.con_vtgram.specs.Pen.{attr_of}
+use Rattle.con_term.specs.Page.{Page, place, printed}
+use Rattle.con_term.specs.Steps.{advanced, put}
 use Rattle.con_term.specs.Run.{printed_next, all_printed, pasted, cells_for, ran}
 
 one_unit : (s : Page) (u : ℕ) → s.pending ≡ false → printed u s ≡ advanced (put u s)

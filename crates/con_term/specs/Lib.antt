@@ -1,15 +1,12 @@
--- What a reader must believe: the pen, the table of items, the split of bytes, what is shown and told.
-pub mod Nibble
-pub mod Pen
-pub mod Sgr
-pub mod SgrSteps
+-- What a reader must believe: the table of items, the split of bytes, what is shown, which attributes are the same.
 pub mod Page
 pub mod Effect
 pub mod Cost
 pub mod Terminal
 pub mod Play
-pub mod Dump
--- What is proved of it, and the code's own words: runs, parameters one by one, the values behind the models.
+pub mod Same
+-- What is proved of it, and the code's own words: parts of items, runs, the values behind the models.
+pub mod Steps
 pub mod PlayLaws
 pub mod SidesLaws
 pub mod Run

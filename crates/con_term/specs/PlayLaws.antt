@@ -8,7 +8,8 @@ use Rattle.con_units.specs.Utf8.{utf8}
 use Rattle.con_units.specs.SplitLaws.{split_after-append}
 use Rattle.con_vtgram.specs.Text.{grammar}
 use Rattle.con_term.specs.Effect.{effect}
-use Rattle.con_term.specs.Play.{units_of, typed, play}
+use Rattle.con_term.specs.Play.{units_of, play}
+use Rattle.con_term.specs.Steps.{typed}
 use Rattle.con_term.specs.SidesLaws.{HasSidesOf, effects-sides}
 use Rattle.con_term.specs.Terminal.{Terminal}
 

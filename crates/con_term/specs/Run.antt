@@ -1,7 +1,7 @@
 -- Units printed one after another in a row.
 use Rattle.std.specs.Prelude.{ℕ, ◌+◌, ◌-◌, ◌==◌, min, List, ◌++◌, length, map, take, drop, fold}
 use Rattle.con_units.specs.Glyph.{Glyph, cell_of}
-use Rattle.con_term.specs.Pen.{attr_of}
+use Rattle.con_vtgram.specs.Pen.{attr_of}
 use Rattle.con_term.specs.Page.{Page, place, printed}
 
 abbrev pub printed_next : Page → ℕ → Page

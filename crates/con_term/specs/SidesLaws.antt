@@ -1,11 +1,11 @@
 -- Laws of sides: no item changes them, so no text does.
-use Rattle.std.proofs.Common.{◌≡◌, ℕ, Bool, true, false, cond, ◌==◌, ◌+◌, nat_lt, List, [], ◌∷◌, refl, ◌∙◌}
+use Rattle.std.proofs.Common.{◌≡◌, ℕ, Bool, true, false, cond, ◌==◌, ◌&&◌, ◌||◌, ◌+◌, nat_lt, List, [], ◌∷◌, refl, ◌∙◌}
 use Rattle.std.specs.Prelude.{fold, slice_index}
 use Rattle.con_vtgram.specs.declared.item.Csi.{Csi}
 use Rattle.con_vtgram.specs.declared.item.Item.{Item}
 use Rattle.con_vtgram.specs.declared.item.Item.TheVariants as items
 use Rattle.con_term.specs.Page.{Page, lowered, wrapped, printed}
-use Rattle.con_term.specs.Effect.{display_erased, line_erased, plain_effect, private_effect, control_effect, effect}
+use Rattle.con_term.specs.Effect.{part_erased, plain_effect, private_effect, control_effect, effect}
 
 -- the same sides
 abbrev pub HasSidesOf : Page → Page → Type 0
@@ -29,18 +29,13 @@ printed-sides : (u : ℕ) (s : Page) → HasSidesOf s (printed u s)
 unfolding printed
 printed-sides u s = either s _ _ (nat_lt ((wrapped s).x + 1) (wrapped s).w) (wrapped-sides s) (wrapped-sides s)
 
-display-sides : (s : Page) (n : ℕ) → HasSidesOf s (display_erased s n)
-unfolding display_erased
-display-sides s n = either s _ _ (n == 0) (refl, refl) (either s _ _ (n == 1) (refl, refl) (either s _ _ (n == 2) (refl, refl) (refl, refl)))
-
-line-sides : (s : Page) (n : ℕ) → HasSidesOf s (line_erased s n)
-unfolding line_erased
-line-sides s n = either s _ _ (n == 0) (refl, refl) (either s _ _ (n == 1) (refl, refl) (either s _ _ (n == 2) (refl, refl) (refl, refl)))
+part-sides : (s : Page) (first end n : ℕ) → HasSidesOf s (part_erased s first end n)
+unfolding part_erased
+part-sides s first end n = either s _ _ (n == 0) (refl, refl) (either s _ _ (n == 1) (refl, refl) (either s _ _ (n == 2) (refl, refl) (refl, refl)))
 
 private-sides : (s : Page) (c : Csi) → HasSidesOf s (private_effect s c)
 unfolding private_effect
-private-sides s c = either s _ _ (slice_index c.params 0 == 25)
-    (either s _ _ (c.last == 0x68) (refl, refl) (either s _ _ (c.last == 0x6C) (refl, refl) (refl, refl))) (refl, refl)
+private-sides s c = either s (record s { visible = c.last == 0x68 }) s ((slice_index c.params 0 == 25) && ((c.last == 0x68) || (c.last == 0x6C))) (refl, refl) (refl, refl)
 
 plain-sides : (s : Page) (c : Csi) → HasSidesOf s (plain_effect s c)
 unfolding plain_effect
@@ -52,8 +47,8 @@ plain-sides s c =
     (either s _ _ (c.last == 0x48) (refl, refl)
     (either s _ _ (c.last == 0x66) (refl, refl)
     (either s _ _ (c.last == 0x53) (refl, refl)
-    (either s _ _ (c.last == 0x4A) (display-sides s (slice_index c.params 0))
-    (either s _ _ (c.last == 0x4B) (line-sides s (slice_index c.params 0))
+    (either s _ _ (c.last == 0x4A) (part-sides s _ _ (slice_index c.params 0))
+    (either s _ _ (c.last == 0x4B) (part-sides s _ _ (slice_index c.params 0))
     (either s _ _ (c.last == 0x58) (refl, refl)
     (either s _ _ (c.last == 0x6D) (refl, refl) (refl, refl)))))))))))
 

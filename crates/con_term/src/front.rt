@@ -1,8 +1,9 @@
-//! A character at the front of bytes that are no ASCII.
-ghost use Rattle.std.specs.Prelude.{IfSome, ◌≡◌};
+//! A character at the front of bytes that are no ASCII, and its units.
+ghost use Rattle.std.specs.Prelude.{IfSome, ◌≡◌, ◌+◌, ◌-◌, ◌/◌, ◌%◌, ◌≤◌, ◌<◌, [], ◌∷◌};
 ghost use Rattle.std.specs.Int.{is_in_range};
 ghost use Rattle.con_units.specs.Utf8.{may_follow};
 ghost use Rattle.con_term.specs.Front.{IsFront};
+ghost use Rattle.con_term.specs.Play.{units_of};
 
 /// How many bytes the character has, and which it is.
 #[derive(Clone, Copy)]
@@ -145,4 +146,19 @@ pub fn front_character(bytes: &[u8]) -> Option<Front>
         0xF0..=0xF4 => four(bytes),
         _ => one(bytes),
     }
+}
+
+/// The high and the low unit of a character above U+FFFF.
+#[tactic(auto, unfolding(crate::specs::Play::units_of))]
+pub fn surrogates(code: u32) -> (u16, u16)
+    requires { (0x10000 ≤ code) × (code < 0x140000) }
+    ensures high { result.0 ≡ 0xD800 + (code - 0x10000) / 0x400 }
+    ensures low { result.1 ≡ 0xDC00 + (code - 0x10000) % 0x400 }
+    ensures units { result.0 ∷ result.1 ∷ [] ≡ units_of code }
+{
+    let above = code - 0x10000;
+    (
+        (0xD800 + above / 0x400) as u16,
+        (0xDC00 + above % 0x400) as u16,
+    )
 }

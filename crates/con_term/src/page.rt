@@ -8,16 +8,19 @@ ghost use Rattle.con_units.specs.Plain.{is_plain};
 ghost use Rattle.con_vtgram.specs.State.{item_of};
 ghost use Rattle.con_vtgram.specs.declared.item.Item.TheVariants as Item;
 ghost use Rattle.std.specs.List.{list_all};
-ghost use Rattle.con_term.specs.Effect.{row_end, unpended, gone_to, moved_to, lifted, display_erased, line_erased, some_erased};
-ghost use Rattle.con_term.specs.Effect.{control_effect, pen_of, plain_effect, effect};
-ghost use Rattle.con_term.specs.Page.{IsPage, blank_page, place, blank, erased, scrolled, lowered, wrapped, put, advanced, printed};
+ghost use Rattle.con_term.specs.Effect.{row_end, unpended, gone_to, moved_to};
+ghost use Rattle.con_term.specs.Steps.{lifted, display_erased, line_erased, some_erased};
+ghost use Rattle.con_term.specs.Effect.{control_effect, plain_effect, effect};
+ghost use Rattle.con_vtgram.specs.Sgr.{pen_of};
+ghost use Rattle.con_term.specs.Page.{IsPage, blank_page, place, blank, erased, lowered, wrapped, printed};
+ghost use Rattle.con_term.specs.Steps.{scrolled, put, advanced};
 
 use crate::block::Block;
 use crate::cells::copy_into;
 use crate::ends::ends_at_front;
-use crate::pen::{Pen, after_all};
-use crate::units::surrogates;
+use crate::front::surrogates;
 use con_units::{Cell, Coord, OutOfMemory, Rows, Size, View};
+use con_vtgram::pen::{Pen, after_all};
 use con_vtgram::{Csi, Found};
 use std::alloc::Global;
 use std::marker::Model;
@@ -285,7 +288,7 @@ impl Page {
         self.cells.lift(count, cell);
     }
 
-    #[tactic(auto, unfolding(crate::specs::Effect::display_erased))]
+    #[tactic(auto, unfolding(crate::specs::Effect::part_erased))]
     fn erase_display(&mut self, how: u16)
         ensures { self.new ≡ display_erased self.old how }
     {
@@ -299,7 +302,7 @@ impl Page {
         }
     }
 
-    #[tactic(auto, unfolding(crate::specs::Effect::line_erased))]
+    #[tactic(auto, unfolding(crate::specs::Effect::part_erased))]
     fn erase_line(&mut self, how: u16)
         ensures { self.new ≡ line_erased self.old how }
     {
@@ -413,13 +416,9 @@ impl Page {
         if csi.inter == 0 {
             if !csi.private {
                 self.sequence(csi);
-            } else if csi.params[0] == 25 {
+            } else if csi.params[0] == 25 && (csi.last == 0x68 || csi.last == 0x6C) {
                 // DECTCEM, CSI ? 25 h and CSI ? 25 l
-                match csi.last {
-                    0x68 => self.visible = true,
-                    0x6C => self.visible = false,
-                    _ => {}
-                }
+                self.visible = csi.last == 0x68;
             }
         }
     }

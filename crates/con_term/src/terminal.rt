@@ -1,19 +1,17 @@
 //! A terminal that plays bytes.
 ghost use Rattle.std.specs.Prelude.{◌≡◌, ℕ, List, ◌<◌, ◌≤◌, ◌*◌, [], ◌∷◌, flat_map, option_to_list, ◌++◌};
 ghost use Rattle.std.specs.Prelude.{IfOk, OnOk, MatchResult, length, take, vec_capacity, true};
-ghost use Rattle.con_term.specs.Play.{units_of, typed, play};
+ghost use Rattle.con_term.specs.Play.{units_of, play};
+ghost use Rattle.con_term.specs.Steps.{typed};
 ghost use Rattle.con_term.specs.Inside.{parts};
-ghost use Rattle.con_term.specs.Dump.{dump as dump_of};
 ghost use Rattle.con_term.specs.Page.{IsPage, blank_page};
 ghost use Rattle.con_term.specs.Terminal.{IsTerminal, view_of};
 ghost use Rattle.con_term.specs.Front.{IsPrintedAs};
 
-use crate::dump::dump;
 use crate::ends::is_end;
-use crate::front::front_character;
+use crate::front::{front_character, surrogates};
 use crate::page::Page;
-use crate::units::surrogates;
-use con_units::{Cell, OutOfMemory, Size, Units, Utf8, View};
+use con_units::{Cell, OutOfMemory, Size, Utf8, View};
 use con_vtgram::{Found, Splitter, is_plain, plain_is_printed};
 use std::alloc::Global;
 use std::marker::Model;
@@ -105,15 +103,11 @@ impl Terminal {
         self.page.view(rows)
     }
 
-    /// The text that tells what it shows.
-    pub fn dump(&self) -> Result<Units, OutOfMemory>
-        ensures { IfOk result (λ text. text ≡ dump_of self.now.page) }
+    /// Its page.
+    pub fn page(&self) -> &Page
+        ensures { result.now ≡ self.now.page }
     {
-        let mut text = Vec::new(self.page.allocator());
-        match dump(&self.page, &mut text) {
-            Ok(()) => Ok(Units(text)),
-            Err(_) => Err(OutOfMemory),
-        }
+        &self.page
     }
 
     /// Plays a byte.

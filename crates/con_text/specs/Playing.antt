@@ -4,7 +4,7 @@ use Rattle.con_text.specs.Encoded.{unit_bytes}
 use Rattle.con_outside.specs.Outside.{then_written, WroteFront, WrotePart}
 use Rattle.con_units.specs.declared.place.Size.{Size}
 use Rattle.con_term.specs.Page.{Page, blank_page}
-use Rattle.con_term.specs.Dump.{dump}
+use Rattle.con_dump.specs.Dump.{dump}
 use Rattle.con_term.specs.Play.{play}
 use Rattle.con_ending.specs.Ending.{end_line, Told}
 use Rattle.con_text.specs.Link.{IsTooLong}

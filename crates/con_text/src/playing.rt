@@ -6,6 +6,7 @@ ghost use Rattle.con_text.specs.Playing.{Played};
 
 use crate::reading::{Listener, ReadEnd, read_link};
 use crate::text::encoded;
+use con_dump::dump;
 use con_ending::{DONE, LINK, MEMORY, REPORT, TOO_LONG, finish};
 use con_outside::{Fault, Sink, Source, write_whole};
 use con_term::Terminal;
@@ -34,7 +35,7 @@ impl Listener for Terminal {
 pub fn dumped(alloc: Global, terminal: &Terminal) -> Result<Vec<u8>, OutOfMemory>
     ensures { IfOk result (λ bytes. bytes.items ≡ dump_bytes terminal.now.page) }
 {
-    let units = terminal.dump()?;
+    let units = dump(terminal)?;
     encoded(alloc, units.as_slice())
 }
 

@@ -10,11 +10,11 @@ ghost use Rattle.con_text.specs.Typing.{Typing, opening, ended, ShowsBuffers, Pr
 
 use crate::framing::frame;
 use crate::reading::{Listener, ReadEnd, read_link};
+use con_dump::decode;
 use con_ending::{DONE, LINK, MEMORY, TERMINAL, TOO_LONG, finish};
 use con_outside::{Fault, Sink, Source, write_whole};
 use con_screen::Answers;
 use con_screens::Screens;
-use con_term::decode;
 use con_units::{BufferId, OutOfMemory, Size, Utf8};
 use std::alloc::Global;
 use std::marker::Model;

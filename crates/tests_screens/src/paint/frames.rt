@@ -3,6 +3,7 @@ ghost use Rattle.std.specs.Prelude.{◌≡◌, IfOk, IfSome};
 ghost use Rattle.con_units.specs.Limits.{IsWindow};
 ghost use Rattle.con_units.specs.View.{IsWhole};
 
+use con_dump::dump;
 use con_paint::{Painter, room_for};
 use con_term::Terminal;
 use con_units::{Attr, Cell, Coord, Marks, OutOfMemory, Rows, Shade, Size, View};
@@ -243,7 +244,7 @@ fn told(alloc: Global, first: &View, second: &View) -> Result<String, Fail>
     let mut terminal = Terminal::new(alloc, first.size)?;
     played(alloc, &mut painter, &mut terminal, first, &mut text)?;
     played(alloc, &mut painter, &mut terminal, second, &mut text)?;
-    let units = terminal.dump()?;
+    let units = dump(&terminal)?;
     for unit in units.as_slice() {
         text.push(char::from_u32(*unit as u32).unwrap_or('?'))?;
     }

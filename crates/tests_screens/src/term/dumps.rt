@@ -1,6 +1,7 @@
 //! What no link shows: bytes that are played in pieces, a new size, and a view.
 ghost use Rattle.std.specs.Prelude.{◌<◌, ◌≤◌};
 
+use con_dump::dump;
 use con_term::Terminal;
 use con_units::{Cell, Size, View};
 use std::alloc::Global;
@@ -71,7 +72,7 @@ fn put(units: &[u16], seen: &mut String) -> Result<(), Fail> {
 }
 
 fn put_dump(terminal: &Terminal, seen: &mut String) -> Result<(), Fail> {
-    let units = terminal.dump()?;
+    let units = dump(terminal)?;
     put(units.as_slice(), seen)
 }
 

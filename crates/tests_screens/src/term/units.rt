@@ -1,7 +1,7 @@
 //! Bytes of UTF-8 and their units, by hand: each text cut in two at every place, as no link shows it.
 ghost use Rattle.std.specs.Prelude.{◌*◌, ◌≤◌, length, vec_capacity};
 
-use con_term::decode;
+use con_dump::decode;
 use con_units::Utf8;
 use std::alloc::Global;
 use std::test::Fail;
