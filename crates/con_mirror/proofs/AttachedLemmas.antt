@@ -9,7 +9,8 @@ use Rattle.con_units.specs.declared.place.Size.{Size}
 use Rattle.con_units.specs.declared.view.View.{View}
 use Rattle.con_term.specs.Terminal.{Terminal}
 use Rattle.con_paint.specs.Painter.{Kept, Allows, IsShown, Paints, unpainted}
-use Rattle.con_mirror.specs.Part.{left_of, padded, part, part_row, part_rows, top_of}
+use Rattle.con_mirror.specs.Part.{part, part_row}
+use Rattle.con_mirror.specs.Parts.{left_of, padded, part_rows, top_of}
 use Rattle.con_mirror.specs.PartLaws.{part_is_whole}
 use Rattle.con_mirror.specs.Inside.{IsAttached, IsGiven, IsSince, given_in}
 use Rattle.con_mirror.specs.Mirror.{AreSince, Mirrored, size_in}

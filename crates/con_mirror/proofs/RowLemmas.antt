@@ -12,8 +12,9 @@ use Rattle.con_units.specs.Glyph.{Glyph, blank_cell}
 use Rattle.con_units.specs.View.{row_of}
 use Rattle.con_units.specs.declared.view.View.{View}
 use Rattle.con_mirror.specs.Inside.{IsSince}
-use Rattle.con_mirror.specs.Part.{padded, part_row, part_rows}
-use Rattle.con_mirror.specs.PartLaws.{length-part_rows, length-padded, padded_at}
+use Rattle.con_mirror.specs.Part.{part_row}
+use Rattle.con_mirror.specs.Parts.{padded, part_rows}
+use Rattle.con_mirror.specs.PartLaws.{part_rows-more, length-part_rows, length-padded, padded_at}
 
 -- the cells of a row from a column on stand together
 pub row_is : (cells : List Glyph) (w left y : ℕ) → left < w → take (y * w + w - (y * w + left)) (drop (y * w + left) cells) ≡ drop left (row_of w cells y)
@@ -45,7 +46,7 @@ rows_more v left top w y cells old e =
     ∙ (ap (λ (xs : List Glyph). drop w xs) (drop_at rows (drop (y * w) old) (y * w) long) ∙ drop-drop w (y * w) old)) in
     let more : y * w + w ≡ (y + 1) * w = omega arith in
     let next : y + 1 ≡ suc y = omega arith in
-    rw (front, back, more, next) (sym (append_assoc rows row (drop (suc y * w) old)))
+    rw (front, back, more, next, part_rows-more v left top w y) (sym (append_assoc rows row (drop (suc y * w) old)))
 
 pub no_rows : (old : List Glyph) (w : ℕ) → old ≡ [] ++ drop (0 * w) old
 no_rows old w = let z : 0 ≡ 0 * w = omega arith in ap (λ (n : ℕ). drop n old) z
@@ -133,7 +134,7 @@ stays old row from n is =
 -- row y of a part
 pub part_row_of : (v : View) (left top w n y : ℕ) → y < n → row_of w (part_rows v left top w n) y ≡ part_row v left w (top + y)
 part_row_of v left top w zero y below = absurd (omega arith)
-part_row_of v left top w (suc n) y below = elim (cases_eq y n) [
+part_row_of v left top w (suc n) y below = let last : row_of w (part_rows v left top w n ++ part_row v left w (top + n)) y ≡ part_row v left w (top + y) = elim (cases_eq y n) [
   | inl e ↦
       let front : List Glyph = part_rows v left top w n in
       let row : List Glyph = part_row v left w (top + n) in
@@ -148,7 +149,7 @@ part_row_of v left top w (suc n) y below = elim (cases_eq y n) [
       let room : y * w + w ≤ n * w = omega (arith, mul-le-mul_right w next) in
       let rest : w ≤ length (drop (y * w) front) = rw (length-drop (y * w) front) (omega (arith, full, room)) in
       ap (λ (l : List Glyph). take w l) (drop-append-le (y * w) front row (omega (arith, full, room))) ∙ take-append-le w (drop (y * w) front) row rest ∙ part_row_of v left top w n y (omega arith)
-]
+] in ap (λ (rows : List Glyph). row_of w rows y) (part_rows-more v left top w n) ∙ last
 
 -- the first y rows: one without a mark is as it was
 pub record Renewed (v : View) (left top w y : ℕ) (now old : List Glyph) (marks : List Bool) (h : ℕ) : Type 0 where

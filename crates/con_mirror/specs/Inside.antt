@@ -5,7 +5,8 @@ use Rattle.con_units.specs.Limits.{IsWindow}
 use Rattle.con_units.specs.View.{row_of}
 use Rattle.con_units.specs.declared.view.View.{View}
 use Rattle.con_mirror.specs.Mirror.{Following}
-use Rattle.con_mirror.specs.Part.{left_of, part, part_row, top_of}
+use Rattle.con_mirror.specs.Part.{part, part_row}
+use Rattle.con_mirror.specs.Parts.{left_of, top_of}
 use Rattle.con_mirror.specs.declared.attached.Attached.{Attached}
 use Rattle.con_mirror.specs.declared.attached.Given.{Given}
 use Rattle.con_mirror.specs.declared.mirror.Mirror.TheInside.{Inside}

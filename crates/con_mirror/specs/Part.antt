@@ -1,48 +1,26 @@
 -- The part of a view that a terminal of another size shows.
-use Rattle.std.specs.Prelude.{ℕ, zero, suc, pos, ◌+◌, ◌-◌, ◌*◌, ◌&&◌, nat_lt, Bool, true, false, List, [], ◌++◌, take, drop, get_or, replicate, if◌then◌else◌}
+use Rattle.std.specs.Prelude.{ℕ, pos, ◌+◌, ◌-◌, ◌*◌, ◌&&◌, nat_lt, Bool, List, ◌++◌, take, drop, flat_map, get_or, replicate, if◌then◌else◌}
+use Rattle.std.specs.List.{range_with_len}
 use Rattle.con_units.specs.Glyph.{Glyph, blank_cell}
 use Rattle.con_units.specs.Natural.{natural}
 use Rattle.con_units.specs.View.{row_of}
-use Rattle.con_units.specs.declared.place.Coord.{Coord}
 use Rattle.con_units.specs.declared.place.Size.{Size}
 use Rattle.con_units.specs.declared.view.View.{View}
 
 -- where n columns or rows begin: at 0, or, where the cursor shows and stands behind them, so that it stands in the last of them
 abbrev pub corner : Bool → ℕ → ℕ → ℕ
-corner false at n = 0
-corner true at n = at - (n - 1)
+corner shows at n = if shows then at - (n - 1) else 0
 
--- the first n of these cells, and then spaces
-abbrev pub padded : ℕ → List Glyph → List Glyph
-padded n cells = take n (cells ++ replicate n blank_cell)
-
--- row y of a view, from the column `left` on, in n columns; a row past the view has no cells, and so spaces
+-- row y of a view, from the column `left` on, in n columns, with spaces behind it; a row past the view has no cells, and so spaces
 abbrev pub part_row : View → ℕ → ℕ → ℕ → List Glyph
-part_row v left n y = padded n (drop left (row_of v.size.w v.rows y))
+part_row v left n y = take n (drop left (row_of v.size.w v.rows y) ++ replicate n blank_cell)
 
--- the first n rows of so many columns, from the row `top` on
-abbrev pub part_rows : View → ℕ → ℕ → ℕ → ℕ → List Glyph
-part_rows v left top w zero = []
-part_rows v left top w (suc n) = part_rows v left top w n ++ part_row v left w (top + n)
-
--- the cursor, from a corner on; (0, 0) where it does not show
-abbrev pub cursor_from : Bool → ℕ → ℕ → ℕ → ℕ → Coord
-cursor_from false x y left top = record { x = pos 0; y = pos 0 }
-cursor_from true x y left top = record { x = pos (x - left); y = pos (y - top) }
-
--- the column, and the row, at which a part of so many begins
-abbrev pub left_of : View → ℕ → ℕ
-left_of v w = corner v.visible (natural v.cursor.x) w
-
-abbrev pub top_of : View → ℕ → ℕ
-top_of v h = corner v.visible (natural v.cursor.y) h
-
--- the part of a view at this size: its cells from the corner on, with its cursor
+-- the part of a view at this size: its cells from the corner on, with its cursor; (0, 0) where it does not show
 abbrev pub part : View → Size → View
-part v size = record {
+part v size = let x = natural v.cursor.x in let y = natural v.cursor.y in let left = corner v.visible x size.w in let top = corner v.visible y size.h in record {
   size = size;
-  rows = part_rows v (left_of v size.w) (top_of v size.h) size.w size.h;
-  cursor = cursor_from v.visible (natural v.cursor.x) (natural v.cursor.y) (left_of v size.w) (top_of v size.h);
+  rows = flat_map (λ n. part_row v left size.w (top + n)) (range_with_len 0 size.h);
+  cursor = if v.visible then record { x = pos (x - left); y = pos (y - top) } else record { x = pos 0; y = pos 0 };
   visible = v.visible;
 }
 

@@ -1,7 +1,8 @@
 -- A part is whole, and each of its cells is the view's at the same place from the corner on, or a space.
-use Rattle.std.proofs.Common.{◌≡◌, ℕ, zero, suc, pos, ◌+◌, ◌-◌, ◌*◌, ◌<◌, ◌≤◌, ◌≤ℤ◌, ◌<ℤ◌, Bool, true, false, List}
+use Rattle.std.proofs.Common.{◌≡◌, ℕ, zero, suc, pos, ◌+◌, ◌-◌, ◌*◌, ◌<◌, ◌≤◌, ◌≤ℤ◌, ◌<ℤ◌, Bool, true, false, List, [], ◌∷◌, append_assoc}
 use Rattle.std.proofs.Common.{◌++◌, length, drop, get_or, replicate, refl, sym, ap, ◌∙◌, arith, length-append}
-use Rattle.std.specs.Prelude.{◌&&◌, nat_lt, if◌then◌else◌}
+use Rattle.std.specs.Prelude.{◌&&◌, nat_lt, flat_map, if◌then◌else◌}
+use Rattle.std.specs.List.{range_with_len}
 use Rattle.std.proofs.lemmas.Bool.Decides.{nat_tests}
 use Rattle.std.proofs.lemmas.List.{length-take, get_or-take, get_or-drop, get_or_append_left, get_or-append-add, get_or-replicate}
 use Rattle.std.proofs.Math.Seq.{get_or-append_right}
@@ -14,7 +15,8 @@ use Rattle.con_units.specs.Natural.{natural}
 use Rattle.con_units.specs.View.{row_of, IsWhole}
 use Rattle.con_units.specs.declared.place.Size.{Size}
 use Rattle.con_units.specs.declared.view.View.{View}
-use Rattle.con_mirror.specs.Part.{corner, padded, part_row, part_rows, cursor_from, part, left_of, top_of, cell_at}
+use Rattle.con_mirror.specs.Part.{corner, part_row, part, cell_at}
+use Rattle.con_mirror.specs.Parts.{padded, part_rows, cursor_from, left_of, top_of}
 
 pub length-replicate : (n : ℕ) (c : Glyph) → length (replicate n c) ≡ n
 length-replicate zero c = refl
@@ -24,10 +26,25 @@ pub length-padded : (n : ℕ) (cells : List Glyph) → length (padded n cells) �
 length-padded n cells = length-take-le n (cells ++ replicate n blank_cell)
     (omega (arith, length-append cells (replicate n blank_cell), length-replicate n blank_cell))
 
+append_none : (xs : List Glyph) → xs ++ [] ≡ xs
+append_none [] = refl
+append_none (x ∷ xs) = ap (λ (zs : List Glyph). x ∷ zs) (append_none xs)
+
+-- one row more
+range_more : (f : ℕ → List Glyph) (a n : ℕ) → flat_map f (range_with_len a (suc n)) ≡ flat_map f (range_with_len a n) ++ f (a + n)
+range_more f a zero = let e : a + 0 ≡ a = omega arith in append_none (f a) ∙ ap f (sym e)
+range_more f a (suc n) = let e : a + 1 + n ≡ a + suc n = omega arith in
+    ap (λ (zs : List Glyph). f a ++ zs) (range_more f (a + 1) n) ∙ sym (append_assoc (f a) (flat_map f (range_with_len (a + 1) n)) (f (a + 1 + n)))
+    ∙ ap (λ (k : ℕ). (f a ++ flat_map f (range_with_len (a + 1) n)) ++ f k) e
+
+pub part_rows-more : (v : View) (left top w n : ℕ) → part_rows v left top w (suc n) ≡ part_rows v left top w n ++ part_row v left w (top + n)
+part_rows-more v left top w n = range_more (λ y. part_row v left w (top + y)) 0 n
+
 pub length-part_rows : (v : View) (left top w n : ℕ) → length (part_rows v left top w n) ≡ n * w
 length-part_rows v left top w zero = omega arith
 length-part_rows v left top w (suc n) =
-    length-append (part_rows v left top w n) (part_row v left w (top + n))
+    ap (λ (rows : List Glyph). length rows) (part_rows-more v left top w n)
+    ∙ length-append (part_rows v left top w n) (part_row v left w (top + n))
     ∙ omega (arith, length-part_rows v left top w n, length-padded w (drop left (row_of v.size.w v.rows (top + n))))
 
 -- the cursor stands inside
@@ -113,7 +130,9 @@ by_row v left top w n x y k a b before false e =
 cell_by : (v : View) (left top w n x y : ℕ) → IsWhole v → x < w → y < n
     → get_or (part_rows v left top w n) (y * w + x) blank_cell ≡ cell_at v (left + x) (top + y)
 cell_by v left top w zero x y k a b = absurd (omega arith)
-cell_by v left top w (suc n) x y k a b = by_row v left top w n x y k a b (λ l. cell_by v left top w n x y k a l) (nat_lt y n) refl
+cell_by v left top w (suc n) x y k a b =
+    ap (λ (rows : List Glyph). get_or rows (y * w + x) blank_cell) (part_rows-more v left top w n)
+    ∙ by_row v left top w n x y k a b (λ l. cell_by v left top w n x y k a l) (nat_lt y n) refl
 
 pub part_cell : (v : View) (size : Size) (x y : ℕ) → IsWhole v → x < size.w → y < size.h
     → get_or (part v size).rows (y * size.w + x) blank_cell ≡ cell_at v (left_of v size.w + x) (top_of v size.h + y)

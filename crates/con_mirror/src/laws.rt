@@ -5,7 +5,8 @@ ghost use Rattle.con_units.specs.Glyph.{blank_cell};
 ghost use Rattle.con_units.specs.View.{IsWhole};
 ghost use Rattle.con_units.specs.declared.place.Size.{Size};
 ghost use Rattle.con_units.specs.declared.view.View.{View};
-ghost use Rattle.con_mirror.specs.Part.{cell_at, left_of, part, top_of};
+ghost use Rattle.con_mirror.specs.Part.{cell_at, part};
+ghost use Rattle.con_mirror.specs.Parts.{left_of, top_of};
 
 /// A part has all its cells, and its cursor inside. Each cell is the view's at the same place from the corner on, or a space past it.
 pub fn is_seen_by_cells()

@@ -3,7 +3,8 @@ ghost use Rattle.std.specs.Prelude.{◌≡◌, ℕ, ◌+◌, ◌*◌, ◌<◌, �
 ghost use Rattle.con_units.specs.Glyph.{blank_cell};
 ghost use Rattle.con_units.specs.Natural.{natural};
 ghost use Rattle.con_units.specs.View.{row_of, IsWhole};
-ghost use Rattle.con_mirror.specs.Part.{corner, cursor_from, left_of, padded, part, part_rows, top_of};
+ghost use Rattle.con_mirror.specs.Part.{corner, part};
+ghost use Rattle.con_mirror.specs.Parts.{cursor_from, left_of, padded, part_rows, top_of};
 ghost use Rattle.con_mirror.specs.Inside.{IsSince};
 
 use con_units::{Attr, Cell, Coord, Marks, Size, View, index_of};

@@ -1,4 +1,4 @@
-use Rattle.con_mirror.specs.Part.{padded}
+use Rattle.con_mirror.specs.Parts.{padded}
 use Rattle.con_mirror.proofs.RowLemmas.{stays}
 use Rattle.con_mirror.proofs.part.renew_if.Goals as goal
 

@@ -1,5 +1,5 @@
 use Rattle.std.proofs.Common.{refl}
-use Rattle.con_mirror.specs.Part.{padded}
+use Rattle.con_mirror.specs.Parts.{padded}
 use Rattle.con_mirror.proofs.RowLemmas.{stands_there, stays}
 use Rattle.con_mirror.proofs.part.renew_row.Goals as goal
 

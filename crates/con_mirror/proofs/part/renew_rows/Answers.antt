@@ -1,6 +1,7 @@
 use Rattle.std.proofs.Common.{◌≡◌, ◌+◌, ℕ, List, ap, ◌∙◌, subst, arith}
 use Rattle.con_units.specs.Glyph.{Glyph}
-use Rattle.con_mirror.specs.Part.{padded, part_row}
+use Rattle.con_mirror.specs.Part.{part_row}
+use Rattle.con_mirror.specs.Parts.{padded}
 use Rattle.con_mirror.proofs.RowLemmas.{Renewed, renewed_none, renewed_room, renewed_more, renewed_same, renewed_stands, rows_all}
 use Rattle.con_mirror.proofs.part.renew_rows.Goals as goal
 
