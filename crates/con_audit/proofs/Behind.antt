@@ -25,7 +25,8 @@ use Rattle.con_machine.specs.Sights.{sights_of, sights_at}
 use Rattle.con_machine.specs.State.{State, opening}
 use Rattle.con_machine.specs.Step.{step, effect, is_ready, is_due, is_served, is_actors, is_clients}
 use Rattle.con_machine.specs.Turns.{moved, turns, turn_of, is_pending, is_paint, is_client, is_terminal, sent, has_ended}
-use Rattle.con_audit.specs.Audit.{Given, IsReplied}
+use Rattle.con_audit.specs.Audit.{Given}
+use Rattle.con_audit.specs.Verdicts.{IsReplied}
 use Rattle.con_audit.specs.OneMore.{state_after, client_now, sender_after, asks_after, watch_after, HasReply, Keeps, MayEnter}
 use Rattle.con_audit.specs.Side.{Side}
 use Rattle.con_audit.specs.Track.{turn}

@@ -5,7 +5,8 @@ use Rattle.std.proofs.lemmas.List.{take_more, take_all}
 use Rattle.con_units.specs.declared.code.OutOfMemory.{OutOfMemory}
 use Rattle.con_units.specs.declared.view.Frame.{Frame}
 use Rattle.con_events.specs.declared.entry.Entry.{Entry}
-use Rattle.con_audit.specs.Audit.{Given, Holds, HoldAll, FirstFails, Passes, Stops, AreFrames, IsVerdict, IsAudited, parts}
+use Rattle.con_audit.specs.Audit.{Given, Holds, FirstFails, Passes, AreFrames, IsVerdict, IsAudited, parts}
+use Rattle.con_audit.specs.Verdicts.{HoldAll, Stops}
 use Rattle.con_audit.specs.Judging.{KeepAll, FailsToKeep, Judges}
 use Rattle.con_audit.specs.declared.verdict.What.{What}
 use Rattle.con_audit.specs.declared.verdict.What.TheVariants as what

@@ -1,6 +1,6 @@
 -- What an audit asks, and its verdict.
-use Rattle.std.specs.Prelude.{◌≡◌, ◌⊎◌, ℕ, ◌+◌, ◌<◌, true, List, [], ◌∷◌, ◌++◌, length, take, flat_map, Some}
-use Rattle.std.specs.List.{list_all}
+use Rattle.std.specs.Prelude.{◌≡◌, ◌⊎◌, ℕ, ◌+◌, ◌<◌, true, List, [], ◌∷◌, ◌++◌, length, take, flat_map, fold, Some}
+use Rattle.std.specs.List.{list_all, AllByRecursion}
 use Rattle.con_units.specs.declared.view.Frame.{Frame}
 use Rattle.con_link.specs.Frames.{spelling, is_frame, goes_on, IsLink, Shows}
 use Rattle.con_units.specs.declared.view.FrameFault.{FrameFault}
@@ -45,18 +45,14 @@ pub record AreFrames (link : List ℕ) (frames : List Frame) : Type 0 where
 -- ---- the parts that a front of the entries must keep
 
 -- a Paint's reply tells nothing; every other one is the console's
-abbrev pub IsReplied : State → Entry → Reply → Type 0
-IsReplied s x r = (is_paint x.event ≡ true) ⊎ (r ≡ (step s x.actor x.event).reply)
-
 abbrev pub AreReplied : State → List Entry → List Reply → Type 0
 AreReplied s [] rs = Unit {0}
 AreReplied s (x ∷ xs) [] = ⊥
-AreReplied s (x ∷ xs) (r ∷ rs) = IsReplied s x r × AreReplied (moved s x) xs rs
+AreReplied s (x ∷ xs) (r ∷ rs) = ((is_paint x.event ≡ true) ⊎ (r ≡ (step s x.actor x.event).reply)) × AreReplied (moved s x) xs rs
 
 -- where the last piece ends
 abbrev pub last_end : ℕ → List ℕ → ℕ
-last_end n [] = n
-last_end n (e ∷ es) = last_end e es
+last_end n es = fold (λ before e. e) n es
 
 abbrev pub Holds : What → Given → List Frame → List Entry → Type 0
 Holds what.Ready g frames h = is_legal (session_start g.session g.racks) h ≡ true
@@ -70,12 +66,8 @@ Holds what.Whole g frames h = (last_end 0 g.ends ≡ length g.stream) × IsWhole
 abbrev pub parts : List What
 parts = what.Ready ∷ what.Reply ∷ what.Follows ∷ what.End ∷ what.Shows ∷ []
 
-abbrev pub HoldAll : List What → Given → List Frame → List Entry → Type 0
-HoldAll [] g frames h = Unit {0}
-HoldAll (w ∷ ws) g frames h = Holds w g frames h × HoldAll ws g frames h
-
 abbrev pub Passes : Given → List Frame → List Entry → Type 0
-Passes g frames h = HoldAll parts g frames h
+Passes g frames h = AllByRecursion (λ w. Holds w g frames h) parts
 
 -- w is the first of these that does not hold
 abbrev pub FirstFails : List What → What → Given → List Frame → List Entry → Type 0
@@ -84,15 +76,12 @@ FirstFails (v ∷ vs) w g frames h = ((v ≡ w) × ¬ (Holds v g frames h)) ⊎ 
 
 -- ---- the verdict
 
--- the entries before place k pass
-abbrev pub Stops : Given → List Frame → ℕ → What → Type 0
-Stops g frames k w = Passes g frames (take k g.entries) ×
-    (((k < length g.entries) × FirstFails parts w g frames (take (k + 1) g.entries))
-    ⊎ ((k ≡ length g.entries) × (w ≡ what.Whole) × ¬ (Holds what.Whole g frames g.entries)))
-
+-- a no names the first place before which the entries pass, and what fails with the next one, or behind all
 abbrev pub IsVerdict : Given → List Frame → Verdict → Type 0
 IsVerdict g frames verdicts.Yes = Passes g frames g.entries × Holds what.Whole g frames g.entries
-IsVerdict g frames (verdicts.No k w) = Stops g frames k w
+IsVerdict g frames (verdicts.No k w) = Passes g frames (take k g.entries) ×
+    (((k < length g.entries) × FirstFails parts w g frames (take (k + 1) g.entries))
+    ⊎ ((k ≡ length g.entries) × (w ≡ what.Whole) × ¬ (Holds what.Whole g frames g.entries)))
 
 -- the link's frames are told by its bytes
 abbrev pub IsAudited : Given → Verdict → Type 0

@@ -8,6 +8,7 @@ pub mod Audit
 pub mod Headline
 pub mod OneMore
 -- The code's own words.
+pub mod Verdicts
 pub mod Side
 pub mod Links
 pub mod Track

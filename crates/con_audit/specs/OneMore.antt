@@ -14,7 +14,8 @@ use Rattle.con_machine.specs.Client.{Client, May, client_after}
 use Rattle.con_machine.specs.Follows.{session_start, is_one_of, steps_of, kinds_of, Sender, MaySend, sent_one, asks}
 use Rattle.con_machine.specs.Sights.{sights_of, sights_at}
 use Rattle.con_audit.specs.Watching.{Watch, watching, watched, HasEnd, IsSeen}
-use Rattle.con_audit.specs.Audit.{Given, IsReplied, Holds}
+use Rattle.con_audit.specs.Audit.{Given, Holds}
+use Rattle.con_audit.specs.Verdicts.{IsReplied}
 use Rattle.con_audit.specs.declared.verdict.What.{What}
 use Rattle.con_audit.specs.declared.verdict.What.TheVariants as what
 

@@ -18,7 +18,8 @@ use Rattle.con_machine.specs.State.{State}
 use Rattle.con_machine.specs.Step.{is_ready}
 use Rattle.con_machine.specs.Turns.{Turn, turns, turn_of, sent, moved, is_client, is_terminal}
 use Rattle.con_link.specs.Only.{OneAnswer}
-use Rattle.con_audit.specs.Audit.{Given, AreFrames, AreReplied, IsReplied, Holds, HoldAll, FirstFails, Passes, Stops, IsAudited, parts}
+use Rattle.con_audit.specs.Audit.{Given, AreFrames, AreReplied, Holds, FirstFails, Passes, IsAudited, parts}
+use Rattle.con_audit.specs.Verdicts.{IsReplied, HoldAll, Stops}
 use Rattle.con_audit.specs.Watching.{Watch, watching, watched, HasEnd, IsSeen}
 use Rattle.con_audit.specs.declared.verdict.What.{What}
 use Rattle.con_audit.specs.declared.verdict.What.TheVariants as what
