@@ -8,7 +8,8 @@ ghost use Rattle.con_audit.specs.Track.{stance_of, turn};
 ghost use Rattle.con_events.specs.declared.event.Event.TheVariants as events;
 
 use crate::chain::{Link, deliver, without};
-use con_events::{Call, Event, Reply, Step, same_call, same_wanted};
+use con_copies::{same_call, same_wanted};
+use con_events::{Call, Event, Reply, Step};
 use con_units::OutOfMemory;
 use std::alloc::Global;
 use std::marker::Model;

@@ -15,8 +15,6 @@
 //! report have one table, and what is told is what is read. Input records have a table too (`specs/RecordTable`), read by [`read_record`] and shown by
 //! [`tell_record`].
 //!
-//! [`same_event`], [`same_call`], [`same_wanted`] and [`same_reply`] tell whether two are the same; [`copied_call`] and [`copied_wanted`] make another.
-//!
 //! Nothing is promised here of what an event does.
 #![tactic(auto)]
 
@@ -32,10 +30,9 @@ macro_rules! given {
 }
 
 pub mod actor;
-mod args;
+pub mod args;
 pub mod arguments;
 pub mod call;
-mod copying;
 pub mod end;
 pub mod entry;
 pub mod event;
@@ -44,15 +41,14 @@ mod names;
 pub mod reading;
 pub mod recording;
 pub mod reply;
-pub mod same;
 pub mod script;
 pub mod session;
 pub mod telling;
 
 pub use actor::Actor;
 pub use arguments::{Arguments, Misread};
+pub use args::{Args, arguments_of};
 pub use call::{Call, Words};
-pub use copying::{copied_call, copied_wanted};
 pub use end::End;
 pub use entry::Entry;
 pub use event::{Event, Wanted};
@@ -60,7 +56,6 @@ pub use history::{Entries, PieceEnds, Replies};
 pub use reading::{read_call, whole_call};
 pub use recording::{read_record, record_name, tell_record, whole_record};
 pub use reply::{Lines, Numbers, Reply};
-pub use same::{same_call, same_event, same_reply, same_wanted};
 pub use script::{Script, Scripts, Step, Steps};
 pub use session::Session;
 pub use telling::{Shows, name, tell};

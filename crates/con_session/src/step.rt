@@ -10,7 +10,8 @@ ghost use Rattle.con_session.specs.Worker.{HandsStandBy, is_handlers};
 use crate::door::Door;
 use crate::hands::Hands;
 use crate::worker::{Worker, is_granted, leave};
-use con_events::{Actor, Call, Event, Step, Wanted, copied_call, copied_wanted};
+use con_copies::{copied_call, copied_wanted};
+use con_events::{Actor, Call, Event, Step, Wanted};
 use con_outside::Gate;
 use con_units::OutOfMemory;
 

@@ -1,5 +1,6 @@
 // A client's thread, at a console under a mutex.
-use con_events::{Actor, Call, Event, Step, copied_call};
+use con_copies::copied_call;
+use con_events::{Actor, Call, Event, Step};
 use con_machine::Console;
 use con_units::OutOfMemory;
 use std::sync::{Mutex, Wait};

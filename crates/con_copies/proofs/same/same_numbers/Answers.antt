@@ -1,7 +1,7 @@
 -- Lists are the same where their numbers are.
 use Rattle.std.proofs.lemmas.Slice.Eq.{slice_eq-Decides}
 use Rattle.std.proofs.lemmas.Bool.Decides.{Decides-int_eq}
-use Rattle.con_events.proofs.same.same_numbers.Goals as goal
+use Rattle.con_copies.proofs.same.same_numbers.Goals as goal
 
 pub returns : goal.returns
 returns c = slice_eq-Decides Decides-int_eq _ _ _ c.eq.ensures

@@ -1,12 +1,9 @@
 //! Whether two events are the same, or two of their parts, or two replies.
 ghost use Rattle.std.specs.Prelude.{◌≡◌, ◌↔◌, true};
-ghost use Rattle.con_events.specs.Shapes.{shape_of, told};
+ghost use Rattle.con_events.specs.Shapes.{told};
+ghost use Rattle.con_copies.specs.Shapes.{shape_of};
 
-use crate::args::{Args, arguments_of};
-use crate::call::{Call, Words};
-use crate::event::{Event, Wanted};
-use crate::reply::Reply;
-use crate::telling::name;
+use con_events::{Args, Call, Event, Reply, Wanted, Words, arguments_of, name};
 use con_records::Record;
 use con_units::{Bytes, Cell, Rect, Units, View};
 

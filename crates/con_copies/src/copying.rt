@@ -1,8 +1,7 @@
 //! Copies of what a script says.
 ghost use Rattle.std.specs.Prelude.{◌≡◌, IfOk};
 
-use crate::call::{Call, Words};
-use crate::event::Wanted;
+use con_events::{Call, Wanted, Words};
 use con_records::Taken;
 use con_units::OutOfMemory;
 

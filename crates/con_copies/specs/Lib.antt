@@ -1,0 +1,2 @@
+-- The code's own words.
+pub mod Shapes
