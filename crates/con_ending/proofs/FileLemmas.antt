@@ -5,8 +5,8 @@ use Rattle.std.specs.Char.Utf16.{utf16_lossy_chars}
 use Rattle.std.specs.Str.{encode_utf8_all}
 use Rattle.con_script.specs.declared.place.SessionFault.{SessionFault}
 use Rattle.con_script.specs.declared.place.SessionFault.TheVariants as faults
-use Rattle.con_script.specs.Document.{IsDocument, json_of}
-use Rattle.con_script.specs.Units.{text_units}
+use Rattle.con_document.specs.Document.{IsDocument, json_of}
+use Rattle.con_document.specs.Units.{text_units}
 use Rattle.con_script.specs.Places.{IsJson, IsAt}
 use Rattle.con_lines.specs.Ending.{worded}
 use Rattle.con_ending.specs.declared.file.Unrun.{Unrun}

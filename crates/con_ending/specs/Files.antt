@@ -3,8 +3,8 @@ use Rattle.std.specs.Prelude.{◌≡◌, ◌⊎◌, ℕ, ◌≤◌, List, length
 use Rattle.con_events.specs.Session.{Clients}
 use Rattle.con_outside.specs.Outside.{then_written, WroteFront, WrotePart}
 use Rattle.con_outside.specs.Named.{IsTooLong}
-use Rattle.con_script.specs.Document.{IsDocument, json_of}
-use Rattle.con_script.specs.Units.{text_units}
+use Rattle.con_document.specs.Document.{IsDocument, json_of}
+use Rattle.con_document.specs.Units.{text_units}
 use Rattle.con_lines.specs.Ending.{Ending, worded, status_of, ending_of, ending_text}
 use Rattle.con_lines.specs.Line.{ended}
 use Rattle.con_ending.specs.declared.file.Unrun.{Unrun}

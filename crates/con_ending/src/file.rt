@@ -2,7 +2,7 @@
 
 ghost use Rattle.std.specs.Prelude.{◌≡◌, ◌≤◌, ℕ, List, Ok, IfOk, IfErr};
 ghost use Rattle.con_outside.specs.Outside.{Rose};
-ghost use Rattle.con_script.specs.Document.{IsDocument};
+ghost use Rattle.con_document.specs.Document.{IsDocument};
 ghost use Rattle.con_lines.specs.Ending.{ending_of, status_of};
 ghost use Rattle.con_ending.specs.Files.{IsFile, Explains, Misread, Tells};
 

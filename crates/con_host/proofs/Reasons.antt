@@ -3,8 +3,8 @@ use Rattle.std.proofs.Common.{◌≡◌, inl, inr, sym, subst, ap, ◌∙◌, ar
 use Rattle.std.specs.Prelude.{IfSome, Result, Ok, Err, unwrap_or}
 use Rattle.con_events.specs.Session.{Clients}
 use Rattle.con_outside.specs.Named.{IsTooLong}
-use Rattle.con_script.specs.Document.{IsDocument, json_of}
-use Rattle.con_script.specs.StepLaws.{no_document, one_document}
+use Rattle.con_document.specs.Document.{IsDocument, json_of}
+use Rattle.con_document.specs.StepLaws.{no_document, one_document}
 use Rattle.con_lines.specs.Ending.{Ending, status_of}
 use Rattle.con_host.specs.Foretold.{IsSession}
 use Rattle.con_ending.specs.Files.{Holds, IsFile, Reason, missing, unread, too_long, no_json, no_session, Tells, ending_for}

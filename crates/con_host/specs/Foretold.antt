@@ -9,7 +9,7 @@ use Rattle.con_link.specs.declared.fault.LinkFault.TheVariants as faults
 use Rattle.con_events.specs.Session.{Clients}
 use Rattle.con_events.specs.declared.end.End.{End}
 use Rattle.con_events.specs.declared.end.End.TheVariants as ends
-use Rattle.con_script.specs.Document.{IsDocument}
+use Rattle.con_document.specs.Document.{IsDocument}
 use Rattle.con_session.specs.Sender.{all_go_on}
 
 -- The link's bytes, read in this way, are frames, one after another from its first byte and none of them an X, and behind them stands what is answered so.

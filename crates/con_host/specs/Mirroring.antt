@@ -6,7 +6,7 @@ use Rattle.con_events.specs.declared.end.End.TheVariants as ends
 use Rattle.con_events.specs.declared.entry.Entry.{Entry}
 use Rattle.con_events.specs.declared.reply.Reply.{Reply}
 use Rattle.con_outside.specs.Outside.{then_written, WroteFront}
-use Rattle.con_script.specs.Document.{IsDocument}
+use Rattle.con_document.specs.Document.{IsDocument}
 use Rattle.con_machine.specs.Follows.{session_start}
 use Rattle.con_laws.specs.Once.{TakenOnce}
 use Rattle.con_session.specs.Second.{IsMirrorOutcome}

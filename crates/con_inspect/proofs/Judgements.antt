@@ -4,8 +4,8 @@ use Rattle.std.specs.Prelude.{Ok, Err, Result, replicate}
 use Rattle.con_events.specs.Session.{Clients}
 use Rattle.con_link.specs.Only.{OneAnswer}
 use Rattle.con_outside.specs.Named.{IsTooLong}
-use Rattle.con_script.specs.Document.{IsDocument}
-use Rattle.con_script.specs.StepLaws.{no_document, one_document}
+use Rattle.con_document.specs.Document.{IsDocument}
+use Rattle.con_document.specs.StepLaws.{no_document, one_document}
 use Rattle.con_lines.specs.Ending.{Ending, status_of}
 use Rattle.con_trace.specs.Report.{History, IsReport, IsWrongAt, NoneIsWrong, ReportTells, history_of}
 use Rattle.con_trace.specs.declared.trace.Trace.{Trace}

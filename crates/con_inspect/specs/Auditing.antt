@@ -2,7 +2,7 @@
 use Rattle.std.specs.Prelude.{◌≡◌, ◌⊎◌, ℕ, List, Option, Some, Ok}
 use Rattle.con_events.specs.Session.{Clients}
 use Rattle.con_outside.specs.Outside.{then_written, WrotePart}
-use Rattle.con_script.specs.Document.{IsDocument}
+use Rattle.con_document.specs.Document.{IsDocument}
 use Rattle.con_trace.specs.Audit.{a_run, found_text}
 use Rattle.con_lines.specs.Ending.{status_of}
 use Rattle.con_lines.specs.Line.{ended}

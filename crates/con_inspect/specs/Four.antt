@@ -1,7 +1,7 @@
 -- Four files by name, and why there is nothing to audit.
 use Rattle.std.specs.Prelude.{◌≡◌, ◌⊎◌, ℕ, Bool, true, false, List, [], ◌∷◌, Option, IfSome, Some, None, Err}
 use Rattle.con_outside.specs.Named.{IsTooLong}
-use Rattle.con_script.specs.Document.{IsDocument, json_of}
+use Rattle.con_document.specs.Document.{IsDocument, json_of}
 use Rattle.con_lines.specs.Ending.{ending_of}
 use Rattle.con_ending.specs.Files.{IsFile, Reason, missing, unread, too_long, no_json, no_session, Holds, ending_for}
 use Rattle.con_ending.specs.declared.file.Unrun.{Unrun}

@@ -2,7 +2,7 @@
 
 ghost use Rattle.std.specs.Prelude.{◌≡◌, ◌≤◌, ◌++◌, [], ◌∷◌, length, replicate, Ok, IfOk, IfErr};
 ghost use Rattle.con_events.specs.Session.{Clients};
-ghost use Rattle.con_script.specs.Document.{IsDocument};
+ghost use Rattle.con_document.specs.Document.{IsDocument};
 ghost use Rattle.con_trace.specs.Report.{IsReport};
 ghost use Rattle.con_ending.specs.Files.{Misread};
 ghost use Rattle.con_inspect.specs.Finding.{kinds, Finds};

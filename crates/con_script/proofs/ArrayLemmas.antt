@@ -6,7 +6,7 @@ use borrow.Author.Tests.{leb-true}
 use Rattle.con_events.specs.Session.{is_within}
 use Rattle.serde_json.specs.View.{items_view}
 use Rattle.serde_json.specs.declared.value.Value.{Value}
-use Rattle.con_script.specs.Session.{count, within}
+use Rattle.con_document.specs.Session.{count, within}
 
 count_is : (vs : List Value) → count (items_view vs) ≡ length vs
 count_is [] = refl

@@ -7,10 +7,10 @@ use Rattle.std.proofs.lemmas.Str.{IsUtf8-from_is_utf8, is_utf8-from_IsUtf8}
 use Rattle.con_events.specs.Session.{Clients}
 use Rattle.serde_json.specs.Data.{Data}
 use Rattle.serde_json.specs.Read.{read}
-use Rattle.con_script.specs.Session.{Where, path_bytes, session_in}
-use Rattle.con_script.specs.Steps.{step_in}
-use Rattle.con_script.specs.Document.{IsDocument, json_of}
-use Rattle.con_script.specs.StepLaws.{is_document}
+use Rattle.con_document.specs.Session.{Where, path_bytes, session_in}
+use Rattle.con_document.specs.Steps.{step_in}
+use Rattle.con_document.specs.Document.{IsDocument, json_of}
+use Rattle.con_document.specs.StepLaws.{is_document}
 
 choice : {A : Type 0} (b : Bool) (o : Option A) → (b ≡ true → o ≡ None) → (if b then o else None) ≡ None
 choice true o h = h refl

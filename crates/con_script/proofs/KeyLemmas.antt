@@ -5,7 +5,7 @@ use Rattle.std.specs.Prelude.{unwrap_or, option_map, ◌||◌, cond, not, is_som
 use Rattle.std.specs.Str.{bytes_eq}
 use Rattle.serde_json.specs.Data.{Data, null, boolean, number, string, array, object, Members, no_members}
 use Rattle.serde_json.specs.Find.{get, as_object}
-use Rattle.con_script.specs.Session.{whole, key, keys_spot, first_missing, first_unknown, is_among, or_else}
+use Rattle.con_document.specs.Session.{whole, key, keys_spot, first_missing, first_unknown, is_among, or_else}
 
 pub not_object : (ks : List (List ℕ)) (d : Data) → None ≡ as_object d → keys_spot ks d ≡ Some whole
 not_object ks null is = refl

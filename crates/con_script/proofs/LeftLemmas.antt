@@ -5,7 +5,7 @@ use Rattle.std.proofs.lemmas.Bool.Decides.{nat_tests}
 use Rattle.con_events.specs.Reading.{nothing_left}
 use Rattle.serde_json.specs.View.{items_view}
 use Rattle.serde_json.specs.declared.value.Value.{Value}
-use Rattle.con_script.specs.Values.{arguments}
+use Rattle.con_document.specs.Values.{arguments}
 
 pub no_arguments : (vs : List Value) → (length vs == 0) ≡ nothing_left (arguments (items_view vs))
 no_arguments [] = refl

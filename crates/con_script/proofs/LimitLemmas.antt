@@ -9,10 +9,10 @@ use Rattle.con_events.specs.Session.{Clients, is_within, is_size, is_script, all
 use Rattle.con_values.specs.Values.{below}
 use Rattle.serde_json.specs.Data.{Data, Items, no_items, item}
 use Rattle.serde_json.specs.Find.{as_array, as_number, as_u64}
-use Rattle.con_script.specs.declared.version.Version.{Version}
-use Rattle.con_script.specs.declared.version.Version.TheVariants.{One, Two}
-use Rattle.con_script.specs.Values.{text_in}
-use Rattle.con_script.specs.Session.{key, key_of, client, and_then, or_fault, unless, with_fault, each_from, count, within, array_within, keys_spot, client_keys, member_at, program_in, group_in, call_at, calls_in, script_in, size_of, size_items, size_in, most_clients, client_at, clients_in, few_calls, of_scripts}
+use Rattle.con_document.specs.declared.version.Version.{Version}
+use Rattle.con_document.specs.declared.version.Version.TheVariants.{One, Two}
+use Rattle.con_document.specs.Values.{text_in}
+use Rattle.con_document.specs.Session.{key, key_of, client, and_then, or_fault, unless, with_fault, each_from, count, within, array_within, keys_spot, client_keys, member_at, program_in, group_in, call_at, calls_in, script_in, size_of, size_items, size_in, most_clients, client_at, clients_in, few_calls, of_scripts}
 
 -- ---- what an answer without a fault says
 

@@ -8,8 +8,8 @@ use Rattle.con_values.specs.Cursors.{with_front}
 use Rattle.serde_json.specs.Data.{Data, no_items}
 use Rattle.serde_json.specs.View.{view, items_view}
 use Rattle.serde_json.specs.declared.value.Value.{Value}
-use Rattle.con_script.specs.Values.{units_items}
-use Rattle.con_script.specs.Session.{and_then, each_from}
+use Rattle.con_document.specs.Values.{units_items}
+use Rattle.con_document.specs.Session.{and_then, each_from}
 use Rattle.con_script.specs.Cursors.{after}
 
 -- a first number, and those of the rest

@@ -7,14 +7,14 @@ use Rattle.con_events.specs.declared.script.Step.{Step}
 use Rattle.con_events.specs.declared.script.Script.{Script}
 use Rattle.con_events.specs.Session.{session_of}
 use Rattle.serde_json.specs.Data.{Data}
-use Rattle.con_script.specs.declared.version.Version.{Version}
+use Rattle.con_document.specs.declared.version.Version.{Version}
 use Rattle.con_script.specs.declared.place.Halt.{Halt}
 use Rattle.con_script.specs.declared.place.Halt.TheVariants as halts
 use Rattle.con_script.specs.declared.place.Stop.{Stop}
 use Rattle.con_script.specs.declared.place.Stop.TheVariants as stops
 use Rattle.con_script.specs.Places.{Gives, Answers, Keeps, KeepsAll, StopsAt, seen, stands}
 use Rattle.con_script.proofs.LimitLemmas.{last_test}
-use Rattle.con_script.specs.Session.{Spot, key, Where, key_of, or_fault, as_where, keys_spot, client_keys, top_keys, member_at, program_in, group_in, calls_in, script_in, version_in, size_in, clients_in, session_in}
+use Rattle.con_document.specs.Session.{Spot, key, Where, key_of, or_fault, as_where, keys_spot, client_keys, top_keys, member_at, program_in, group_in, calls_in, script_in, version_in, size_in, clients_in, session_in}
 
 -- a refusal that is handed on
 abbrev Through : {B : Type 0} {F : Type 0} → Result B F → F → Type 0

@@ -2,7 +2,7 @@
 use Rattle.std.proofs.Common.{◌≡◌, ◌<◌, ◌≤◌, List, [], ◌∷◌, length, refl, arith, None}
 use Rattle.serde_json.specs.View.{items_view}
 use Rattle.serde_json.specs.declared.value.Value.{Value}
-use Rattle.con_script.specs.Session.{size_items}
+use Rattle.con_document.specs.Session.{size_items}
 
 pub short_size : (vs : List Value) → length vs < 2 → None ≡ size_items (items_view vs)
 short_size [] h = refl

@@ -6,7 +6,7 @@ use Rattle.con_events.specs.declared.script.Step.{Step}
 use Rattle.con_events.specs.declared.script.Step.TheVariants as steps
 use Rattle.con_events.specs.Table.{Row}
 use Rattle.con_events.specs.Reading.{Item, row_from, args_from}
-use Rattle.con_script.specs.Steps.{as_step}
+use Rattle.con_document.specs.Steps.{as_step}
 
 mapped : {A B C : Type 0} (f : A → B) (g : B → C) (o : Option A) → option_map (λ a. g (f a)) o ≡ option_map g (option_map f o)
 mapped f g None = refl

@@ -10,7 +10,7 @@ use Rattle.con_script.specs.declared.place.Stop.{Stop}
 use Rattle.con_script.specs.declared.place.Stop.TheVariants as stops
 use Rattle.con_script.specs.declared.place.SessionFault.{SessionFault}
 use Rattle.con_script.specs.declared.place.SessionFault.TheVariants as faults
-use Rattle.con_script.specs.Session.{Spot, whole, key, call, Where, all, key_of, client}
+use Rattle.con_document.specs.Session.{Spot, whole, key, call, Where, all, key_of, client}
 
 abbrev pub seen : Place → Spot
 seen places.Whole = whole

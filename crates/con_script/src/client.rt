@@ -3,15 +3,15 @@
 ghost use Rattle.std.specs.Prelude.{◌≡◌, Some, None, IfOk, IfErr, codes};
 ghost use Rattle.con_events.specs.Reading.{IsForm};
 ghost use Rattle.serde_json.specs.View.{view, items_view};
-ghost use Rattle.con_script.specs.Session.{key, or_fault, member_at, program_in, group_in, call_at, each_from, calls_in, script_in};
-ghost use Rattle.con_script.specs.Steps.{step_in};
+ghost use Rattle.con_document.specs.Session.{key, or_fault, member_at, program_in, group_in, call_at, each_from, calls_in, script_in};
+ghost use Rattle.con_document.specs.Steps.{step_in};
 ghost use Rattle.con_script.specs.Places.{Gives};
 
 use crate::keys::{array_at, check_keys, halt_at};
 use crate::lists::text;
 use crate::place::{Halt, Place};
 use crate::steps::step;
-use crate::version::Version;
+use con_document::Version;
 use con_events::{Misread, Script, Step, Steps};
 use con_units::Units;
 use con_values::number;
@@ -99,7 +99,7 @@ fn steps_of(alloc: Global, version: Version, items: &[Value]) -> Result<Steps, H
     Ok(Steps(steps))
 }
 
-#[tactic(auto, unfolding(crate::specs::Session::calls_in))]
+#[tactic(auto, unfolding(con_document::specs::Session::calls_in))]
 fn steps(alloc: Global, version: Version, value: &Value) -> Result<Steps, Halt>
     ensures { Gives result (calls_in (step_in version) (member_at (codes "calls") (view value.now))) }
 {

@@ -2,7 +2,7 @@
 
 ghost use Rattle.std.specs.Prelude.{◌≡◌};
 ghost use Rattle.serde_json.specs.View.{items_view};
-ghost use Rattle.con_script.specs.Values.{arguments};
+ghost use Rattle.con_document.specs.Values.{arguments};
 
 use crate::lists::{list, text, words};
 use con_events::{Arguments, Misread, Words};

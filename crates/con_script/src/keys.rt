@@ -2,7 +2,7 @@
 
 ghost use Rattle.std.specs.Prelude.{◌≡◌, map, option_map};
 ghost use Rattle.serde_json.specs.View.{view, items_view, members_view};
-ghost use Rattle.con_script.specs.Session.{first_missing, first_unknown, is_among, keys_spot, member_at, within, array_within};
+ghost use Rattle.con_document.specs.Session.{first_missing, first_unknown, is_among, keys_spot, member_at, within, array_within};
 ghost use Rattle.con_script.specs.Places.{Keeps, HaltsAt};
 
 use crate::place::{Halt, Place};

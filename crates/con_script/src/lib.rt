@@ -3,10 +3,7 @@
 //! A document is a text of JSON: a version, the window's size, and for each client its program, its group and its calls.
 //! [`read_session`] gives the [`Session`](con_events::Session) that it is, or the place of its first fault.
 //!
-//! `specs/Readers` says which step a value of JSON is (`IsStep`): an array of its name and of its arguments, as a document writes them (`IsWritten`).
-//! `specs/Document` says in what order a document is read by a reader of steps, what the path of its first fault is (`document_of`), and what bytes are
-//! where steps are read so (`IsDocument`). The code's own words are `specs/Values` and `specs/Steps`, a reader by the rows of con_events' table, and
-//! `specs/Session`, with the places of faults; by `specs/StepLaws` that reader reads those steps, no other reader does, and what it finds is the document.
+//! What a document is, and the words in which the clauses here say what is read of it, are con_document's, with their laws.
 //!
 //! [`generated`] gives a large session from a number (`specs/Generated`).
 //!

@@ -3,7 +3,7 @@
 ghost use Rattle.std.specs.Prelude.{◌≡◌, Some, None, IfOk, IfErr};
 ghost use Rattle.con_events.specs.Reading.{IsForm};
 ghost use Rattle.serde_json.specs.View.{view, items_view};
-ghost use Rattle.con_script.specs.Values.{text_in, units_items, list_in, words_in};
+ghost use Rattle.con_document.specs.Values.{text_in, units_items, list_in, words_in};
 
 use crate::text::units_of;
 use con_events::{Misread, Words};

@@ -2,18 +2,19 @@
 
 ghost use Rattle.std.specs.Prelude.{◌≡◌, ◌<◌, ℕ, List, None, Ok, Err, IfOk, IfErr, codes, option_map};
 ghost use Rattle.serde_json.specs.View.{view, items_view};
-ghost use Rattle.con_script.specs.Session.{key_of, or_fault, member_at, size_items, size_in, between};
-ghost use Rattle.con_script.specs.Session.{as_where, keys_spot, top_keys, version_in, client_at, clients_in, each_from, path, session_in};
-ghost use Rattle.con_script.specs.Document.{IsDocument, json_of};
-ghost use Rattle.con_script.specs.Steps.{step_in};
-ghost use Rattle.con_script.specs.Units.{text_units};
+ghost use Rattle.con_document.specs.Session.{key_of, or_fault, member_at, size_items, size_in, between};
+ghost use Rattle.con_document.specs.Session.{as_where, keys_spot, top_keys, version_in, client_at, clients_in, each_from, path, session_in};
+ghost use Rattle.con_document.specs.Document.{IsDocument, json_of};
+ghost use Rattle.con_document.specs.Steps.{step_in};
+ghost use Rattle.con_document.specs.Units.{text_units};
 ghost use Rattle.con_script.specs.Places.{Answers, StopsAt, KeepsAll, IsJson, IsAt, stands};
 
 use crate::client::script;
 use crate::keys::{array_at, check_keys};
 use crate::place::{Halt, Place, SessionFault, Site, Stop};
 use crate::text::units_of;
-use crate::version::{Version, most_clients_of, read_version};
+use crate::version::{most_clients_of, read_version};
+use con_document::Version;
 use con_events::{Script, Scripts, Session};
 use con_units::{OutOfMemory, Size, Units};
 use serde_json::Value;
@@ -118,7 +119,7 @@ fn scripts_of(alloc: Global, version: Version, items: &[Value]) -> Result<Script
     Ok(Scripts(scripts))
 }
 
-#[tactic(auto, unfolding(crate::specs::Session::clients_in))]
+#[tactic(auto, unfolding(con_document::specs::Session::clients_in))]
 fn clients(alloc: Global, version: Version, value: &Value) -> Result<Scripts, Stop>
     ensures { Answers result (clients_in step_in version (member_at (codes "clients") (view value.now))) }
 {

@@ -4,16 +4,16 @@ ghost use Rattle.std.specs.Prelude.{◌≡◌, Some, None, IfOk, IfErr, codes};
 ghost use Rattle.con_events.specs.Reading.{IsForm, row_from, whole};
 ghost use Rattle.con_events.specs.Table.{row_of};
 ghost use Rattle.serde_json.specs.View.{view, items_view};
-ghost use Rattle.con_script.specs.Steps.{as_step, row_in_one, row_in_two, step_row, step_items, step_in};
+ghost use Rattle.con_document.specs.Steps.{as_step, row_in_one, row_in_two, step_row, step_items, step_in};
 
 use crate::cursor::Cursor;
-use crate::version::Version;
+use con_document::Version;
 use con_events::{Arguments, Misread, Step, Wanted, read_call};
 use con_values::ItemsLeft;
 use serde_json::Value;
 use std::alloc::Global;
 
-#[tactic(auto, unfolding(crate::specs::Steps::row_in_one))]
+#[tactic(auto, unfolding(con_document::specs::Steps::row_in_one))]
 fn read_begun<A: Arguments>(args: &mut A) -> Result<Step, Misread>
     ensures ok { IfOk result (λ s. row_from (row_in_one (codes "read")) (A.left args.old) ≡ Some (s, A.left args.new)) }
     ensures form { IfErr result (λ e. IsForm e → row_from (row_in_one (codes "read")) (A.left args.old) ≡ None) }
@@ -23,7 +23,7 @@ fn read_begun<A: Arguments>(args: &mut A) -> Result<Step, Misread>
     Ok(Step::Begin(Wanted::Read { handle, n }))
 }
 
-#[tactic(auto, unfolding(crate::specs::Steps::row_in_one))]
+#[tactic(auto, unfolding(con_document::specs::Steps::row_in_one))]
 fn input_read_begun<A: Arguments>(args: &mut A) -> Result<Step, Misread>
     ensures ok { IfOk result (λ s. row_from (row_in_one (codes "read-input")) (A.left args.old) ≡ Some (s, A.left args.new)) }
     ensures form { IfErr result (λ e. IsForm e → row_from (row_in_one (codes "read-input")) (A.left args.old) ≡ None) }
@@ -33,7 +33,7 @@ fn input_read_begun<A: Arguments>(args: &mut A) -> Result<Step, Misread>
     Ok(Step::Begin(Wanted::ReadInput { handle, n }))
 }
 
-#[tactic(auto, unfolding(crate::specs::Steps::row_in_one))]
+#[tactic(auto, unfolding(con_document::specs::Steps::row_in_one))]
 fn exit<A: Arguments>(args: &mut A) -> Result<Step, Misread>
     ensures ok { IfOk result (λ s. row_from (row_in_one (codes "exit")) (A.left args.old) ≡ Some (s, A.left args.new)) }
     ensures form { IfErr result (λ e. IsForm e → row_from (row_in_one (codes "exit")) (A.left args.old) ≡ None) }
@@ -68,7 +68,7 @@ fn first_step<A: Arguments>(name: &str, args: &mut A) -> Result<Step, Misread>
     }
 }
 
-#[tactic(auto, unfolding(crate::specs::Steps::row_in_two))]
+#[tactic(auto, unfolding(con_document::specs::Steps::row_in_two))]
 fn line_begun<A: Arguments>(args: &mut A) -> Result<Step, Misread>
     ensures ok { IfOk result (λ s. row_from (row_in_two (codes "read-with")) (A.left args.old) ≡ Some (s, A.left args.new)) }
     ensures form { IfErr result (λ e. IsForm e → row_from (row_in_two (codes "read-with")) (A.left args.old) ≡ None) }

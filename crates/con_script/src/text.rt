@@ -2,7 +2,7 @@
 
 ghost use Rattle.std.specs.Prelude.{◌≡◌, ◌++◌, IfOk};
 ghost use Rattle.std.specs.Char.Escape.{encode_utf16};
-ghost use Rattle.con_script.specs.Units.{text_units};
+ghost use Rattle.con_document.specs.Units.{text_units};
 
 use con_units::{OutOfMemory, Units};
 use std::alloc::Global;
@@ -28,7 +28,7 @@ fn push_character(units: &mut Vec<u16>, character: char) -> Result<(), OutOfMemo
 }
 
 /// The units of a text.
-#[tactic(auto, unfolding(crate::specs::Units::text_units))]
+#[tactic(auto, unfolding(con_document::specs::Units::text_units))]
 pub(crate) fn units_of(alloc: Global, text: &str) -> Result<Units, OutOfMemory>
     ensures { IfOk result (λ us. us ≡ text_units text.now) }
 {

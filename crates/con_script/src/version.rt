@@ -2,18 +2,10 @@
 
 ghost use Rattle.std.specs.Prelude.{◌≡◌};
 ghost use Rattle.serde_json.specs.View.{view};
-ghost use Rattle.con_script.specs.Session.{version_in, most_clients};
+ghost use Rattle.con_document.specs.Session.{version_in, most_clients};
 
+use con_document::Version;
 use serde_json::Value;
-
-/// How a document is to be read.
-#[derive(Clone, Copy, PartialEq, Eq)]
-pub enum Version {
-    /// At most 16 clients.
-    One,
-    /// At most 64 clients, which may begin a line with a text (`read-with`).
-    Two,
-}
 
 pub(crate) fn read_version(value: &Value) -> Option<Version>
     ensures { result ≡ version_in (view value.now) }

@@ -2,8 +2,8 @@
 
 ghost use Rattle.std.specs.Prelude.{◌≡◌, ◌↔◌, ℕ, List, IsTrue, Some, None, Ok, Err, IfOk, IfSome, IsSome, length};
 ghost use Rattle.con_events.specs.Session.{Clients};
-ghost use Rattle.con_script.specs.Document.{IsDocument, json_of};
-ghost use Rattle.con_script.specs.Units.{text_units};
+ghost use Rattle.con_document.specs.Document.{IsDocument, json_of};
+ghost use Rattle.con_document.specs.Units.{text_units};
 ghost use Rattle.con_script.specs.Generated.{session_drawn};
 
 use con_script::{SessionFault, generated, read_session};

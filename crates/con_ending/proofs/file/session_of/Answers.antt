@@ -1,6 +1,6 @@
 use Rattle.std.proofs.Common.{sym, subst}
 use Rattle.std.specs.Prelude.{Ok}
-use Rattle.con_script.specs.Document.{IsDocument}
+use Rattle.con_document.specs.Document.{IsDocument}
 use Rattle.con_ending.specs.Files.{IsFile}
 use Rattle.con_ending.proofs.FileLemmas.{explained_by, found_by}
 use Rattle.con_ending.proofs.file.session_of.Goals as goal

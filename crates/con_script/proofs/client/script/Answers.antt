@@ -1,4 +1,4 @@
-use Rattle.con_script.specs.Steps.{step_in}
+use Rattle.con_document.specs.Steps.{step_in}
 use Rattle.con_script.proofs.OrderLemmas.{halted, halted_keys, script_keys, script_program, script_group, script_steps, script_ok}
 use Rattle.con_script.proofs.client.script.Goals as goal
 

@@ -1,7 +1,7 @@
 use Rattle.std.proofs.Common.{length}
 use borrow.Author.Count.{falls}
-use Rattle.con_script.specs.Session.{call_at}
-use Rattle.con_script.specs.Steps.{step_in}
+use Rattle.con_document.specs.Session.{call_at}
+use Rattle.con_document.specs.Steps.{step_in}
 use Rattle.con_script.proofs.ListLemmas.{each_on, all_each, none_yet}
 use Rattle.con_script.proofs.client.steps_of.Goals as goal
 

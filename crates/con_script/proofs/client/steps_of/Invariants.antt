@@ -1,7 +1,7 @@
 use Rattle.std.proofs.Common.{◌≡◌, drop}
 use Rattle.serde_json.specs.View.{items_view}
-use Rattle.con_script.specs.Session.{each_from, call_at}
-use Rattle.con_script.specs.Steps.{step_in}
+use Rattle.con_document.specs.Session.{each_from, call_at}
+use Rattle.con_document.specs.Steps.{step_in}
 use Rattle.con_script.specs.Cursors.{after}
 use Rattle.con_script.proofs.client.steps_of.Given as goal
 

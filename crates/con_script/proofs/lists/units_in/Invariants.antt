@@ -1,6 +1,6 @@
 use Rattle.std.proofs.Common.{◌≡◌, drop}
 use Rattle.serde_json.specs.View.{items_view}
-use Rattle.con_script.specs.Values.{units_items}
+use Rattle.con_document.specs.Values.{units_items}
 use Rattle.con_values.specs.Cursors.{with_front}
 use Rattle.con_script.proofs.lists.units_in.Given as goal
 

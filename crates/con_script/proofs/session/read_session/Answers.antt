@@ -1,7 +1,7 @@
 use Rattle.std.proofs.Common.{◌∙◌, sym}
 use Rattle.std.proofs.lemmas.Bool.{false≢true}
 use Rattle.con_script.specs.Places.{stands}
-use Rattle.con_script.specs.Session.{path_bytes}
+use Rattle.con_document.specs.Session.{path_bytes}
 use Rattle.con_script.proofs.DocumentLemmas.{no_json, document_is}
 use Rattle.con_script.proofs.session.read_session.Goals as goal
 

@@ -2,8 +2,8 @@ use Rattle.std.proofs.Common.{◌∙◌, ap, sym}
 use Rattle.std.specs.Prelude.{Option, Result, codes}
 use Rattle.con_events.specs.Session.{Clients}
 use Rattle.serde_json.specs.View.{view}
-use Rattle.con_script.specs.Session.{Where, key_of, or_fault}
-use Rattle.con_script.specs.Steps.{step_in}
+use Rattle.con_document.specs.Session.{Where, key_of, or_fault}
+use Rattle.con_document.specs.Steps.{step_in}
 use Rattle.con_script.proofs.OrderLemmas.{stopped, stopped_keys, stopped_at, session_keys, session_version, session_size, session_clients, session_whole}
 use Rattle.con_script.proofs.session.session.Goals as goal
 

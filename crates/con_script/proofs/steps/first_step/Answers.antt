@@ -1,4 +1,4 @@
-use Rattle.con_script.specs.RowLaws.{of_calls}
+use Rattle.con_document.specs.RowLaws.{of_calls}
 use Rattle.con_script.proofs.steps.first_step.Goals as goal
 
 pub returns-in_default-clause-ok : goal.returns-in_default-clause-ok

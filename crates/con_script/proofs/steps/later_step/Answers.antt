@@ -1,4 +1,4 @@
-use Rattle.con_script.specs.RowLaws.{of_the_first}
+use Rattle.con_document.specs.RowLaws.{of_the_first}
 use Rattle.con_script.proofs.steps.later_step.Goals as goal
 
 pub returns-in_default-clause-ok : goal.returns-in_default-clause-ok

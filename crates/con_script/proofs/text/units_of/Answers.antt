@@ -3,7 +3,7 @@ use Rattle.std.specs.Prelude.{flat_map}
 use Rattle.std.specs.Char.Escape.{encode_utf16}
 use Rattle.std.proofs.lemmas.Iterator.{YieldsList-from_chars}
 use Rattle.std.proofs.lemmas.Iterator.Consumers.{YieldsList-end}
-use Rattle.con_script.specs.Units.{text_units}
+use Rattle.con_document.specs.Units.{text_units}
 use Rattle.con_script.proofs.text.units_of.Goals as goal
 
 map_same : (xs : List ℕ) → map (λ x. x) xs ≡ xs

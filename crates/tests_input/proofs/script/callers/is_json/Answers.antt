@@ -2,8 +2,8 @@ use Rattle.std.proofs.Common.{◌≡◌, refl, Option, Some, None, true}
 use Rattle.std.specs.Prelude.{is_some, Result, List, ℕ, IsSome}
 use Rattle.con_events.specs.Session.{Clients}
 use Rattle.serde_json.specs.Data.{Data}
-use Rattle.con_script.specs.Document.{IsDocument, json_of}
-use Rattle.con_script.specs.StepLaws.{no_document}
+use Rattle.con_document.specs.Document.{IsDocument, json_of}
+use Rattle.con_document.specs.StepLaws.{no_document}
 use Rattle.tests_input.proofs.script.callers.is_json.Goals as goal
 
 there : (o : Option Data) → (o ≡ None → ⊥) → is_some o ≡ true

@@ -18,10 +18,10 @@ use Rattle.con_values.specs.Values.{field, fields, record_items, record_in, reco
 use Rattle.con_lines.specs.Shown.{items, list_of, natural, whole, rect_data, record_data, shown}
 use Rattle.serde_json.specs.Data.{Data, null, boolean, number, string, array, object, unsigned, negative, float, Items, no_items, item}
 use Rattle.serde_json.specs.Find.{as_bool}
-use Rattle.con_script.specs.Values.{text_in, units_items, list_in, words_in, written}
-use Rattle.con_script.specs.Readers.{IsWritten}
-use Rattle.con_script.specs.PlainLaws.{is_plain, are_plain, and_then_keeps, map_keeps, weaker}
-use Rattle.con_script.specs.RowLaws.{IsShown, Names, ReadsAs, RowsTell, all_read, find_tells, items_listed, listed, row_read, zip_shown}
+use Rattle.con_document.specs.Values.{text_in, units_items, list_in, words_in, written}
+use Rattle.con_document.specs.Readers.{IsWritten}
+use Rattle.con_document.specs.PlainLaws.{is_plain, are_plain, and_then_keeps, map_keeps, weaker}
+use Rattle.con_document.specs.RowLaws.{IsShown, Names, ReadsAs, RowsTell, all_read, find_tells, items_listed, listed, row_read, zip_shown}
 
 -- ---- what is read is written
 

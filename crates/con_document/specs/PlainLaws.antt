@@ -16,11 +16,11 @@ use Rattle.serde_json.specs.Data.{Num, unsigned, negative, float, Data, null, bo
 use Rattle.serde_json.specs.Data.{Members, no_members, member, put}
 use Rattle.serde_json.specs.Find.{get_member}
 use Rattle.serde_json.specs.Read.{is_integer, float_of, number_from, number_of, of_json, of_items, of_members, max_depth, read}
-use Rattle.con_script.specs.declared.version.Version.{Version}
-use Rattle.con_script.specs.Document.{and_then, each_from, json_of, program_in}
-use Rattle.con_script.specs.Session.{key, call, key_of, client, or_fault, unless, with_fault, count, array_within}
-use Rattle.con_script.specs.Session.{keys_spot, member_at, client_keys, group_in, call_at, calls_in, script_in}
-use Rattle.con_script.specs.Session.{as_where, top_keys, version_in, size_in, most_clients, client_at, clients_in, of_scripts, session_in}
+use Rattle.con_document.specs.declared.version.Version.{Version}
+use Rattle.con_document.specs.Document.{and_then, each_from, json_of, program_in}
+use Rattle.con_document.specs.Session.{key, call, key_of, client, or_fault, unless, with_fault, count, array_within}
+use Rattle.con_document.specs.Session.{keys_spot, member_at, client_keys, group_in, call_at, calls_in, script_in}
+use Rattle.con_document.specs.Session.{as_where, top_keys, version_in, size_in, most_clients, client_at, clients_in, of_scripts, session_in}
 
 -- ---- facts of what is there
 

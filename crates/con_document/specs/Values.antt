@@ -9,7 +9,7 @@ use Rattle.con_events.specs.Reading.{Item}
 use Rattle.con_values.specs.Values.{number_in, unit_in, signed_in, rect_in, clip_in, records_in}
 use Rattle.serde_json.specs.Data.{Data, Items, no_items, item}
 use Rattle.serde_json.specs.Find.{as_bool, as_str, as_array}
-use Rattle.con_script.specs.Units.{text_units}
+use Rattle.con_document.specs.Units.{text_units}
 
 abbrev pub text_in : Data → Option (List ℕ)
 text_in d = option_map text_units (as_str d)

@@ -10,7 +10,7 @@ use Rattle.con_events.specs.Fits.{AreUnits, ArgFits}
 use Rattle.con_events.specs.Table.{name_of, args_of}
 use Rattle.con_lines.specs.Shown.{list_of, natural, shown}
 use Rattle.serde_json.specs.Data.{Data, string}
-use Rattle.con_script.specs.Units.{text_units}
+use Rattle.con_document.specs.Units.{text_units}
 
 -- the name of a step, and its arguments in order
 abbrev pub step_told : Step → List ℕ × List Arg

@@ -10,17 +10,17 @@ use Rattle.con_events.specs.Session.{Clients}
 use Rattle.con_events.specs.Table.{Row}
 use Rattle.con_lines.specs.Shown.{items, list_of}
 use Rattle.serde_json.specs.Data.{Data, string, array, Items, item}
-use Rattle.con_script.specs.declared.version.Version.{Version}
-use Rattle.con_script.specs.declared.version.Version.TheVariants.{One, Two}
-use Rattle.con_script.specs.Values.{arguments, written}
-use Rattle.con_script.specs.Steps.{row_in_one, step_row, step_in}
-use Rattle.con_script.specs.Readers.{IsWritten, Reads, step_told}
-use Rattle.con_script.specs.Session.{Where, path_bytes, session_in}
-use Rattle.con_script.specs.Document.{IsDocument, document_of, json_of}
-use Rattle.con_script.specs.PlainLaws.{is_plain, are_plain, read_plain, session_same}
-use Rattle.con_script.specs.RowLaws.{all_read, items_listed, listed, none_in_one, row_back, row_read, step_makes, steps_named}
-use Rattle.con_script.specs.ArgumentLaws.{all_plain, written_back, written_reads}
-use Rattle.con_script.specs.SessionLaws.{session_told, version_at}
+use Rattle.con_document.specs.declared.version.Version.{Version}
+use Rattle.con_document.specs.declared.version.Version.TheVariants.{One, Two}
+use Rattle.con_document.specs.Values.{arguments, written}
+use Rattle.con_document.specs.Steps.{row_in_one, step_row, step_in}
+use Rattle.con_document.specs.Readers.{IsWritten, Reads, step_told}
+use Rattle.con_document.specs.Session.{Where, path_bytes, session_in}
+use Rattle.con_document.specs.Document.{IsDocument, document_of, json_of}
+use Rattle.con_document.specs.PlainLaws.{is_plain, are_plain, read_plain, session_same}
+use Rattle.con_document.specs.RowLaws.{all_read, items_listed, listed, none_in_one, row_back, row_read, step_makes, steps_named}
+use Rattle.con_document.specs.ArgumentLaws.{all_plain, written_back, written_reads}
+use Rattle.con_document.specs.SessionLaws.{session_told, version_at}
 
 arguments_are : (ds : List Data) → arguments (items ds) ≡ map written ds
 arguments_are [] = refl

@@ -15,13 +15,13 @@ use Rattle.con_events.specs.Session.{Clients, is_within, step_count}
 use Rattle.serde_json.specs.Data.{Data, null, boolean, number, string, array, object, Items, no_items, item, Members, no_members, member}
 use Rattle.serde_json.specs.Events.{items_len}
 use Rattle.serde_json.specs.Find.{get, get_member, as_number, as_u64, as_array}
-use Rattle.con_script.specs.declared.version.Version.{Version}
-use Rattle.con_script.specs.declared.version.Version.TheVariants.{One, Two}
-use Rattle.con_script.specs.Document.{between, array_of, program_in, sides_of, and_then, each_from, first_other, keys_fault, script_of, document_of}
-use Rattle.con_script.specs.Session.{Spot, whole, key, call, key_of, client, or_fault, unless, with_fault, count, array_within}
-use Rattle.con_script.specs.Session.{first_missing, is_among, first_unknown, or_else, keys_spot, member_at, client_keys, group_in, call_at, calls_in, script_in}
-use Rattle.con_script.specs.Session.{as_where, top_keys, version_of, version_in, size_items, size_in, most_clients, client_at, clients_in}
-use Rattle.con_script.specs.Session.{of_scripts, session_in, path_bytes}
+use Rattle.con_document.specs.declared.version.Version.{Version}
+use Rattle.con_document.specs.declared.version.Version.TheVariants.{One, Two}
+use Rattle.con_document.specs.Document.{between, array_of, program_in, sides_of, and_then, each_from, first_other, keys_fault, script_of, document_of}
+use Rattle.con_document.specs.Session.{Spot, whole, key, call, key_of, client, or_fault, unless, with_fault, count, array_within}
+use Rattle.con_document.specs.Session.{first_missing, is_among, first_unknown, or_else, keys_spot, member_at, client_keys, group_in, call_at, calls_in, script_in}
+use Rattle.con_document.specs.Session.{as_where, top_keys, version_of, version_in, size_items, size_in, most_clients, client_at, clients_in}
+use Rattle.con_document.specs.Session.{of_scripts, session_in, path_bytes}
 
 -- the code's word for a version
 abbrev pub version_at : ℕ → Version

@@ -19,11 +19,11 @@ use Rattle.con_events.specs.Table.{row_of_handles, row_of_screens, row_of_cells,
 use Rattle.con_events.specs.TableLaws.{Makes, row_tells}
 use Rattle.con_lines.specs.Shown.{items, shown}
 use Rattle.serde_json.specs.Data.{Data, Items, no_items, item}
-use Rattle.con_script.specs.declared.version.Version.{Version}
-use Rattle.con_script.specs.declared.version.Version.TheVariants.{One, Two}
-use Rattle.con_script.specs.Steps.{as_step, waits_rows, later_rows, row_in_one, row_in_two, step_row}
-use Rattle.con_script.specs.Readers.{step_told}
-use Rattle.con_script.specs.PlainLaws.{is_plain, are_plain, and_then_keeps, map_keeps}
+use Rattle.con_document.specs.declared.version.Version.{Version}
+use Rattle.con_document.specs.declared.version.Version.TheVariants.{One, Two}
+use Rattle.con_document.specs.Steps.{as_step, waits_rows, later_rows, row_in_one, row_in_two, step_row}
+use Rattle.con_document.specs.Readers.{step_told}
+use Rattle.con_document.specs.PlainLaws.{is_plain, are_plain, and_then_keeps, map_keeps}
 
 -- ---- arguments by their kinds
 

@@ -9,11 +9,11 @@ use Rattle.con_events.specs.declared.script.Script.{Script}
 use Rattle.con_events.specs.Session.{Clients, is_within, step_count}
 use Rattle.serde_json.specs.Data.{Data, null, boolean, number, string, array, object, Items, no_items, item, Members, no_members, member}
 use Rattle.serde_json.specs.Find.{get, as_number, as_u64, as_array}
-use Rattle.con_script.specs.declared.version.Version.{Version}
-use Rattle.con_script.specs.declared.version.Version.TheVariants.{One, Two}
+use Rattle.con_document.specs.declared.version.Version.{Version}
+use Rattle.con_document.specs.declared.version.Version.TheVariants.{One, Two}
 use Rattle.con_values.specs.Values.{below}
-use Rattle.con_script.specs.Units.{text_units}
-pub use Rattle.con_script.specs.Document.{between, program_in, and_then, each_from}
+use Rattle.con_document.specs.Units.{text_units}
+pub use Rattle.con_document.specs.Document.{between, program_in, and_then, each_from}
 
 -- ---- places, and reading in order
 

@@ -10,9 +10,9 @@ use Rattle.con_events.specs.Table.{Row, row, nth, find, row_of}
 use Rattle.con_events.specs.Reading.{row_from, whole}
 use Rattle.serde_json.specs.Data.{Data, Items, no_items, item}
 use Rattle.serde_json.specs.Find.{as_array, as_str}
-use Rattle.con_script.specs.declared.version.Version.{Version}
-use Rattle.con_script.specs.declared.version.Version.TheVariants.{One, Two}
-use Rattle.con_script.specs.Values.{arguments}
+use Rattle.con_document.specs.declared.version.Version.{Version}
+use Rattle.con_document.specs.declared.version.Version.TheVariants.{One, Two}
+use Rattle.con_document.specs.Values.{arguments}
 
 -- a call's row as a step's
 abbrev pub as_step : Option (Row Call) → Option (Row Step)

@@ -13,8 +13,8 @@ use Rattle.serde_json.specs.Data.{Data, object, Items, no_items, item, Members, 
 use Rattle.serde_json.specs.Events.{items_len}
 use Rattle.serde_json.specs.Find.{get, get_member, as_number, as_u64, as_str, as_array}
 use Rattle.serde_json.specs.Read.{read}
-use Rattle.con_script.specs.Units.{text_units}
-use Rattle.con_script.specs.Readers.{Reads}
+use Rattle.con_document.specs.Units.{text_units}
+use Rattle.con_document.specs.Readers.{Reads}
 
 -- the value of JSON (RFC 8259) that bytes are in UTF-8, nested to depth 127
 abbrev pub json_of : List ℕ → Option Data
