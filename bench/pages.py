@@ -76,7 +76,7 @@ def look_at_calls():
     for line in re.findall(r"^    (\[.*\])$", page, re.M):
         if line not in told if line.startswith('["c1"') else line not in cases:
             otherwise(f"docs/SESSIONS.md shows a line that no case has: {line}")
-    names = set(re.findall(r'^name_of .*codes "([^"]+)"', read("crates/con_events/specs/Table.antt"), re.M)) | {"read", "read-with", "read-input", "exit"}
+    names = set(re.findall(r'^spelled .*codes "([^"]+)"', read("crates/con_events/specs/Table.antt"), re.M)) | {"read", "read-with", "read-input", "exit"}
     for name in names ^ set(re.findall(r"^### (.*)$", page, re.M)):
         otherwise(f"{name} is a call without a heading in docs/SESSIONS.md, or a heading without a call")
 

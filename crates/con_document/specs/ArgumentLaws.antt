@@ -222,8 +222,8 @@ is_most : (n m : ℕ) → n ≤ m → nat_le n m ≡ true
 is_most n m h = grind (arith, nat_tests)
 
 small_back : (z : ℤ) → IsSmall z → signed_in (whole z) ≡ Some z
-small_back (pos n) p = rw (is_below n 9223372036854775808 (omega (arith, p)), is_most n 32767 p) refl
-small_back (negsuc n) p = rw (is_most n 32767 p) refl
+small_back (pos n) p = rw (is_below n 9223372036854775808 (omega (arith, p)), is_most n 32767 (omega (arith, p))) refl
+small_back (negsuc n) p = rw (is_most n 32767 (omega (arith, p))) refl
 
 rect_back : (r : Rect) → RectFits r → rect_in (rect_data r) ≡ Some r
 rect_back r p = rw (small_back r.left p.0, small_back r.top p.1, small_back r.right p.2, small_back r.bottom p.3) refl

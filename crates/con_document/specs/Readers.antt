@@ -2,22 +2,19 @@
 use Rattle.std.specs.Prelude.{◌≡◌, ◌≢◌, ◌↔◌, ℕ, List, [], ◌∷◌, map, codes, Option, Some}
 use Rattle.std.specs.List.{AllZip}
 use Rattle.con_events.specs.declared.call.Words.TheVariants.{Each}
-use Rattle.con_events.specs.declared.event.Wanted.TheVariants.{Read, ReadInput, ReadWith}
 use Rattle.con_events.specs.declared.script.Step.{Step}
 use Rattle.con_events.specs.declared.script.Step.TheVariants as steps
 use Rattle.con_events.specs.Arg.{Arg, Number, Text, WordsOf, WordList}
 use Rattle.con_events.specs.Fits.{AreUnits, ArgFits}
-use Rattle.con_events.specs.Table.{name_of, args_of}
+use Rattle.con_events.specs.Table.{spelled, wanted_spelled}
 use Rattle.con_lines.specs.Shown.{list_of, natural, shown}
 use Rattle.serde_json.specs.Data.{Data, string}
 use Rattle.con_document.specs.Units.{text_units}
 
 -- the name of a step, and its arguments in order
 abbrev pub step_told : Step → List ℕ × List Arg
-step_told (steps.Call c) = (name_of c, args_of c)
-step_told (steps.Begin (Read h n)) = (codes "read", Number h ∷ Number n ∷ [])
-step_told (steps.Begin (ReadInput h n)) = (codes "read-input", Number h ∷ Number n ∷ [])
-step_told (steps.Begin (ReadWith h n us mask)) = (codes "read-with", Number h ∷ Number n ∷ Text us ∷ Number mask ∷ [])
+step_told (steps.Call c) = ((spelled c).0, (spelled c).1)
+step_told (steps.Begin w) = wanted_spelled w
 step_told (steps.Exit n) = (codes "exit", Number n ∷ [])
 
 -- an argument as a document writes it: a text in UTF-8, words as numbers, and all else as it is shown, within its limits

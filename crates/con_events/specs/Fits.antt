@@ -1,5 +1,7 @@
 -- What the types of a call's arguments keep.
-use Rattle.std.specs.Prelude.{ℕ, ◌<◌, ◌≤◌, ℤ, pos, negsuc, List, [], ◌∷◌, Some, None}
+use Rattle.std.specs.Prelude.{ℕ, ◌<◌, ℤ, pos, negsuc, List}
+use Rattle.std.specs.List.{AllByRecursion}
+use Rattle.std.specs.Option.{IfSome}
 use Rattle.con_units.specs.declared.place.Rect.{Rect}
 use Rattle.con_records.specs.declared.record.Record.{Record}
 use Rattle.con_records.specs.declared.record.Record.TheVariants as record_of
@@ -7,41 +9,43 @@ use Rattle.con_events.specs.declared.call.Words.TheVariants.{One, Each}
 use Rattle.con_events.specs.Arg.{Arg, Number, Signed, OneUnit, Flag, Text, Area, Clip, WordsOf, WordList, Records}
 
 abbrev pub AreUnits : List ℕ → Type 0
-AreUnits [] = Unit {0}
-AreUnits (u ∷ us) = (u < 65536) × AreUnits us
+AreUnits us = AllByRecursion (λ u. u < 65536) us
 
-abbrev pub IsSmall : ℤ → Type 0
-IsSmall (pos n) = n ≤ 32767
-IsSmall (negsuc n) = n ≤ 32767
+-- from -k to k - 1
+abbrev pub IsSigned : ℕ → ℤ → Type 0
+IsSigned k (pos n) = n < k
+IsSigned k (negsuc n) = n < k
 
 abbrev pub RectFits : Rect → Type 0
-RectFits r = IsSmall r.left × IsSmall r.top × IsSmall r.right × IsSmall r.bottom
+RectFits r = IsSigned 32768 r.left × IsSigned 32768 r.top × IsSigned 32768 r.right × IsSigned 32768 r.bottom
 
 abbrev pub RecordFits : Record → Type 0
 RecordFits (record_of.Key k) = (k.repeat < 65536) × (k.vk < 65536) × (k.scan < 65536) × (k.unit < 65536) × (k.state < 4294967296)
-RecordFits (record_of.Mouse m) = IsSmall m.x × IsSmall m.y × (m.buttons < 4294967296) × (m.state < 4294967296) × (m.flags < 4294967296)
+RecordFits (record_of.Mouse m) = IsSigned 32768 m.x × IsSigned 32768 m.y × (m.buttons < 4294967296) × (m.state < 4294967296) × (m.flags < 4294967296)
 RecordFits (record_of.Size s) = (s.w < 65536) × (s.h < 65536)
 RecordFits (record_of.Menu n) = n < 4294967296
 RecordFits (record_of.Focus b) = Unit {0}
 
-abbrev pub RecordsFit : List Record → Type 0
-RecordsFit [] = Unit {0}
-RecordsFit (r ∷ rs) = RecordFits r × RecordsFit rs
-
 abbrev pub ArgFits : Arg → Type 0
 ArgFits (Number n) = n < 4294967296
-ArgFits (Signed z) = IsSmall z
+ArgFits (Signed z) = IsSigned 32768 z
 ArgFits (OneUnit u) = u < 65536
 ArgFits (Flag b) = Unit {0}
 ArgFits (Text us) = AreUnits us
 ArgFits (Area r) = RectFits r
-ArgFits (Clip None) = Unit {0}
-ArgFits (Clip (Some r)) = RectFits r
+ArgFits (Clip r) = IfSome r RectFits
 ArgFits (WordsOf (One w)) = w < 65536
 ArgFits (WordsOf (Each ws)) = AreUnits ws
 ArgFits (WordList ws) = AreUnits ws
-ArgFits (Records rs) = RecordsFit rs
+ArgFits (Records rs) = AllByRecursion RecordFits rs
+
+-- ---- the code's own words
+
+abbrev pub IsSmall : ℤ → Type 0
+IsSmall z = IsSigned 32768 z
+
+abbrev pub RecordsFit : List Record → Type 0
+RecordsFit rs = AllByRecursion RecordFits rs
 
 abbrev pub ArgsFit : List Arg → Type 0
-ArgsFit [] = Unit {0}
-ArgsFit (a ∷ xs) = ArgFits a × ArgsFit xs
+ArgsFit xs = AllByRecursion ArgFits xs

@@ -1,12 +1,13 @@
--- What a reader must believe: the limits of a session, the tables of calls and of records, how a call is read from them.
+-- What a reader must believe: the limits of a session, calls and waits with their arguments, what types keep, and whose events are.
 pub mod Session
 pub mod Arg
 pub mod Table
+pub mod Fits
+pub mod Actors
+-- The code's own words: calls and records by rows, how one is read from them, and calls by their names.
 pub mod RecordTable
 pub mod Reading
--- What follows from them, and what types keep.
-pub mod TableLaws
-pub mod Fits
--- The code's own words.
 pub mod Names
 pub mod Shapes
+-- Laws: what is told is what is read.
+pub mod TableLaws

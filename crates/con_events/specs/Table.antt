@@ -1,103 +1,76 @@
--- The calls: their names, and their arguments in order.
+-- The calls and the waits: their names, their arguments in order, and what calls are answered with.
 use Rattle.std.specs.Prelude.{◌≡◌, map, ℕ, zero, suc, List, [], ◌∷◌, Option, None, Some, codes, if◌then◌else◌}
 use Rattle.std.specs.Str.{bytes_eq}
 use Rattle.con_events.specs.declared.call.Call.{Call}
 use Rattle.con_events.specs.declared.call.Call.TheVariants as call
+use Rattle.con_events.specs.declared.event.Wanted.{Wanted}
+use Rattle.con_events.specs.declared.event.Wanted.TheVariants.{Read, ReadInput, ReadWith}
+use Rattle.con_events.specs.declared.form.Form.{Form}
+use Rattle.con_events.specs.declared.form.Form.TheVariants as form
 use Rattle.con_events.specs.Arg.{kind_of, Kind, number, signed, unit, flag, text, rect, clip, words, list, records}
 use Rattle.con_events.specs.Arg.{Arg, Number, Signed, OneUnit, Flag, Text, Area, Clip, WordsOf, WordList, Records}
 use Rattle.con_events.specs.Arg.{the_number, the_signed, the_flag, the_list, the_rect, the_clip, the_words, the_records}
 
+-- a call's name, its arguments in order, and what it is answered with, where it is not refused
+abbrev pub spelled : Call → List ℕ × List Arg × Form
+spelled (call.BufferCreate a) = (codes "buffer-create", Number a ∷ [], form.Number)
+spelled (call.OpenOut a) = (codes "open-out", Number a ∷ [], form.Number)
+spelled (call.OpenIn a) = (codes "open-in", Number a ∷ [], form.Number)
+spelled (call.Close a) = (codes "close", Number a ∷ [], form.Nothing)
+spelled (call.Duplicate a b) = (codes "duplicate", Number a ∷ Number b ∷ [], form.Number)
+spelled (call.Activate a) = (codes "activate", Number a ∷ [], form.Nothing)
+spelled (call.Mode a) = (codes "mode", Number a ∷ [], form.Number)
+spelled (call.SetMode a b) = (codes "set-mode", Number a ∷ Number b ∷ [], form.Nothing)
+spelled (call.Info a) = (codes "info", Number a ∷ [], form.Fields 9)
+spelled (call.SetSize a b c) = (codes "set-size", Number a ∷ Number b ∷ Number c ∷ [], form.Nothing)
+spelled (call.SetCursor a b c) = (codes "set-cursor", Number a ∷ Signed b ∷ Signed c ∷ [], form.Nothing)
+spelled (call.CursorInfo a) = (codes "cursor-info", Number a ∷ [], form.NumberAndFlag)
+spelled (call.SetCursorInfo a b c) = (codes "set-cursor-info", Number a ∷ Number b ∷ Flag c ∷ [], form.Nothing)
+spelled (call.SetOrigin a b c) = (codes "set-origin", Number a ∷ Signed b ∷ Signed c ∷ [], form.Nothing)
+spelled (call.SetAttr a b) = (codes "set-attr", Number a ∷ OneUnit b ∷ [], form.Nothing)
+spelled call.Title = (codes "title", [], form.Units)
+spelled (call.SetTitle a) = (codes "set-title", Text a ∷ [], form.Nothing)
+spelled (call.Write a b) = (codes "write", Number a ∷ Text b ∷ [], form.Number)
+spelled (call.RectRead a b) = (codes "rect-read", Number a ∷ Area b ∷ [], form.Cells)
+spelled (call.RectWrite a b c d) = (codes "rect-write", Number a ∷ Area b ∷ Text c ∷ WordsOf d ∷ [], form.Sides)
+spelled (call.RunReadUnits a b c d) = (codes "run-read-units", Number a ∷ Signed b ∷ Signed c ∷ Number d ∷ [], form.Units)
+spelled (call.RunReadAttrs a b c d) = (codes "run-read-attrs", Number a ∷ Signed b ∷ Signed c ∷ Number d ∷ [], form.Units)
+spelled (call.RunWriteUnits a b c d) = (codes "run-write-units", Number a ∷ Signed b ∷ Signed c ∷ Text d ∷ [], form.Number)
+spelled (call.RunWriteAttrs a b c d) = (codes "run-write-attrs", Number a ∷ Signed b ∷ Signed c ∷ WordList d ∷ [], form.Number)
+spelled (call.FillUnits a b c d e) = (codes "fill-units", Number a ∷ Signed b ∷ Signed c ∷ Number d ∷ OneUnit e ∷ [], form.Number)
+spelled (call.FillAttrs a b c d e) = (codes "fill-attrs", Number a ∷ Signed b ∷ Signed c ∷ Number d ∷ OneUnit e ∷ [], form.Number)
+spelled (call.Scroll a b c d e f g) = (codes "scroll", Number a ∷ Area b ∷ Clip c ∷ Signed d ∷ Signed e ∷ OneUnit f ∷ OneUnit g ∷ [], form.Nothing)
+spelled (call.Peek a b) = (codes "peek", Number a ∷ Number b ∷ [], form.Records)
+spelled (call.WriteInput a b) = (codes "write-input", Number a ∷ Records b ∷ [], form.Number)
+spelled (call.Count a) = (codes "count", Number a ∷ [], form.Number)
+spelled (call.Flush a) = (codes "flush", Number a ∷ [], form.Nothing)
+spelled call.HistoryInfo = (codes "history-info", [], form.Fields 3)
+spelled (call.SetHistory a b c) = (codes "set-history", Number a ∷ Number b ∷ Number c ∷ [], form.Nothing)
+spelled call.HistoryList = (codes "history-list", [], form.Lines)
+spelled call.HistoryClear = (codes "history-clear", [], form.Nothing)
+spelled (call.AliasAdd a b c) = (codes "alias-add", Text a ∷ Text b ∷ Text c ∷ [], form.Nothing)
+spelled (call.AliasRemove a b) = (codes "alias-remove", Text a ∷ Text b ∷ [], form.Nothing)
+spelled (call.AliasGet a b) = (codes "alias-get", Text a ∷ Text b ∷ [], form.Units)
+spelled (call.AliasList a) = (codes "alias-list", Text a ∷ [], form.Lines)
+spelled call.Processes = (codes "processes", [], form.Ids)
+spelled (call.Signal a b) = (codes "signal", Number a ∷ Number b ∷ [], form.Nothing)
+spelled (call.Ignore a) = (codes "ignore", Flag a ∷ [], form.Nothing)
+spelled (call.HandlerAdd a) = (codes "handler-add", Number a ∷ [], form.Nothing)
+spelled (call.HandlerRemove a) = (codes "handler-remove", Number a ∷ [], form.Nothing)
+
+-- a wait's name, and its arguments in order
+abbrev pub wanted_spelled : Wanted → List ℕ × List Arg
+wanted_spelled (Read h n) = (codes "read", Number h ∷ Number n ∷ [])
+wanted_spelled (ReadInput h n) = (codes "read-input", Number h ∷ Number n ∷ [])
+wanted_spelled (ReadWith h n us mask) = (codes "read-with", Number h ∷ Number n ∷ Text us ∷ Number mask ∷ [])
+
+-- ---- the code's own words
+
 abbrev pub name_of : Call → List ℕ
-name_of (call.BufferCreate a) = codes "buffer-create"
-name_of (call.OpenOut a) = codes "open-out"
-name_of (call.OpenIn a) = codes "open-in"
-name_of (call.Close a) = codes "close"
-name_of (call.Duplicate a b) = codes "duplicate"
-name_of (call.Activate a) = codes "activate"
-name_of (call.Mode a) = codes "mode"
-name_of (call.SetMode a b) = codes "set-mode"
-name_of (call.Info a) = codes "info"
-name_of (call.SetSize a b c) = codes "set-size"
-name_of (call.SetCursor a b c) = codes "set-cursor"
-name_of (call.CursorInfo a) = codes "cursor-info"
-name_of (call.SetCursorInfo a b c) = codes "set-cursor-info"
-name_of (call.SetOrigin a b c) = codes "set-origin"
-name_of (call.SetAttr a b) = codes "set-attr"
-name_of call.Title = codes "title"
-name_of (call.SetTitle a) = codes "set-title"
-name_of (call.Write a b) = codes "write"
-name_of (call.RectRead a b) = codes "rect-read"
-name_of (call.RectWrite a b c d) = codes "rect-write"
-name_of (call.RunReadUnits a b c d) = codes "run-read-units"
-name_of (call.RunReadAttrs a b c d) = codes "run-read-attrs"
-name_of (call.RunWriteUnits a b c d) = codes "run-write-units"
-name_of (call.RunWriteAttrs a b c d) = codes "run-write-attrs"
-name_of (call.FillUnits a b c d e) = codes "fill-units"
-name_of (call.FillAttrs a b c d e) = codes "fill-attrs"
-name_of (call.Scroll a b c d e f g) = codes "scroll"
-name_of (call.Peek a b) = codes "peek"
-name_of (call.WriteInput a b) = codes "write-input"
-name_of (call.Count a) = codes "count"
-name_of (call.Flush a) = codes "flush"
-name_of call.HistoryInfo = codes "history-info"
-name_of (call.SetHistory a b c) = codes "set-history"
-name_of call.HistoryList = codes "history-list"
-name_of call.HistoryClear = codes "history-clear"
-name_of (call.AliasAdd a b c) = codes "alias-add"
-name_of (call.AliasRemove a b) = codes "alias-remove"
-name_of (call.AliasGet a b) = codes "alias-get"
-name_of (call.AliasList a) = codes "alias-list"
-name_of call.Processes = codes "processes"
-name_of (call.Signal a b) = codes "signal"
-name_of (call.Ignore a) = codes "ignore"
-name_of (call.HandlerAdd a) = codes "handler-add"
-name_of (call.HandlerRemove a) = codes "handler-remove"
+name_of c = (spelled c).0
 
 abbrev pub args_of : Call → List Arg
-args_of (call.BufferCreate a) = Number a ∷ []
-args_of (call.OpenOut a) = Number a ∷ []
-args_of (call.OpenIn a) = Number a ∷ []
-args_of (call.Close a) = Number a ∷ []
-args_of (call.Duplicate a b) = Number a ∷ Number b ∷ []
-args_of (call.Activate a) = Number a ∷ []
-args_of (call.Mode a) = Number a ∷ []
-args_of (call.SetMode a b) = Number a ∷ Number b ∷ []
-args_of (call.Info a) = Number a ∷ []
-args_of (call.SetSize a b c) = Number a ∷ Number b ∷ Number c ∷ []
-args_of (call.SetCursor a b c) = Number a ∷ Signed b ∷ Signed c ∷ []
-args_of (call.CursorInfo a) = Number a ∷ []
-args_of (call.SetCursorInfo a b c) = Number a ∷ Number b ∷ Flag c ∷ []
-args_of (call.SetOrigin a b c) = Number a ∷ Signed b ∷ Signed c ∷ []
-args_of (call.SetAttr a b) = Number a ∷ OneUnit b ∷ []
-args_of call.Title = []
-args_of (call.SetTitle a) = Text a ∷ []
-args_of (call.Write a b) = Number a ∷ Text b ∷ []
-args_of (call.RectRead a b) = Number a ∷ Area b ∷ []
-args_of (call.RectWrite a b c d) = Number a ∷ Area b ∷ Text c ∷ WordsOf d ∷ []
-args_of (call.RunReadUnits a b c d) = Number a ∷ Signed b ∷ Signed c ∷ Number d ∷ []
-args_of (call.RunReadAttrs a b c d) = Number a ∷ Signed b ∷ Signed c ∷ Number d ∷ []
-args_of (call.RunWriteUnits a b c d) = Number a ∷ Signed b ∷ Signed c ∷ Text d ∷ []
-args_of (call.RunWriteAttrs a b c d) = Number a ∷ Signed b ∷ Signed c ∷ WordList d ∷ []
-args_of (call.FillUnits a b c d e) = Number a ∷ Signed b ∷ Signed c ∷ Number d ∷ OneUnit e ∷ []
-args_of (call.FillAttrs a b c d e) = Number a ∷ Signed b ∷ Signed c ∷ Number d ∷ OneUnit e ∷ []
-args_of (call.Scroll a b c d e f g) = Number a ∷ Area b ∷ Clip c ∷ Signed d ∷ Signed e ∷ OneUnit f ∷ OneUnit g ∷ []
-args_of (call.Peek a b) = Number a ∷ Number b ∷ []
-args_of (call.WriteInput a b) = Number a ∷ Records b ∷ []
-args_of (call.Count a) = Number a ∷ []
-args_of (call.Flush a) = Number a ∷ []
-args_of call.HistoryInfo = []
-args_of (call.SetHistory a b c) = Number a ∷ Number b ∷ Number c ∷ []
-args_of call.HistoryList = []
-args_of call.HistoryClear = []
-args_of (call.AliasAdd a b c) = Text a ∷ Text b ∷ Text c ∷ []
-args_of (call.AliasRemove a b) = Text a ∷ Text b ∷ []
-args_of (call.AliasGet a b) = Text a ∷ Text b ∷ []
-args_of (call.AliasList a) = Text a ∷ []
-args_of call.Processes = []
-args_of (call.Signal a b) = Number a ∷ Number b ∷ []
-args_of (call.Ignore a) = Flag a ∷ []
-args_of (call.HandlerAdd a) = Number a ∷ []
-args_of (call.HandlerRemove a) = Number a ∷ []
+args_of c = (spelled c).1
 
 -- the argument at a place
 abbrev pub nth : ℕ → List Arg → Arg

@@ -10,7 +10,7 @@
 //! [`Numbers`], [`Lines`], [`Steps`], [`Scripts`], [`Entries`], [`Replies`] and [`PieceEnds`] are vectors that contracts see as
 //! lists.
 //!
-//! Calls have a table (`specs/Table`): each call's name, and the kinds of its arguments in order. [`read_call`] reads a call from
+//! Calls have a table (`specs/Table`): each call's name, its arguments in order, and the [`Form`] of its answer. [`read_call`] reads a call from
 //! whatever gives [`Arguments`], by a name; [`name`] and [`tell`] show one to whatever [`Shows`] arguments. So a document and a
 //! report have one table, and what is told is what is read. Input records have a table too (`specs/RecordTable`), read by [`read_record`] and shown by
 //! [`tell_record`].
@@ -36,6 +36,7 @@ pub mod call;
 pub mod end;
 pub mod entry;
 pub mod event;
+pub mod form;
 pub mod history;
 mod names;
 pub mod reading;
@@ -46,12 +47,13 @@ pub mod session;
 pub mod telling;
 
 pub use actor::Actor;
-pub use arguments::{Arguments, Misread};
 pub use args::{Args, arguments_of};
+pub use arguments::{Arguments, Misread};
 pub use call::{Call, Words};
 pub use end::End;
 pub use entry::Entry;
 pub use event::{Event, Wanted};
+pub use form::Form;
 pub use history::{Entries, PieceEnds, Replies};
 pub use reading::{read_call, whole_call};
 pub use recording::{read_record, record_name, tell_record, whole_record};

@@ -1,5 +1,5 @@
 -- A line is told again.
-use Rattle.std.proofs.Common.{◌≡◌, refl, ap, ◌∙◌, arith, ℕ, zero, suc, ◌*◌, ◌+◌, ◌<◌, ◌-◌, ◌/◌, ◌%◌, List, [], ◌∷◌, ◌++◌, length, map, Option, Some, None, true, false}
+use Rattle.std.proofs.Common.{◌≡◌, refl, ap, ◌∙◌, arith, ℕ, zero, suc, ◌*◌, ◌+◌, ◌<◌, ◌-◌, ◌/◌, ◌%◌, List, [], ◌∷◌, ◌++◌, length, map, Option, Some, None, Bool, true, false}
 use Rattle.std.specs.Prelude.{ℤ, pos, negsuc, ◌==◌, option_map, option_and_then, decimal}
 use Rattle.std.specs.Int.{is_in_range}
 use Rattle.std.proofs.lemmas.Fmt.{decimal_by_steps}
@@ -21,15 +21,15 @@ use Rattle.con_events.specs.Arg.{Arg}
 use Rattle.con_events.specs.Fits.{ArgsFit}
 use Rattle.con_events.specs.Table.{name_of, args_of}
 use Rattle.con_events.specs.Reading.{call_from, whole as whole_from}
-use Rattle.con_lines.specs.declared.form.Form.{Form}
+use Rattle.con_events.specs.declared.form.Form.{Form}
 use Rattle.con_lines.specs.declared.said.Said.{Said}
-use Rattle.con_lines.specs.Form.{form_of}
+use Rattle.con_lines.specs.Form.{event_name, form_of}
 use Rattle.con_lines.specs.Shown.{items, whole, units_text, shown, cell_words}
-use Rattle.con_lines.specs.Line.{number_and_flag, reply_data, event_name, event_data, actor_text, answer_data, line_data}
-use Rattle.con_lines.specs.Fits.{IsOwn, EventFits, IsWhole, AreWhole, IsFlag, AreTexts, AreRead, ReplyFits, refused, is_done, is_number, are_fields, number_and_flag as number_and_flag_fit, are_sides, are_ids, are_units, are_records, are_cells, are_lines, waited_units, waited_records, is_control, AnswerFits}
+use Rattle.con_lines.specs.Line.{number_and_flag, reply_data, event_data, actor_text, answer_data, line_data}
+use Rattle.con_lines.specs.Fits.{IsOwn, EventFits, IsWhole, AreWhole, AreTexts, AreRead, ReplyFits, refused, is_done, is_number, are_fields, number_and_flag as number_and_flag_fit, are_sides, are_ids, are_units, are_records, are_cells, are_lines, waited_units, waited_records, is_control, AnswerFits}
 use Rattle.con_lines.specs.Ending.{Ending, IsEnding, done, no_memory, usage, document, link, terminal, missing, failed, too_long, mirror, frame, ending_data}
 use Rattle.con_lines.specs.Fits.{IsLine}
-use Rattle.con_lines.specs.Told.{whole_in, units_in, all_in, if_many, number_and_flag_in, cells_from, reply_in, told, as_told, call_in, event_in, of_terminal, of_client, of_painter, one_digit, digits_after, actor_in, answer_in, said_in, ending_in}
+use Rattle.con_lines.specs.Told.{whole_in, units_in, all_in, if_many, flag_of, number_and_flag_in, cells_from, reply_in, told, as_told, call_in, event_in, of_terminal, of_client, of_painter, one_digit, digits_after, actor_in, answer_in, said_in, ending_in}
 use Rattle.con_lines.proofs.ToldBack.{is_below, is_most, units_back, bytes_back, rect_back, records_back, told_back}
 
 -- ---- answers
@@ -48,11 +48,9 @@ wholes_back (z ∷ zs) p = rw (whole_back z p.0, wholes_back zs p.1) refl
 many_back : (n : ℕ) (zs : List ℤ) → length zs ≡ n → if_many n zs ≡ Some zs
 many_back n zs e = rw (e, same_number n) refl
 
-flag_back : (z b : ℤ) → IsWhole z → IsFlag b → number_and_flag_in (items (number_and_flag (z ∷ b ∷ []))) ≡ Some (z ∷ b ∷ [])
-flag_back z (pos zero) p q = rw (whole_back z p) refl
-flag_back z (pos (suc zero)) p q = rw (whole_back z p) refl
-flag_back z (pos (suc (suc n))) p q = absurd q
-flag_back z (negsuc n) p q = absurd q
+flag_back : (z : ℤ) (b : Bool) → IsWhole z → number_and_flag_in (items (number_and_flag (z ∷ flag_of b ∷ []))) ≡ Some (z ∷ flag_of b ∷ [])
+flag_back z true p = rw (whole_back z p) refl
+flag_back z false p = rw (whole_back z p) refl
 
 lines_back : (ls : List (List ℕ)) → AreTexts ls → all_in units_in (items (map units_text ls)) ≡ Some ls
 lines_back [] p = refl
@@ -76,7 +74,7 @@ reply_back _ _ (refused f c) = fail_back f c
 reply_back _ _ is_done = refl
 reply_back _ _ (is_number n p) = rw (is_below n 4294967296 p) refl
 reply_back _ _ (are_fields n zs e p) = rw (wholes_back zs p, many_back n zs e) refl
-reply_back _ _ (number_and_flag_fit z b p q) = rw (flag_back z b p q) refl
+reply_back _ _ (number_and_flag_fit z b p) = rw (flag_back z b p) refl
 reply_back _ _ (are_sides zs e p) = rw (wholes_back zs p, many_back 4 zs e) refl
 reply_back _ _ (are_ids zs p) = rw (wholes_back zs p) refl
 reply_back _ _ (are_units us p) = rw (units_back us p) refl
@@ -146,25 +144,28 @@ call_event_back c p = call_event c
     ∙ (ap (λ ds. option_map event.Call (whole_from (call_from (name_of c) ds))) (as_told_is (args_of c))
     ∙ ap (λ o. option_map event.Call (whole_from o)) (told_back c p))
 
+never : false ≡ true → ⊥
+never h = absurd (cc)
+
 pub event_back : (a : Actor) (e : Event) → IsOwn a e → EventFits e → event_in a (event_name e) (items (event_data e)) ≡ Some e
 unfolding of_client of_terminal of_painter
 event_back (actor.Client n) (event.Call c) o p = call_event_back c p
-event_back (actor.Client n) (event.Begin (Read h m)) o p = rw (is_below h 4294967296 p.0, is_below m 4294967296 p.1) refl
-event_back (actor.Client n) (event.Begin (ReadInput h m)) o p = rw (is_below h 4294967296 p.0, is_below m 4294967296 p.1) refl
-event_back (actor.Client n) (event.Begin (ReadWith h m us k)) o p = rw (is_below h 4294967296 p.0, is_below m 4294967296 p.1, is_below k 4294967296 p.3, units_back us p.2) refl
+event_back (actor.Client n) (event.Begin (Read h m)) o p = rw (is_below h 4294967296 p.0, is_below m 4294967296 p.1.0) refl
+event_back (actor.Client n) (event.Begin (ReadInput h m)) o p = rw (is_below h 4294967296 p.0, is_below m 4294967296 p.1.0) refl
+event_back (actor.Client n) (event.Begin (ReadWith h m us k)) o p = rw (is_below h 4294967296 p.0, is_below m 4294967296 p.1.0, is_below k 4294967296 p.1.1.1.0, units_back us p.1.1.0) refl
 event_back (actor.Client n) event.Collect o p = refl
 event_back (actor.Client n) event.TakeCtrl o p = refl
-event_back (actor.Client n) (event.Exit s) o p = rw (is_below s 4294967296 p) refl
-event_back (actor.Client n) other o p = absurd o.2
+event_back (actor.Client n) (event.Exit s) o p = rw (is_below s 4294967296 p.0) refl
+event_back (actor.Client n) other o p = absurd (never o.2)
 event_back actor.Terminal (event.Feed bs) o p = rw (bytes_back bs p) refl
 event_back actor.Terminal event.Quiet o p = refl
-event_back actor.Terminal (event.Resize s) o p = rw (is_below s.w 65536 p.0, is_below s.h 65536 p.1) refl
+event_back actor.Terminal (event.Resize s) o p = rw (is_below s.w 65536 p.0, is_below s.h 65536 p.1.0) refl
 event_back actor.Terminal event.Ask o p = refl
 event_back actor.Terminal event.Hangup o p = refl
 event_back actor.Terminal event.Drained o p = refl
-event_back actor.Terminal other o p = absurd o
+event_back actor.Terminal other o p = absurd (never o)
 event_back actor.Painter event.Paint o p = refl
-event_back actor.Painter other o p = absurd o
+event_back actor.Painter other o p = absurd (never o)
 
 -- ---- a whole line
 

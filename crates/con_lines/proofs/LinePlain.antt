@@ -1,6 +1,6 @@
 -- Lines are plain: they are read as they were written, and end at their line feed.
 use Rattle.std.proofs.Common.{ℕ, zero, suc, ◌+◌, ◌/◌, ◌%◌, ◌<◌, List, [], ◌∷◌, map, refl, arith, Some, None}
-use Rattle.std.specs.Prelude.{ℤ, pos, negsuc, decimal, nat_lt, codes}
+use Rattle.std.specs.Prelude.{ℤ, pos, negsuc, decimal, nat_lt, codes, if◌then◌else◌}
 use Rattle.std.specs.Char.{digit_char}
 use Rattle.std.specs.Str.{IsUtf8}
 use Rattle.std.proofs.lemmas.Bool.Decides.{nat_tests}
@@ -29,13 +29,13 @@ use Rattle.con_events.specs.declared.reply.Reply.TheVariants as reply
 use Rattle.con_events.specs.Arg.{Arg, Number, Signed, OneUnit, Flag, Text, Area, Clip, WordsOf, WordList, Records}
 use Rattle.con_events.specs.Fits.{AreUnits, IsSmall, RectFits, RecordFits, RecordsFit, ArgFits, ArgsFit}
 use Rattle.con_events.specs.Table.{name_of, args_of}
-use Rattle.con_lines.specs.declared.form.Form.{Form}
+use Rattle.con_events.specs.declared.form.Form.{Form}
 use Rattle.con_lines.specs.declared.said.Said.{Said}
-use Rattle.con_lines.specs.Form.{form_of}
+use Rattle.con_lines.specs.Form.{event_spelled, event_name, form_of}
 use Rattle.con_lines.specs.Hex.{hex_units, hex_bytes}
 use Rattle.con_lines.specs.Shown.{items, whole, units_text, rect_data, record_data, shown, cell_words}
-use Rattle.con_lines.specs.Line.{number_and_flag, reply_data, answer_data, event_name, event_data, wanted_data, actor_text, line_data}
-use Rattle.con_lines.specs.Fits.{IsOwn, AreBytes, WantedFits, EventFits, IsWhole, AreWhole, IsFlag, AreTexts, ReplyFits, refused, is_done, is_number, are_fields, number_and_flag as number_and_flag_fit, are_sides, are_ids, are_units, are_records, are_cells, are_lines, waited_units, waited_records, is_control, AnswerFits}
+use Rattle.con_lines.specs.Line.{number_and_flag, reply_data, answer_data, event_data, actor_text, line_data}
+use Rattle.con_lines.specs.Fits.{IsOwn, AreBytes, EventFits, IsWhole, AreWhole, AreTexts, ReplyFits, refused, is_done, is_number, are_fields, number_and_flag as number_and_flag_fit, are_sides, are_ids, are_units, are_records, are_cells, are_lines, waited_units, waited_records, is_control, AnswerFits}
 use Rattle.con_lines.specs.Ending.{Ending, IsEnding, done, no_memory, usage, document, link, terminal, missing, failed, too_long, mirror, frame, kind_text, ending_data}
 use Rattle.con_lines.specs.Fits.{IsLine}
 use Rattle.con_lines.proofs.ReadBack.{IsPlain, ArePlain}
@@ -173,24 +173,9 @@ actor_utf8 actor.Painter e o = IsUtf8-are_ascii _ refl
 
 -- ---- events
 
-wanted_plain : (w : Wanted) (k : ℕ) → WantedFits w → ArePlain (items (wanted_data w)) (suc (suc k))
-wanted_plain (Read h n) k p = (omega (arith, p.0), (omega (arith, p.1), tt))
-wanted_plain (ReadInput h n) k p = (omega (arith, p.0), (omega (arith, p.1), tt))
-wanted_plain (ReadWith h n us m) k p = (omega (arith, p.0), (omega (arith, p.1), (units_utf8 us p.2, (omega (arith, p.3), tt))))
-
 event_plain : (e : Event) (k : ℕ) → EventFits e → ArePlain (items (event_data e)) (suc (suc k))
-event_plain (event.Call c) k p = args_plain (args_of c) k p
-event_plain (event.Begin w) k p = wanted_plain w k p
-event_plain event.Collect k p = tt
-event_plain event.TakeCtrl k p = tt
-event_plain (event.Exit n) k p = (omega (arith, p), tt)
 event_plain (event.Feed bs) k p = (ascii_utf8 (hex_bytes bs) (bytes_ascii bs p), tt)
-event_plain event.Quiet k p = tt
-event_plain (event.Resize s) k p = (omega (arith, p.0), (omega (arith, p.1), tt))
-event_plain event.Ask k p = tt
-event_plain event.Hangup k p = tt
-event_plain event.Drained k p = tt
-event_plain event.Paint k p = tt
+event_plain other k p = args_plain (event_spelled other).1 k p
 
 -- ---- answers
 
@@ -205,10 +190,8 @@ wholes_plain : (zs : List ℤ) (k : ℕ) → AreWhole zs → ArePlain (items (ma
 wholes_plain [] k p = tt
 wholes_plain (z ∷ zs) k p = (whole_plain z k p.0, wholes_plain zs k p.1)
 
-flag_plain : (z b : ℤ) (k : ℕ) → IsWhole z → IsFlag b → ArePlain (items (number_and_flag (z ∷ b ∷ []))) k
-flag_plain z (pos zero) k p q = (whole_plain z k p, (tt, tt))
-flag_plain z (pos (suc n)) k p q = (whole_plain z k p, (tt, tt))
-flag_plain z (negsuc n) k p q = absurd q
+flag_plain : (z b : ℤ) (k : ℕ) → IsWhole z → ArePlain (items (number_and_flag (z ∷ b ∷ []))) k
+flag_plain z b k p = (whole_plain z k p, (tt, tt))
 
 texts_plain : (ls : List (List ℕ)) (k : ℕ) → AreTexts ls → ArePlain (items (map units_text ls)) k
 texts_plain [] k p = tt
@@ -228,7 +211,7 @@ reply_plain _ _ k (refused f c) = code_plain f c (suc (suc k))
 reply_plain _ _ k is_done = (ok_utf8, tt)
 reply_plain _ _ k (is_number n p) = (ok_utf8, (omega (arith, p), tt))
 reply_plain _ _ k (are_fields n zs e p) = (ok_utf8, wholes_plain zs (suc (suc k)) p)
-reply_plain _ _ k (number_and_flag_fit z b p q) = (ok_utf8, flag_plain z b (suc (suc k)) p q)
+reply_plain _ _ k (number_and_flag_fit z b p) = (ok_utf8, flag_plain z (if b then pos 1 else pos 0) (suc (suc k)) p)
 reply_plain _ _ k (are_sides zs e p) = (ok_utf8, (wholes_plain zs (suc k) p, tt))
 reply_plain _ _ k (are_ids zs p) = (ok_utf8, (wholes_plain zs (suc k) p, tt))
 reply_plain _ _ k (are_units us p) = (ok_utf8, (units_utf8 us p, tt))

@@ -1,6 +1,6 @@
 -- What a line tells fits: it is within what types keep, and of its event's form.
 use Rattle.std.proofs.Common.{◌≡◌, refl, subst, arith, ℕ, ◌*◌, ◌+◌, ◌-◌, ◌<◌, List, [], ◌∷◌, length, Option, Some, None, Bool, true, false, nat_lt, nat_le}
-use Rattle.std.specs.Prelude.{ℤ, pos, negsuc, IfSome, int_le, ◌&&◌, ◌==◌, option_map, option_and_then, if◌then◌else◌, codes}
+use Rattle.std.specs.Prelude.{ℤ, pos, negsuc, IsTrue, IfSome, int_le, ◌&&◌, ◌==◌, option_map, option_and_then, if◌then◌else◌, codes}
 use Rattle.std.specs.Int.{is_in_range}
 use Rattle.std.specs.Str.{bytes_eq}
 use Rattle.std.proofs.lemmas.Bool.{cond_both, and_parts}
@@ -18,18 +18,19 @@ use Rattle.con_events.specs.declared.reply.Reply.{Reply}
 use Rattle.con_events.specs.declared.reply.Reply.TheVariants as reply
 use Rattle.con_events.specs.Arg as arg
 use Rattle.con_events.specs.Arg.{Number, Signed, OneUnit, Flag, Text, Area, Clip, WordsOf, WordList, Records}
+use Rattle.con_events.specs.Actors.{is_clients}
 use Rattle.con_events.specs.Fits.{AreUnits, IsSmall, RectFits, RecordFits, RecordsFit, ArgFits}
 use Rattle.con_values.specs.Values.{below, number_in, unit_in, signed_in, four, rect_items, rect_in, clip_in, field, fields, record_items, record_in, records_items, records_in}
 use Rattle.serde_json.specs.Data.{Data, null, boolean, number, string, array, object, Items, no_items, item}
 use Rattle.serde_json.specs.Find.{as_number, as_u64, as_i64, as_bool, as_str, as_array}
-use Rattle.con_lines.specs.declared.form.Form.{Form}
-use Rattle.con_lines.specs.declared.form.Form.TheVariants as form
+use Rattle.con_events.specs.declared.form.Form.{Form}
+use Rattle.con_events.specs.declared.form.Form.TheVariants as form
 use Rattle.con_lines.specs.declared.said.Said.{Said}
 use Rattle.con_lines.specs.Form.{form_of}
 use Rattle.con_lines.specs.Shown.{cell_words}
-use Rattle.con_lines.specs.Fits.{IsOfClients, IsOwn, AreBytes, EventFits, IsWhole, AreWhole, IsFlag, AreTexts, AreRead, ReplyFits, refused, is_done, is_number, are_fields, number_and_flag, are_sides, are_ids, are_units, are_records, are_cells, are_lines, waited_units, waited_records, is_control, AnswerFits}
+use Rattle.con_lines.specs.Fits.{IsOwn, AreBytes, EventFits, IsWhole, AreWhole, AreTexts, AreRead, ReplyFits, refused, is_done, is_number, are_fields, number_and_flag, are_sides, are_ids, are_units, are_records, are_cells, are_lines, waited_units, waited_records, is_control, AnswerFits}
 use Rattle.con_lines.specs.Fits.{IsLine}
-use Rattle.con_lines.specs.Told.{hex_value, with_digit, byte_told, unit_told, with_first, unhex_units, unhex_bytes, kept_whole, kept_length, whole_in, units_in, all_in, words_in, told, as_told, code_of, only, is_bare, if_many, flag_of, number_and_flag_in, array_only, cells_from, cells_in, wait_in, value_in, control_in, fail_in, answer_named, answer_items, reply_in, number_pair_in, unit_pair_in, pair, read_with_in, none_in, feed_in, call_in, of_terminal, of_client, of_painter, event_in, unless_zero, one_digit, digits_after, client_in, actor_in, length_in, painted_in, answer_in, said_by, said_items, said_in}
+use Rattle.con_lines.specs.Told.{hex_value, with_digit, byte_told, unit_told, with_first, unhex_units, unhex_bytes, kept_whole, kept_length, whole_in, units_in, all_in, words_in, told, as_told, code_of, only, is_bare, if_many, number_and_flag_in, array_only, cells_from, cells_in, wait_in, value_in, control_in, fail_in, answer_named, answer_items, reply_in, number_pair_in, unit_pair_in, pair, read_with_in, none_in, feed_in, call_in, of_terminal, of_client, of_painter, event_in, unless_zero, one_digit, digits_after, client_in, actor_in, length_in, painted_in, answer_in, said_by, said_items, said_in}
 use Rattle.con_lines.proofs.TablesFit.{and_then_keeps, map_keeps, ItemFits, ItemsFit, call_fits, record_fits}
 
 pub any : {A : Type 0} (o : Option A) → IfSome o (λ _. Unit {0})
@@ -184,15 +185,11 @@ texts_fit (item d ds) = first_keeps (units_in d) (all_in units_in ds) AreUnits A
 many_fit : (n : ℕ) (zs : List ℤ) → AreWhole zs → IfSome (if_many n zs) (λ xs. (length xs ≡ n) × AreWhole xs)
 many_fit n zs p = cond_both (length zs == n) (Some zs) None (λ o. IfSome o (λ xs. (length xs ≡ n) × AreWhole xs)) (λ h. (grind (arith, nat_tests), p)) (λ h. tt)
 
-is_flag : (b : Bool) → IsFlag (flag_of b)
-is_flag true = tt
-is_flag false = tt
-
 flagged_fits : (ds : Items) → IfSome (option_map reply.Numbers (number_and_flag_in ds)) (ReplyFits form.NumberAndFlag)
 flagged_fits no_items = tt
 flagged_fits (item d no_items) = tt
 flagged_fits (item d (item b no_items)) = map_keeps (number_and_flag_in (item d (item b no_items))) reply.Numbers (λ zs. ReplyFits form.NumberAndFlag (reply.Numbers zs)) (ReplyFits form.NumberAndFlag)
-    (and_then_keeps (whole_in d) _ IsWhole (λ zs. ReplyFits form.NumberAndFlag (reply.Numbers zs)) (whole_fits d) (λ z p. map_keeps (as_bool b) _ (λ _. Unit {0}) (λ zs. ReplyFits form.NumberAndFlag (reply.Numbers zs)) (any (as_bool b)) (λ b q. number_and_flag z (flag_of b) p (is_flag b)))) (λ zs p. p)
+    (and_then_keeps (whole_in d) _ IsWhole (λ zs. ReplyFits form.NumberAndFlag (reply.Numbers zs)) (whole_fits d) (λ z p. map_keeps (as_bool b) _ (λ _. Unit {0}) (λ zs. ReplyFits form.NumberAndFlag (reply.Numbers zs)) (any (as_bool b)) (λ b q. number_and_flag z b p))) (λ zs p. p)
 flagged_fits (item d (item b (item more ds))) = tt
 
 -- cells made of units and words are read as they are
@@ -309,7 +306,7 @@ pair_of_units (item a (item b no_items)) = pair_fits (λ n. n < 65536) (unit_in 
 pair_of_units (item a (item b (item more ds))) = tt
 
 abbrev OfClient : Event → Type 0
-OfClient e = IsOfClients e × EventFits e
+OfClient e = IsTrue (is_clients e) × EventFits e
 
 read_with_fits : (ds : Items) → IfSome (read_with_in ds) OfClient
 read_with_fits no_items = tt
@@ -320,40 +317,40 @@ read_with_fits (item h (item n (item us (item m no_items)))) =
     and_then_keeps (number_in h) _ (λ n. n < 4294967296) OfClient (below_fits 4294967296 h) (λ h hp.
     and_then_keeps (number_in n) _ (λ n. n < 4294967296) OfClient (below_fits 4294967296 n) (λ n np.
     and_then_keeps (number_in m) _ (λ n. n < 4294967296) OfClient (below_fits 4294967296 m) (λ m mp.
-    map_keeps (units_in us) _ AreUnits OfClient (text_fits us) (λ us up. (tt, (hp, np, up, mp))))))
+    map_keeps (units_in us) _ AreUnits OfClient (text_fits us) (λ us up. (refl, (hp, (np, (up, (mp, tt)))))))))
 read_with_fits (item h (item n (item us (item m (item more ds))))) = tt
 
 call_is : (name : List ℕ) (ds : Items) → IfSome (call_in name ds) OfClient
-call_is name ds = map_keeps _ event.Call _ OfClient (call_fits name (as_told ds) (all_told_fit ds)) (λ c p. (tt, p))
+call_is name ds = map_keeps _ event.Call _ OfClient (call_fits name (as_told ds) (all_told_fit ds)) (λ c p. (refl, p))
 
 client_is : (name : List ℕ) (ds : Items) → IfSome (of_client name ds) OfClient
 unfolding of_client
 client_is name ds =
-    cond_both (bytes_eq name (codes "begin-read")) _ _ (λ o. IfSome o OfClient) (λ h. map_keeps (number_pair_in ds) _ (λ p. (p.0 < 4294967296) × (p.1 < 4294967296)) OfClient (numbers_fit ds) (λ p q. (tt, q)))
-    (λ h. cond_both (bytes_eq name (codes "begin-read-input")) _ _ (λ o. IfSome o OfClient) (λ h. map_keeps (number_pair_in ds) _ (λ p. (p.0 < 4294967296) × (p.1 < 4294967296)) OfClient (numbers_fit ds) (λ p q. (tt, q)))
+    cond_both (bytes_eq name (codes "begin-read")) _ _ (λ o. IfSome o OfClient) (λ h. map_keeps (number_pair_in ds) _ (λ p. (p.0 < 4294967296) × (p.1 < 4294967296)) OfClient (numbers_fit ds) (λ p q. (refl, (q.0, (q.1, tt)))))
+    (λ h. cond_both (bytes_eq name (codes "begin-read-input")) _ _ (λ o. IfSome o OfClient) (λ h. map_keeps (number_pair_in ds) _ (λ p. (p.0 < 4294967296) × (p.1 < 4294967296)) OfClient (numbers_fit ds) (λ p q. (refl, (q.0, (q.1, tt)))))
     (λ h. cond_both (bytes_eq name (codes "begin-read-with")) _ _ (λ o. IfSome o OfClient) (λ h. read_with_fits ds)
-    (λ h. cond_both (bytes_eq name (codes "collect")) _ _ (λ o. IfSome o OfClient) (λ h. none_is OfClient event.Collect ds (tt, tt))
-    (λ h. cond_both (bytes_eq name (codes "take-ctrl")) _ _ (λ o. IfSome o OfClient) (λ h. none_is OfClient event.TakeCtrl ds (tt, tt))
+    (λ h. cond_both (bytes_eq name (codes "collect")) _ _ (λ o. IfSome o OfClient) (λ h. none_is OfClient event.Collect ds (refl, tt))
+    (λ h. cond_both (bytes_eq name (codes "take-ctrl")) _ _ (λ o. IfSome o OfClient) (λ h. none_is OfClient event.TakeCtrl ds (refl, tt))
     (λ h. cond_both (bytes_eq name (codes "exit")) _ _ (λ o. IfSome o OfClient)
-    (λ h. map_keeps (option_and_then number_in (only ds)) event.Exit (λ n. n < 4294967296) OfClient (only_keeps ds number_in (λ n. n < 4294967296) (λ d. below_fits 4294967296 d)) (λ n p. (tt, p)))
+    (λ h. map_keeps (option_and_then number_in (only ds)) event.Exit (λ n. n < 4294967296) OfClient (only_keeps ds number_in (λ n. n < 4294967296) (λ d. below_fits 4294967296 d)) (λ n p. (refl, (p, tt))))
     (λ h. call_is name ds))))))
 
 feed_fits : (d : Data) → IfSome (feed_in d) (Own actor.Terminal)
-feed_fits d = map_keeps (option_and_then unhex_bytes (as_str d)) event.Feed AreBytes (Own actor.Terminal) (and_then_keeps (as_str d) unhex_bytes (λ _. Unit {0}) AreBytes (any (as_str d)) (λ s p. bytes_fit s)) (λ bs p. (tt, p))
+feed_fits d = map_keeps (option_and_then unhex_bytes (as_str d)) event.Feed AreBytes (Own actor.Terminal) (and_then_keeps (as_str d) unhex_bytes (λ _. Unit {0}) AreBytes (any (as_str d)) (λ s p. bytes_fit s)) (λ bs p. (refl, p))
 
 terminal_is : (name : List ℕ) (ds : Items) → IfSome (of_terminal name ds) (Own actor.Terminal)
 unfolding of_terminal
 terminal_is name ds =
     cond_both (bytes_eq name (codes "feed")) _ _ (λ o. IfSome o (Own actor.Terminal)) (λ h. only_keeps ds feed_in (Own actor.Terminal) feed_fits)
-    (λ h. cond_both (bytes_eq name (codes "quiet")) _ _ (λ o. IfSome o (Own actor.Terminal)) (λ h. none_is (Own actor.Terminal) event.Quiet ds (tt, tt))
-    (λ h. cond_both (bytes_eq name (codes "resize")) _ _ (λ o. IfSome o (Own actor.Terminal)) (λ h. map_keeps (unit_pair_in ds) _ (λ p. (p.0 < 65536) × (p.1 < 65536)) (Own actor.Terminal) (pair_of_units ds) (λ p q. (tt, q)))
-    (λ h. cond_both (bytes_eq name (codes "ask")) _ _ (λ o. IfSome o (Own actor.Terminal)) (λ h. none_is (Own actor.Terminal) event.Ask ds (tt, tt))
-    (λ h. cond_both (bytes_eq name (codes "hangup")) _ _ (λ o. IfSome o (Own actor.Terminal)) (λ h. none_is (Own actor.Terminal) event.Hangup ds (tt, tt))
-    (λ h. cond_both (bytes_eq name (codes "drained")) _ _ (λ o. IfSome o (Own actor.Terminal)) (λ h. none_is (Own actor.Terminal) event.Drained ds (tt, tt)) (λ h. tt))))))
+    (λ h. cond_both (bytes_eq name (codes "quiet")) _ _ (λ o. IfSome o (Own actor.Terminal)) (λ h. none_is (Own actor.Terminal) event.Quiet ds (refl, tt))
+    (λ h. cond_both (bytes_eq name (codes "resize")) _ _ (λ o. IfSome o (Own actor.Terminal)) (λ h. map_keeps (unit_pair_in ds) _ (λ p. (p.0 < 65536) × (p.1 < 65536)) (Own actor.Terminal) (pair_of_units ds) (λ p q. (refl, (q.0, (q.1, tt)))))
+    (λ h. cond_both (bytes_eq name (codes "ask")) _ _ (λ o. IfSome o (Own actor.Terminal)) (λ h. none_is (Own actor.Terminal) event.Ask ds (refl, tt))
+    (λ h. cond_both (bytes_eq name (codes "hangup")) _ _ (λ o. IfSome o (Own actor.Terminal)) (λ h. none_is (Own actor.Terminal) event.Hangup ds (refl, tt))
+    (λ h. cond_both (bytes_eq name (codes "drained")) _ _ (λ o. IfSome o (Own actor.Terminal)) (λ h. none_is (Own actor.Terminal) event.Drained ds (refl, tt)) (λ h. tt))))))
 
 painter_is : (name : List ℕ) (ds : Items) → IfSome (of_painter name ds) (Own actor.Painter)
 unfolding of_painter
-painter_is name ds = cond_both (bytes_eq name (codes "paint")) _ _ (λ o. IfSome o (Own actor.Painter)) (λ h. none_is (Own actor.Painter) event.Paint ds (tt, tt)) (λ h. tt)
+painter_is name ds = cond_both (bytes_eq name (codes "paint")) _ _ (λ o. IfSome o (Own actor.Painter)) (λ h. none_is (Own actor.Painter) event.Paint ds (refl, tt)) (λ h. tt)
 
 -- what types and the table keep of an actor
 abbrev ActorFits : Actor → Type 0

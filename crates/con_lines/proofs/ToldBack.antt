@@ -63,8 +63,8 @@ bytes_back (b ∷ bs) p = rw (byte_back b p.0, bytes_back bs p.1) refl
 -- ---- values
 
 small_back : (z : ℤ) → IsSmall z → signed_in (whole z) ≡ Some z
-small_back (pos n) p = rw (is_below n 9223372036854775808 (omega (arith, p)), is_most n 32767 p) refl
-small_back (negsuc n) p = rw (is_most n 32767 p) refl
+small_back (pos n) p = rw (is_below n 9223372036854775808 (omega (arith, p)), is_most n 32767 (omega (arith, p))) refl
+small_back (negsuc n) p = rw (is_most n 32767 (omega (arith, p))) refl
 
 pub rect_back : (r : Rect) → RectFits r → rect_in (rect_data r) ≡ Some r
 rect_back r p = rw (small_back r.left p.0, small_back r.top p.1, small_back r.right p.2, small_back r.bottom p.3) refl

@@ -1,4 +1,4 @@
--- What a reader must believe: how values are shown, what events are answered with, lines, which lines there are, the last line.
+-- What a reader must believe: how values are shown, events with their arguments and answers, lines, which lines there are, the last line.
 pub mod Hex
 pub mod Shown
 pub mod Form

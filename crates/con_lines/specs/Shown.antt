@@ -1,21 +1,19 @@
 -- What a report shows of arguments and answers, as JSON.
-use Rattle.std.specs.Prelude.{ℕ, ℤ, List, [], ◌∷◌, map, codes, Some, None}
+use Rattle.std.specs.Prelude.{ℕ, ℤ, List, [], ◌∷◌, map, codes}
+use Rattle.std.specs.Option.{option_map_or}
 use Rattle.con_units.specs.Glyph.{Glyph}
 use Rattle.con_units.specs.declared.place.Rect.{Rect}
 use Rattle.con_records.specs.declared.record.Record.{Record}
 use Rattle.con_records.specs.declared.record.Record.TheVariants as record_of
 use Rattle.con_events.specs.declared.call.Words.TheVariants.{One, Each}
 use Rattle.con_events.specs.Arg.{Arg, Number, Signed, OneUnit, Flag, Text, Area, Clip, WordsOf, WordList, Records}
-use Rattle.serde_json.specs.Data.{Data, null, boolean, number, string, array, unsigned, Items, no_items, item}
+use Rattle.serde_json.specs.Data.{Data, null, boolean, number, string, array, unsigned, Items}
+use Rattle.serde_json.specs.View.{items_of}
 use Rattle.serde_json.specs.Find.{of_integer}
 use Rattle.con_lines.specs.Hex.{hex_units}
 
-abbrev pub items : List Data → Items
-items [] = no_items
-items (d ∷ ds) = item d (items ds)
-
 abbrev pub list_of : List Data → Data
-list_of ds = array (items ds)
+list_of ds = array (items_of ds)
 
 -- a number of 0 or more, and one with its sign
 abbrev pub natural : ℕ → Data
@@ -39,9 +37,6 @@ record_data (record_of.Size s) = list_of (string (codes "size") ∷ natural s.w 
 record_data (record_of.Menu n) = list_of (string (codes "menu") ∷ natural n ∷ [])
 record_data (record_of.Focus b) = list_of (string (codes "focus") ∷ boolean b ∷ [])
 
-abbrev pub records_data : List Record → Data
-records_data rs = list_of (map record_data rs)
-
 -- an argument of a call
 abbrev pub shown : Arg → Data
 shown (Number n) = natural n
@@ -50,14 +45,21 @@ shown (OneUnit u) = natural u
 shown (Flag b) = boolean b
 shown (Text us) = units_text us
 shown (Area r) = rect_data r
-shown (Clip None) = null
-shown (Clip (Some r)) = rect_data r
+shown (Clip r) = option_map_or rect_data r null
 shown (WordsOf (One w)) = natural w
 shown (WordsOf (Each ws)) = units_text ws
 shown (WordList ws) = units_text ws
-shown (Records rs) = records_data rs
+shown (Records rs) = list_of (map record_data rs)
 
 -- each cell's unit and word
 abbrev pub cell_words : List Glyph → List ℕ
 cell_words [] = []
 cell_words (g ∷ gs) = g.unit ∷ g.attr.word ∷ cell_words gs
+
+-- ---- the code's own words
+
+abbrev pub items : List Data → Items
+items ds = items_of ds
+
+abbrev pub records_data : List Record → Data
+records_data rs = list_of (map record_data rs)

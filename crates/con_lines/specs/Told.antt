@@ -24,8 +24,8 @@ use Rattle.con_events.specs.Reading.{Item, call_from, whole as whole_from}
 use Rattle.con_values.specs.Values.{number_in, unit_in, signed_in, rect_in, clip_in, records_in}
 use Rattle.serde_json.specs.Data.{Data, string, Items, no_items, item}
 use Rattle.serde_json.specs.Find.{as_number, as_u64, as_i64, as_bool, as_str, as_array}
-use Rattle.con_lines.specs.declared.form.Form.{Form}
-use Rattle.con_lines.specs.declared.form.Form.TheVariants as form
+use Rattle.con_events.specs.declared.form.Form.{Form}
+use Rattle.con_events.specs.declared.form.Form.TheVariants as form
 use Rattle.con_lines.specs.declared.said.Said.{Said}
 use Rattle.con_lines.specs.Ending.{Ending, alone, worded, at_frame}
 use Rattle.con_lines.specs.Form.{form_of}

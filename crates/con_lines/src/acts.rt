@@ -1,10 +1,12 @@
 //! Who acts, and what, in a line.
 
-ghost use Rattle.std.specs.Prelude.{◌≡◌, List, [], ◌∷◌, ◌++◌, IfOk};
+ghost use Rattle.std.specs.Prelude.{◌≡◌, List, [], ◌∷◌, ◌++◌, map, codes, IfOk};
 ghost use Rattle.json.specs.Print.{escape};
 ghost use Rattle.serde_json.specs.Data.{string};
-ghost use Rattle.con_lines.specs.Shown.{list_of};
-ghost use Rattle.con_lines.specs.Line.{actor_text, wanted_name, event_name, wanted_data, event_data};
+ghost use Rattle.con_lines.specs.Shown.{list_of, shown};
+ghost use Rattle.con_events.specs.Table.{wanted_spelled};
+ghost use Rattle.con_lines.specs.Form.{event_name};
+ghost use Rattle.con_lines.specs.Line.{actor_text, event_data};
 ghost use Rattle.con_lines.specs.Writing.{put, put_each};
 
 use crate::line::Line;
@@ -15,7 +17,7 @@ use itoa::Buffer;
 /// The name of a wait's begin.
 #[tactic(auto, unfolding(json::specs::Print::escape_byte))]
 fn wanted_name_of(wanted: &Wanted) -> &'static str
-    ensures name { result.now ≡ wanted_name wanted.now }
+    ensures name { result.now ≡ codes "begin-" ++ (wanted_spelled wanted.now).0 }
     ensures plain { escape result.now ≡ result.now }
 {
     match wanted {
@@ -72,7 +74,7 @@ impl Line {
     }
 
     fn wanted(&mut self, wanted: &Wanted) -> Result<(), OutOfMemory>
-        ensures { IfOk result (λ _. self.new ≡ put_each self.old (wanted_data wanted.now)) }
+        ensures { IfOk result (λ _. self.new ≡ put_each self.old (map shown (wanted_spelled wanted.now).1)) }
     {
         match wanted {
             Wanted::Read { handle, n } | Wanted::ReadInput { handle, n } => {

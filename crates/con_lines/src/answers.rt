@@ -11,9 +11,8 @@ ghost use Rattle.con_lines.specs.Told.{code_of, is_bare as none_there, flag_of, 
 ghost use Rattle.con_lines.specs.Told.{fail_in, answer_named, answer_items, reply_in, length_in, painted_in};
 
 use crate::cursor::units;
-use crate::form::Form;
 use crate::unhex::{cells_of, units_from};
-use con_events::{Lines, Misread, Numbers, Reply};
+use con_events::{Form, Lines, Misread, Numbers, Reply};
 use con_units::{Code, OutOfMemory};
 use con_values::{number, records, rect};
 use serde_json::Value;

@@ -3,36 +3,7 @@
 ghost use Rattle.std.specs.Prelude.{◌≡◌};
 ghost use Rattle.con_lines.specs.Form.{form_of, call_form};
 
-use con_events::{Call, Event};
-
-/// What an event is answered with, where it is not refused.
-#[derive(Clone, Copy, Drop)]
-pub enum Form {
-    /// Nothing but that it is done.
-    Nothing,
-    /// A number.
-    Number,
-    /// So many numbers.
-    Fields(u8),
-    /// A number, and whether something is so.
-    NumberAndFlag,
-    /// The four sides of a rectangle.
-    Sides,
-    /// Any count of numbers.
-    Ids,
-    /// A text, or words.
-    Units,
-    /// Records.
-    Records,
-    /// The sides of a rectangle and its cells.
-    Cells,
-    /// Texts.
-    Lines,
-    /// What a wait gives: a text or records.
-    Wait,
-    /// A control event.
-    Control,
-}
+use con_events::{Call, Event, Form};
 
 /// What a call is answered with.
 pub fn call_form_of(call: &Call) -> Form

@@ -49,6 +49,5 @@ pub mod shows;
 pub mod unhex;
 
 pub use ending::EndLine;
-pub use form::Form;
 pub use line::Line;
 pub use said::{LineRead, Said};

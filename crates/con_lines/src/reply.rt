@@ -7,9 +7,8 @@ ghost use Rattle.con_lines.specs.Shown.{list_of, natural as natural_data, whole 
 ghost use Rattle.con_lines.specs.Line.{ok as ok_data, number_and_flag as number_and_flag_data, numbers_data, reply_data};
 ghost use Rattle.con_lines.specs.Writing.{put, put_each};
 
-use crate::form::Form;
 use crate::line::Line;
-use con_events::Reply;
+use con_events::{Form, Reply};
 use con_units::{OutOfMemory, Units};
 
 #[tactic(auto, using(crate::proofs::Puts::arrays), unfolding(json::specs::Print::escape_byte))]

@@ -37,7 +37,7 @@ pub mod reply;
 pub mod trace;
 
 pub use audit::{AuditLine, write_audit};
-pub use con_lines::{EndLine, Form, Line, Said};
+pub use con_lines::{EndLine, Line, Said};
 pub use ending::write_end;
 pub use entry::write_entry;
 pub use laws::{none_is_wrong, report_tells};
