@@ -1,5 +1,4 @@
 pub mod FileLemmas
-pub mod Pictures
 pub mod Ends
 pub mod OneList
 pub mod Fronts

@@ -16,7 +16,7 @@ use Rattle.con_lines.specs.Ending.{Ending, IsEnding, ending_text}
 use Rattle.con_trace.specs.Report.{AreLines, said_text, report, History, end_of, ends_behind, said, with_picture, pictures, IsHistory, report_of, IsWrongAt}
 use Rattle.con_trace.specs.Cut.{cut_line, IsNeither, texts, with_end, ends_of, with_said, Gathers}
 use Rattle.con_lines.proofs.TablesFit.{map_keeps}
-use Rattle.con_trace.proofs.Tells.{said_cut, ending_cut, ended_then}
+use Rattle.con_trace.proofs.Tells.{said_cut, ending_cut, ended_then, pictures_are_paints}
 
 -- ---- a text cut at its first line feed
 
@@ -193,7 +193,7 @@ same_length f g (s ∷ ss) = omega (arith, same_length f g ss)
 pub history_is : (ss : List Said) → AreLines ss → IsHistory (record { entries = map (λ s. s.entry) ss; replies = map (λ s. s.reply) ss; ends = ends_of ss })
 history_is ss p = record {
   answered = same_length (λ s. s.reply) (λ s. s.entry) ss;
-  shown = pictures_are ss;
+  shown = pictures_are ss ∙ pictures_are_paints (map (λ s. s.entry) ss);
   lines = subst AreLines (sym (said_again ss p)) p;
 }
 

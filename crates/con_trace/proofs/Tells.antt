@@ -1,9 +1,10 @@
 -- A report determines what it was written for.
-use Rattle.std.proofs.Common.{◌≡◌, ℕ, zero, suc, ◌≤◌, List, [], ◌∷◌, ◌++◌, length, map, refl, ap, sym, subst, ◌∙◌, arith, append_assoc, append-nil, Option, Some, None, false}
-use Rattle.std.specs.Prelude.{unwrap_or, ◌==◌, option_and_then}
+use Rattle.std.proofs.Common.{◌≡◌, ℕ, zero, suc, ◌+◌, ◌≤◌, List, [], ◌∷◌, ◌++◌, length, map, refl, ap, sym, subst, ◌∙◌, arith, append_assoc, append-nil, Option, Some, None, false}
+use Rattle.std.specs.Prelude.{unwrap_or, ◌==◌, if◌then◌else◌, option_and_then}
 use Rattle.std.proofs.Common.{inl, inr}
 use Rattle.std.specs.Str.{IsUtf8}
 use Rattle.std.proofs.lemmas.Bool.Decides.{nat_tests}
+use Rattle.con_events.specs.Actors.{is_paint, paints}
 use Rattle.con_events.specs.declared.entry.Entry.{Entry}
 use Rattle.con_events.specs.declared.event.Event.{Event}
 use Rattle.con_events.specs.declared.event.Event.TheVariants as event
@@ -126,6 +127,15 @@ lines_tell (a ∷ ss) (b ∷ ts) e f p q g h same =
     let more = lines_tell ss ts e f p.1 q.1 g h cut.1 in
     (rw (same_line a b p.0 q.0 cut.0, more.0) refl, more.1)
 
+-- pictures are the Paints
+one_picture : (e : Event) (n : ℕ) → with_picture e n ≡ (if is_paint e then 1 else 0) + n
+one_picture event.Paint n = omega arith
+one_picture _ n = omega arith
+
+pub pictures_are_paints : (h : List Entry) → pictures h ≡ paints h
+pictures_are_paints [] = refl
+pictures_are_paints (x ∷ xs) = one_picture x.event (pictures xs) ∙ ap (λ n. (if is_paint x.event then 1 else 0) + n) (pictures_are_paints xs)
+
 -- the history that lines have
 pub record Same (es : List Entry) (rs : List Reply) (ns : List ℕ) (ss : List Said) : Type 0 where
   pub entries : map (λ s. s.entry) ss ≡ es
@@ -153,8 +163,8 @@ unsaid (e ∷ es) (r ∷ rs) ns p q =
 
 history_same : (h k : History) → IsHistory h → IsHistory k → said h.entries h.replies h.ends ≡ said k.entries k.replies k.ends → h ≡ k
 history_same h k p q e =
-    let a = unsaid h.entries h.replies h.ends p.answered p.shown in
-    let b = unsaid k.entries k.replies k.ends q.answered q.shown in
+    let a = unsaid h.entries h.replies h.ends p.answered (p.shown ∙ sym (pictures_are_paints h.entries)) in
+    let b = unsaid k.entries k.replies k.ends q.answered (q.shown ∙ sym (pictures_are_paints k.entries)) in
     let entries : h.entries ≡ k.entries = sym a.entries ∙ (ap (map (λ s. s.entry)) e ∙ b.entries) in
     let replies : h.replies ≡ k.replies = sym a.replies ∙ (ap (map (λ s. s.reply)) e ∙ b.replies) in
     let ends : h.ends ≡ k.ends = sym a.ends ∙ (ap ends_of e ∙ b.ends) in

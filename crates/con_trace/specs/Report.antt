@@ -1,5 +1,7 @@
 -- A whole report, and what is wrong with another text.
 use Rattle.std.specs.Prelude.{◌≡◌, ◌⊎◌, ℕ, zero, suc, ◌<◌, List, [], ◌∷◌, ◌++◌, length}
+use Rattle.std.specs.List.{AllByRecursion}
+use Rattle.con_events.specs.Actors.{paints}
 use Rattle.con_events.specs.declared.entry.Entry.{Entry}
 use Rattle.con_events.specs.declared.event.Event.{Event}
 use Rattle.con_events.specs.declared.event.Event.TheVariants as event
@@ -9,10 +11,6 @@ use Rattle.con_trace.specs.declared.trace.Trace.{Trace}
 use Rattle.con_lines.specs.Line.{line_text, ended}
 use Rattle.con_lines.specs.Fits.{IsLine}
 use Rattle.con_lines.specs.Ending.{Ending, IsEnding, status_of, ending_text}
-
-abbrev pub AreLines : List Said → Type 0
-AreLines [] = Unit {0}
-AreLines (s ∷ ss) = IsLine s × AreLines ss
 
 abbrev pub said_text : Said → List ℕ
 said_text s = ended (line_text s.entry s.reply s.end)
@@ -28,34 +26,21 @@ pub record History : Type 0 where
   pub replies : List Reply
   pub ends : List ℕ
 
-abbrev pub end_of : Event → List ℕ → ℕ
-end_of event.Paint [] = 0
-end_of event.Paint (n ∷ ns) = n
-end_of other ns = 0
-
-abbrev pub ends_behind : Event → List ℕ → List ℕ
-ends_behind event.Paint [] = []
-ends_behind event.Paint (n ∷ ns) = ns
-ends_behind other ns = ns
+-- the length that an event takes, which a picture has, and those behind it
+abbrev pub next_end : Event → List ℕ → ℕ × List ℕ
+next_end event.Paint [] = (0, [])
+next_end event.Paint (n ∷ ns) = (n, ns)
+next_end other ns = (0, ns)
 
 abbrev pub said : List Entry → List Reply → List ℕ → List Said
-said [] rs ns = []
-said (e ∷ es) [] ns = []
-said (e ∷ es) (r ∷ rs) ns = record { entry = e; reply = r; end = end_of e.event ns } ∷ said es rs (ends_behind e.event ns)
-
-abbrev pub with_picture : Event → ℕ → ℕ
-with_picture event.Paint n = suc n
-with_picture other n = n
-
-abbrev pub pictures : List Entry → ℕ
-pictures [] = 0
-pictures (e ∷ es) = with_picture e.event (pictures es)
+said (e ∷ es) (r ∷ rs) ns = record { entry = e; reply = r; end = (next_end e.event ns).0 } ∷ said es rs (next_end e.event ns).1
+said _ _ ns = []
 
 -- the history has an answer for each event and a length for each picture, all of them as lines have them
 pub record IsHistory (h : History) : Type 0 where
   pub answered : length h.replies ≡ length h.entries
-  pub shown : length h.ends ≡ pictures h.entries
-  pub lines : AreLines (said h.entries h.replies h.ends)
+  pub shown : length h.ends ≡ paints h.entries
+  pub lines : AllByRecursion IsLine (said h.entries h.replies h.ends)
 
 abbrev pub report_of : History → Ending → List ℕ
 report_of h last = report (said h.entries h.replies h.ends) last
@@ -86,3 +71,23 @@ ReportTells = (h k : History) (last other : Ending) → IsHistory h → IsHistor
 -- no line of a report is wrong
 abbrev pub NoneIsWrong : Type 0
 NoneIsWrong = (h : History) (last : Ending) (n : ℕ) → IsHistory h → IsEnding last → IsWrongAt n (report_of h last) → ⊥
+
+-- ---- the code's own words
+
+abbrev pub AreLines : List Said → Type 0
+AreLines ss = AllByRecursion IsLine ss
+
+abbrev pub end_of : Event → List ℕ → ℕ
+end_of e ns = (next_end e ns).0
+
+abbrev pub ends_behind : Event → List ℕ → List ℕ
+ends_behind e ns = (next_end e ns).1
+
+abbrev pub with_picture : Event → ℕ → ℕ
+with_picture event.Paint n = suc n
+with_picture other n = n
+
+-- as `paints`
+abbrev pub pictures : List Entry → ℕ
+pictures [] = 0
+pictures (e ∷ es) = with_picture e.event (pictures es)
