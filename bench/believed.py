@@ -111,6 +111,10 @@ class Reading:
         file = self.file(crate, module)
         if file is None:
             return
+        if name not in file.definitions and name in file.imports:
+            # what a file hands on stands in another one
+            self.reach(*file.imports[name])
+            return
         if name not in file.definitions:
             # a constructor or a field is reached with the type that it belongs to
             owner = next((it for it in file.definitions if re.search(rf"^\s+(pub )?{re.escape(name)}\s*:", self.text(file, it), re.M)), None)

@@ -1,6 +1,8 @@
 -- One step of the console: an event of an actor gives a new console and a reply. And when an event may be entered.
 use Rattle.std.specs.Prelude.{ℕ, ◌&&◌, ◌||◌, Bool, true, false, not, is_some, [], if◌then◌else◌}
 use Rattle.con_units.specs.declared.code.Code.TheVariants as code
+pub use Rattle.con_events.specs.Actors.{is_clients, is_actors}
+use Rattle.con_events.specs.Actors.{is_paint}
 use Rattle.con_events.specs.Session.{is_size}
 use Rattle.con_events.specs.declared.actor.Actor.{Actor}
 use Rattle.con_events.specs.declared.actor.Actor.TheVariants as actors
@@ -18,24 +20,8 @@ use Rattle.con_machine.specs.Reads.{began, collected, took_ctrl, left}
 use Rattle.con_machine.specs.Terminal.{fed, quiet, resized, asked, drained}
 use Rattle.con_machine.specs.Painting.{view_now, is_paint_due, painted}
 
--- ---- whose event it is
-
-abbrev pub is_clients : Event → Bool
-is_clients (events.Call c) = true
-is_clients (events.Begin w) = true
-is_clients events.Collect = true
-is_clients events.TakeCtrl = true
-is_clients (events.Exit n) = true
-is_clients _ = false
-
 abbrev pub is_painters : Event → Bool
-is_painters events.Paint = true
-is_painters _ = false
-
-abbrev pub is_actors : Actor → Event → Bool
-is_actors (actors.Client p) e = is_clients e
-is_actors actors.Terminal e = not (is_clients e) && not (is_painters e)
-is_actors actors.Painter e = is_painters e
+is_painters e = is_paint e
 
 abbrev pub client_of : Actor → ℕ
 client_of (actors.Client p) = p
