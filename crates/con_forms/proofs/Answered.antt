@@ -32,9 +32,8 @@ use Rattle.con_machine.specs.ProcessCalls.{on_place}
 use Rattle.con_machine.specs.Reads.{began, collected, took_ctrl, answer_told, units_told}
 use Rattle.con_machine.specs.Step.{client_of, effect, finished, is_outside, step}
 use Rattle.con_machine.specs.declared.reads.noted.Noted.{Noted}
-use Rattle.con_lines.specs.declared.form.Form.{Form}
-use Rattle.con_lines.specs.declared.form.Form.TheVariants as form
-use Rattle.con_lines.specs.Fits.{IsFlag}
+use Rattle.con_events.specs.declared.form.Form.{Form}
+use Rattle.con_events.specs.declared.form.Form.TheVariants as form
 use Rattle.con_lines.specs.Form.{call_form, form_of}
 use Rattle.con_forms.specs.Formed.{HasForm, refuses, is_done, has_number, has_fields, has_flag, has_sides, has_ids, has_units, has_records, has_cells, has_lines, waits_for_units, waits_for_records, has_control}
 use Rattle.con_forms.specs.Laws.{AnswerHasForm, AnswersHaveForms}
@@ -83,10 +82,6 @@ sets_mode : (s : State) (n : ℕ) (o : Object) → HasForm form.Nothing (mode_ch
 sets_mode s n object.Input = if_answer s _ _
 sets_mode s n (object.Output id) = if_answer s _ _
 
-flag : (b : Bool) → IsFlag (if b then pos 1 else pos 0)
-flag true = tt
-flag false = tt
-
 reads_rect : (g : Picture) (r : Rect) → HasForm form.Cells (rect_told g r)
 reads_rect g r = either_reply (is_over (used_in g r)) _ _ (refuses form.Cells code.Limit) (has_cells (used_of g r) (rect_cells g r) (rect_plain g r))
 
@@ -112,7 +107,7 @@ answers_call s p (calls.SetMode h mode) = if_object s _ _ (λ o. sets_mode s mod
 answers_call s p (calls.Info h) = if_object s _ _ (λ o. has_fields 9 _ refl)
 answers_call s p (calls.SetSize handle w h) = if_object s (guard s p handle kind.Output 2) _ (λ o. if_answer s _ _)
 answers_call s p (calls.SetCursor h x y) = if_object s (guard s p h kind.Output 2) _ (λ o. if_answer s _ _)
-answers_call s p (calls.CursorInfo h) = if_object s _ _ (λ o. has_flag _ _ (flag _))
+answers_call s p (calls.CursorInfo h) = if_object s _ _ (λ o. has_flag _ _)
 answers_call s p (calls.SetCursorInfo h size visible) = if_object s (guard s p h kind.Output 2) _ (λ o. if_answer s _ _)
 answers_call s p (calls.SetOrigin h x y) = if_object s (guard s p h kind.Output 2) _ (λ o. if_answer s _ _)
 answers_call s p (calls.SetAttr h word) = if_object s _ _ (λ o. is_done)

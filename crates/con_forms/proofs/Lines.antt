@@ -1,6 +1,6 @@
 -- The lines of a legal history are lines of a report.
 use Rattle.std.proofs.Common.{◌≡◌, refl, sym, subst, ap, ◌∙◌, arith, ℕ, suc, ◌<◌, ◌≤◌, Bool, true, false, List, [], ◌∷◌, length, map, nat_lt, nat_le}
-use Rattle.std.specs.Prelude.{◌&&◌, ◌||◌, not, if◌then◌else◌}
+use Rattle.std.specs.Prelude.{◌&&◌, ◌||◌, if◌then◌else◌}
 use Rattle.std.proofs.lemmas.Bool.{cond_both, and_parts}
 use Rattle.std.proofs.lemmas.Bool.Decides.{nat_tests}
 use Rattle.con_units.specs.Attr.{plain}
@@ -15,15 +15,17 @@ use Rattle.con_events.specs.declared.reply.Reply.TheVariants as reply
 use Rattle.con_machine.specs.Follows.{are_of_session, is_one_of}
 use Rattle.con_machine.specs.History.{is_legal}
 use Rattle.con_machine.specs.State.{State}
-use Rattle.con_machine.specs.Step.{client_of, is_actors, is_clients, is_due, is_outside, is_painters, is_ready, step}
-use Rattle.con_lines.specs.declared.form.Form.{Form}
+use Rattle.con_events.specs.Actors.{is_actors}
+use Rattle.con_machine.specs.Step.{client_of, is_due, is_outside, is_ready, step}
+use Rattle.con_events.specs.declared.form.Form.{Form}
 use Rattle.con_lines.specs.declared.said.Said.{Said}
-use Rattle.con_lines.specs.Fits.{IsOfClients, IsOfTerminal, IsOfPainter, IsOwn, AreRead, ReplyFits, refused, is_done as done_fits, is_number, are_fields, number_and_flag, are_sides, are_ids, are_units, are_records, are_cells, are_lines, waited_units, waited_records, is_control, AnswerFits, LineFits}
+use Rattle.con_lines.specs.Fits.{IsOwn, AreRead, ReplyFits, refused, is_done as done_fits, is_number, are_fields, number_and_flag, are_sides, are_ids, are_units, are_records, are_cells, are_lines, waited_units, waited_records, is_control, AnswerFits, LineFits}
 use Rattle.con_trace.specs.Report.{AreLines, end_of, ends_behind, pictures, said, with_picture}
 use Rattle.con_forms.specs.Formed.{ArePlain, HasForm, IsPicture, refuses, is_done, has_number, has_fields, has_flag, has_sides, has_ids, has_units, has_records, has_cells, has_lines, waits_for_units, waits_for_records, has_control, reported}
 use Rattle.con_forms.specs.Kept.{ActorKeeps, AreCells, EndsKeep, EntriesKeep, EntryKeeps, RepliesKeep, ReplyKeeps}
 use Rattle.con_forms.specs.Told.{has_end, is_told, told}
 use Rattle.con_forms.specs.Laws.{AllAreTold, AnswerHasForm, AreSaid, EachIsTold, HistoriesFit, answers}
+use Rattle.con_trace.proofs.Tells.{pictures_are_paints}
 use Rattle.con_forms.proofs.Answered.{answers_have_forms}
 
 -- ---- an answer
@@ -39,7 +41,7 @@ fits _ _ (refuses f c) k = refused f c
 fits _ _ is_done k = done_fits
 fits _ _ (has_number n) k = is_number n k
 fits _ _ (has_fields n zs e) k = are_fields n zs e k
-fits _ _ (has_flag z b e) k = number_and_flag z b k.0 e
+fits _ _ (has_flag z b) k = number_and_flag z b k.0
 fits _ _ (has_sides zs e) k = are_sides zs e k
 fits _ _ (has_ids zs) k = are_ids zs k
 fits _ _ (has_units us) k = are_units us k
@@ -71,55 +73,13 @@ answer_fits event.Drained r ns h k n p = (fits _ r h k, refl)
 
 -- ---- whose event it is
 
-of_clients : (e : Event) → is_clients e ≡ true → IsOfClients e
-of_clients (event.Call c) h = tt
-of_clients (event.Begin w) h = tt
-of_clients event.Collect h = tt
-of_clients event.TakeCtrl h = tt
-of_clients (event.Exit n) h = tt
-of_clients (event.Feed bs) h = absurd (cc)
-of_clients event.Quiet h = absurd (cc)
-of_clients (event.Resize s) h = absurd (cc)
-of_clients event.Ask h = absurd (cc)
-of_clients event.Hangup h = absurd (cc)
-of_clients event.Drained h = absurd (cc)
-of_clients event.Paint h = absurd (cc)
-
-of_terminal : (e : Event) → (not (is_clients e) && not (is_painters e)) ≡ true → IsOfTerminal e
-of_terminal (event.Call c) h = absurd (cc)
-of_terminal (event.Begin w) h = absurd (cc)
-of_terminal event.Collect h = absurd (cc)
-of_terminal event.TakeCtrl h = absurd (cc)
-of_terminal (event.Exit n) h = absurd (cc)
-of_terminal (event.Feed bs) h = tt
-of_terminal event.Quiet h = tt
-of_terminal (event.Resize s) h = tt
-of_terminal event.Ask h = tt
-of_terminal event.Hangup h = tt
-of_terminal event.Drained h = tt
-of_terminal event.Paint h = absurd (cc)
-
-of_painter : (e : Event) → is_painters e ≡ true → IsOfPainter e
-of_painter (event.Call c) h = absurd (cc)
-of_painter (event.Begin w) h = absurd (cc)
-of_painter event.Collect h = absurd (cc)
-of_painter event.TakeCtrl h = absurd (cc)
-of_painter (event.Exit n) h = absurd (cc)
-of_painter (event.Feed bs) h = absurd (cc)
-of_painter event.Quiet h = absurd (cc)
-of_painter (event.Resize s) h = absurd (cc)
-of_painter event.Ask h = absurd (cc)
-of_painter event.Hangup h = absurd (cc)
-of_painter event.Drained h = absurd (cc)
-of_painter event.Paint h = tt
-
 from_one : (p n : ℕ) → (nat_lt 0 p && nat_le p n) ≡ true → 0 < p
 from_one p n h = let k = (and_parts (nat_lt 0 p) (nat_le p n) h).0 in grind (arith, nat_tests)
 
 own : (n : ℕ) (a : Actor) (e : Event) → is_actors a e ≡ true → is_one_of n a ≡ true → ActorKeeps a → IsOwn a e
-own n (actor.Client p) e h o k = (from_one p n o, k, of_clients e h)
-own n actor.Terminal e h o k = of_terminal e h
-own n actor.Painter e h o k = of_painter e h
+own n (actor.Client p) e h o k = (from_one p n o, k, h)
+own n actor.Terminal e h o k = h
+own n actor.Painter e h o k = h
 
 actors_own : (s : State) (a : Actor) (e : Event) → is_ready s a e ≡ true → is_actors a e ≡ true
 unfolding is_ready
@@ -197,7 +157,7 @@ said_again (x ∷ xs) (r ∷ rs) ns =
 pub histories_fit : HistoriesFit
 histories_fit s n h ns end legal session kept few = record {
   answered = same_length (told h (answers s h) ns);
-  shown = shown h (answers s h) ns (as_many s h) few;
+  shown = shown h (answers s h) ns (as_many s h) few ∙ pictures_are_paints (map (λ s. s.entry) (told h (answers s h) ns));
   lines = subst AreLines (sym (said_again h (answers s h) ns)) (lines_fit s n h ns legal session kept.entries kept.replies kept.ends);
 }
 

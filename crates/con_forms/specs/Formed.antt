@@ -1,5 +1,5 @@
 -- The form of what the console answers, by the event: which kind of answer, and how many numbers; not how great they are.
-use Rattle.std.specs.Prelude.{◌≡◌, ℕ, ℤ, List, [], ◌∷◌, length}
+use Rattle.std.specs.Prelude.{◌≡◌, ℕ, ℤ, pos, Bool, if◌then◌else◌, List, [], ◌∷◌, length}
 use Rattle.con_units.specs.Glyph.{Glyph}
 use Rattle.con_units.specs.declared.code.Code.{Code}
 use Rattle.con_units.specs.declared.place.Rect.{Rect}
@@ -7,9 +7,8 @@ use Rattle.con_units.specs.declared.shade.Shade.TheVariants.{Plain}
 use Rattle.con_records.specs.declared.record.Record.{Record}
 use Rattle.con_events.specs.declared.reply.Reply.{Reply}
 use Rattle.con_events.specs.declared.reply.Reply.TheVariants as reply
-use Rattle.con_lines.specs.declared.form.Form.{Form}
-use Rattle.con_lines.specs.declared.form.Form.TheVariants.{Nothing, Number, Fields, NumberAndFlag, Sides, Ids, Units, Records, Cells, Lines, Wait, Control}
-use Rattle.con_lines.specs.Fits.{IsFlag}
+use Rattle.con_events.specs.declared.form.Form.{Form}
+use Rattle.con_events.specs.declared.form.Form.TheVariants.{Nothing, Number, Fields, NumberAndFlag, Sides, Ids, Units, Records, Cells, Lines, Wait, Control}
 
 -- cells with plain shades
 abbrev pub ArePlain : List Glyph → Type 0
@@ -22,7 +21,7 @@ pub data HasForm : Form → Reply → Type 0 where
   is_done : HasForm Nothing reply.Done
   has_number : (n : ℕ) → HasForm Number (reply.Number n)
   has_fields : (n : ℕ) (zs : List ℤ) → length zs ≡ n → HasForm (Fields n) (reply.Numbers zs)
-  has_flag : (z b : ℤ) → IsFlag b → HasForm NumberAndFlag (reply.Numbers (z ∷ b ∷ []))
+  has_flag : (z : ℤ) (b : Bool) → HasForm NumberAndFlag (reply.Numbers (z ∷ (if b then pos 1 else pos 0) ∷ []))
   has_sides : (zs : List ℤ) → length zs ≡ 4 → HasForm Sides (reply.Numbers zs)
   has_ids : (zs : List ℤ) → HasForm Ids (reply.Numbers zs)
   has_units : (us : List ℕ) → HasForm Units (reply.Units us)

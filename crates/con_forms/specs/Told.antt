@@ -4,7 +4,7 @@ use Rattle.con_events.specs.declared.entry.Entry.{Entry}
 use Rattle.con_events.specs.declared.event.Event.{Event}
 use Rattle.con_events.specs.declared.event.Event.TheVariants as event
 use Rattle.con_events.specs.declared.reply.Reply.{Reply}
-use Rattle.con_trace.specs.Report.{History, end_of, ends_behind}
+use Rattle.con_trace.specs.Report.{History, next_end}
 use Rattle.con_lines.specs.declared.said.Said.{Said}
 
 -- a picture has one of the lengths that are still to come, and any other event none
@@ -14,15 +14,13 @@ has_end event.Paint (n ∷ ns) = true
 has_end other ns = true
 
 abbrev pub told : List Entry → List Reply → List ℕ → List Said
-told (e ∷ es) (r ∷ rs) ns =
-    if has_end e.event ns
-    then (let s : Said = record { entry = e; reply = r; end = end_of e.event ns } in s) ∷ told es rs (ends_behind e.event ns)
-    else []
+told (e ∷ es) (r ∷ rs) ns = if has_end e.event ns
+    then (let s : Said = record { entry = e; reply = r; end = (next_end e.event ns).0 } in s) ∷ told es rs (next_end e.event ns).1 else []
 told _ _ ns = []
 
 -- each picture has a length
 abbrev pub is_told : List Entry → List Reply → List ℕ → Bool
-is_told (e ∷ es) (r ∷ rs) ns = has_end e.event ns && is_told es rs (ends_behind e.event ns)
+is_told (e ∷ es) (r ∷ rs) ns = has_end e.event ns && is_told es rs (next_end e.event ns).1
 is_told _ _ ns = true
 
 -- the history of these lines

@@ -5,8 +5,8 @@ ghost use Rattle.con_units.specs.Attr.{masked};
 ghost use Rattle.con_units.specs.Stored.{stored_unit};
 ghost use Rattle.con_events.specs.Arg.{Clip, WordsOf};
 ghost use Rattle.con_events.specs.Fits.{AreUnits, ArgFits, ArgsFit, IsSmall, RecordFits, RecordsFit, RectFits};
-ghost use Rattle.con_events.specs.Table.{args_of};
-ghost use Rattle.con_lines.specs.Fits.{AreBytes, AreTexts, AreWhole, EventFits, IsWhole, WantedFits};
+ghost use Rattle.con_events.specs.Table.{args_of, wanted_spelled};
+ghost use Rattle.con_lines.specs.Fits.{AreBytes, AreTexts, AreWhole, EventFits, IsWhole};
 ghost use Rattle.con_lines.specs.Shown.{cell_words};
 ghost use Rattle.con_forms.specs.Kept.{ActorKeeps, AreCells, EndKeeps, EndsKeep, EntriesKeep, EntryKeeps, Kept, RepliesKeep, ReplyKeeps};
 
@@ -319,7 +319,7 @@ fn scroll(handle: u32, source: &Rect, within: &Option<Rect>, x: &i16, y: &i16, f
 
 // What a client waits for.
 fn wanted(wanted: &Wanted)
-    ensures { WantedFits wanted.now }
+    ensures { ArgsFit (wanted_spelled wanted.now).1 }
 {
     match wanted {
         Wanted::Read { handle, n } | Wanted::ReadInput { handle, n } => {
