@@ -3,7 +3,7 @@ use denote.Param.Send.{IsSend, IsSync, sendable}
 use Rattle.std.proofs.Crossing.{crosses}
 use Rattle.con_grid.proofs.ring.Ring.TheSendSync as grid_ring
 use Rattle.con_grid.proofs.stamps.Stamps.TheSendSync as grid_stamps
-use Rattle.con_screen.proofs.margins.Margins.TheSendSync as screen_margins
+use Rattle.con_page.proofs.margins.Margins.TheSendSync as screen_margins
 use Rattle.con_cooked.proofs.recall.EditedLine.TheSendSync as cooked_editedline
 use Rattle.con_readers.proofs.wants_records.WantsRecords.TheSendSync as readers_wantsrecords
 use Rattle.con_readers.proofs.wants_units.WantsUnits.TheSendSync as readers_wantsunits
@@ -22,7 +22,7 @@ use Rattle.con_units.proofs.view.View.TheSendSync as units_view
 use Rattle.con_machine.proofs.painting.seen.Seen.TheSendSync as machine_seen
 use Rattle.con_vtgram.specs.contracts.splitter.Splitter as splitter
 use Rattle.con_grid.specs.contracts.grid.Grid as grid
-use Rattle.con_screen.specs.contracts.page.Page as page
+use Rattle.con_page.specs.contracts.page.Page as page
 use Rattle.con_screen.specs.contracts.screen.Screen as screen
 use Rattle.con_screens.specs.contracts.buffer.Buffer as buffer
 use Rattle.con_screens.specs.contracts.screens.Screens as screens

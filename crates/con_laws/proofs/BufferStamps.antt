@@ -7,13 +7,14 @@ use Rattle.std.proofs.Math.ListN.{get_or-map}
 use Rattle.std.proofs.lemmas.List.{map-set, length-map}
 use Rattle.con_units.specs.Glyph.{Glyph}
 use Rattle.con_units.specs.declared.place.Size.{Size}
-use Rattle.con_screen.specs.Echo.{changed, drawn_by, Echoed, echoed, ended, cursor_at, origin_in}
-use Rattle.con_screen.specs.Fit.{refitted}
-use Rattle.con_screen.specs.Page.{Page, down_in, shown}
+use Rattle.con_page.specs.Echo.{changed, drawn_by, ended, cursor_at, origin_in}
+use Rattle.con_screen.specs.Echo.{Echoed, echoed}
+use Rattle.con_page.specs.Fit.{refitted}
+use Rattle.con_page.specs.Page.{Page, down_in, shown}
 use Rattle.con_screen.specs.Screen.{Screen}
 use Rattle.con_screen.specs.Told.{Told}
 use Rattle.con_screen.specs.Written.{Stage, written, switches}
-use Rattle.con_screen.specs.declared.origin.Origin.{Origin}
+use Rattle.con_page.specs.declared.origin.Origin.{Origin}
 use Rattle.con_screens.specs.Buffer.{BufferStage, new_buffer, alternate_on, alternate_off, turned, carried, unit_written, written_on, buffer_written, told_on}
 use Rattle.con_screens.specs.Buffers.{Buffers, buffer_at, screen_in, screen_at, is_alternate, free_id, with_slot, with_buffer, created, handles_of, with_handles, handle_retained, gone, handle_released}
 use Rattle.con_screens.specs.Lending.{with_shown, screen_left}

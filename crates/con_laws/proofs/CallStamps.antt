@@ -24,12 +24,12 @@ use Rattle.con_rects.specs.Rules.{redrawn, rect_cells, rect_written}
 use Rattle.con_rects.specs.Runs.{run_count, units_written, words_written, unit_filled, word_filled}
 use Rattle.con_rects.specs.Scroll.{scrolled}
 use Rattle.con_screen.specs.ModeSet.{mode_set}
-use Rattle.con_screen.specs.Mode.{number_of}
-use Rattle.con_screen.specs.Page.{Page, shown}
+use Rattle.con_page.specs.Mode.{number_of}
+use Rattle.con_page.specs.Page.{Page, shown}
 use Rattle.con_screen.specs.Screen.{Screen}
-use Rattle.con_screen.specs.Setters.{info_of, cursor_set, origin_set, pen_of_word}
+use Rattle.con_page.specs.Setters.{info_of, cursor_set, origin_set, pen_of_word}
 use Rattle.con_screen.specs.Told.{Told, nothing_told}
-use Rattle.con_screen.specs.Fit.{refitted}
+use Rattle.con_page.specs.Fit.{refitted}
 use Rattle.con_screens.specs.Buffer.{buffer_written, told_on}
 use Rattle.con_screens.specs.Buffers.{Buffers, buffer_at, screen_at, free_id, with_buffer}
 use Rattle.con_machine.specs.State.{State}

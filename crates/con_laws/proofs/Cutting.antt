@@ -21,7 +21,7 @@ use Rattle.con_readers.specs.declared.open.Open.{Open}
 use Rattle.con_records.specs.declared.record.Key.{Key}
 use Rattle.con_records.specs.declared.record.Mouse.{Mouse}
 use Rattle.con_records.specs.declared.record.Record.{Record}
-use Rattle.con_screen.specs.Page.{Page}
+use Rattle.con_page.specs.Page.{Page}
 use Rattle.con_screens.specs.Buffers.{Buffers}
 use Rattle.con_vtin.specs.Pieces.{Piece, Typed, Ended, piece_grammar}
 use Rattle.con_machine.specs.State.{State, noted_of}

@@ -5,13 +5,13 @@ use Rattle.con_vtgram.specs.declared.item.Csi.{Csi}
 use Rattle.con_vtgram.specs.declared.item.Item.{Item}
 use Rattle.con_vtgram.specs.declared.item.Item.TheVariants as items
 use Rattle.con_vtgram.specs.Spoken.{Spoken}
-use Rattle.con_screen.specs.Page.{Page, down, down_in, shown, rows_down, region_first, region_end}
-use Rattle.con_screen.specs.Print.{wrapped, put, advanced, printed}
-use Rattle.con_screen.specs.Effect.{effect, follow, act, reversed, sequence_effect, private_effect, plain_effect, setting, edit, motion, line_feed, control_effect, escape_effect, display_erased, line_erased}
+use Rattle.con_page.specs.Page.{Page, down, down_in, shown, rows_down, region_first, region_end}
+use Rattle.con_page.specs.Print.{wrapped, put, advanced, printed}
+use Rattle.con_page.specs.Effect.{effect, follow, act, reversed, sequence_effect, private_effect, plain_effect, setting, edit, motion, line_feed, control_effect, escape_effect, display_erased, line_erased}
 use Rattle.con_screen.specs.Told.{Told, told_by, told_after, csi_told}
 use Rattle.con_screen.specs.Screen.{Screen}
 use Rattle.con_screen.specs.Written.{Heard, heard, Stage, written, split_on, switches}
-use Rattle.con_screen.specs.declared.margins.Margins.{Margins}
+use Rattle.con_page.specs.declared.margins.Margins.{Margins}
 use Rattle.con_laws.specs.Unstamped.{unstamped_page, unstamped_screen}
 
 either : (b : Bool) (x y z w : Page) → unstamped_page x ≡ z → unstamped_page y ≡ w → unstamped_page (cond b x y) ≡ cond b z w

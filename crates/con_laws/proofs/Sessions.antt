@@ -21,13 +21,13 @@ use Rattle.con_records.specs.declared.record.Record.TheVariants as kinds
 use Rattle.con_vtin.specs.Keys.{is_front, whole, broken}
 use Rattle.con_grid.specs.Picture.{part_lifted, lifted, filled}
 use Rattle.con_vtgram.specs.Text as text
-use Rattle.con_screen.specs.Effect as screen
-use Rattle.con_screen.specs.Print.{printed, advanced, put, wrapped}
+use Rattle.con_page.specs.Effect as screen
+use Rattle.con_page.specs.Print.{printed, advanced, put, wrapped}
 use Rattle.con_screen.specs.Told.{is_switch, told_after}
-use Rattle.con_screen.specs.Echo.{drawn_by, changed, ended}
-use Rattle.con_screen.specs.Page.{down, shown}
+use Rattle.con_page.specs.Echo.{drawn_by, changed, ended}
+use Rattle.con_page.specs.Page.{down, shown}
 use Rattle.con_screen.specs.Written.{written, heard, split_in, switches}
-use Rattle.con_screen.specs.Fit.{refitted}
+use Rattle.con_page.specs.Fit.{refitted}
 use Rattle.con_screens.specs.Buffer.{written_on, unit_written}
 use Rattle.con_handles.specs.Handles.{free_from}
 use Rattle.con_procs.specs.Procs.{ids_from}

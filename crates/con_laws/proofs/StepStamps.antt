@@ -37,8 +37,9 @@ use Rattle.con_records.specs.declared.record.Key.{Key}
 use Rattle.con_records.specs.declared.record.Mouse.{Mouse}
 use Rattle.con_records.specs.declared.record.Record.{Record}
 use Rattle.con_records.specs.declared.record.Record.TheVariants as kinds
-use Rattle.con_screen.specs.Echo.{Echoed, echoed, ended as line_ended}
-use Rattle.con_screen.specs.Page.{Page}
+use Rattle.con_page.specs.Echo.{ended as line_ended}
+use Rattle.con_screen.specs.Echo.{Echoed, echoed}
+use Rattle.con_page.specs.Page.{Page}
 use Rattle.con_screen.specs.Screen.{Screen}
 use Rattle.con_screen.specs.Told.{Told, nothing_told}
 use Rattle.con_screens.specs.Buffers.{Buffers, buffer_at, screen_at}

@@ -3,7 +3,7 @@ use Rattle.std.specs.Prelude.{◌≡◌, List, None, map}
 use Rattle.std.specs.Option.{option_map}
 use Rattle.con_events.specs.declared.entry.Entry.{Entry}
 use Rattle.con_grid.specs.Picture.{Picture}
-use Rattle.con_screen.specs.Page.{Page}
+use Rattle.con_page.specs.Page.{Page}
 use Rattle.con_screen.specs.Screen.{Screen}
 use Rattle.con_screens.specs.Buffers.{Buffers}
 use Rattle.con_screens.specs.declared.buffer.Buffer.{Buffer}

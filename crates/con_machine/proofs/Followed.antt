@@ -11,7 +11,8 @@ use Rattle.con_readers.specs.Lines.{line_text}
 use Rattle.con_readers.specs.Reads.{Pumped, Settled, settled, settled_after, after_act, before, work}
 use Rattle.con_readers.specs.declared.step.ReadStep.{ReadStep}
 use Rattle.con_readers.specs.declared.open.Open.{Open}
-use Rattle.con_screen.specs.Echo.{Echoed, echoed, ended as line_ended}
+use Rattle.con_page.specs.Echo.{ended as line_ended}
+use Rattle.con_screen.specs.Echo.{Echoed, echoed}
 use Rattle.con_screens.specs.Buffers.{Buffers, screen_at}
 use Rattle.con_screens.specs.Lending.{screen_left}
 use Rattle.con_machine.specs.State.{State, noted_of}

@@ -10,9 +10,9 @@ use Rattle.con_grid.specs.Picture.{Picture, IsPicture}
 use Rattle.con_rects.specs.Rules.{redrawn, rect_written}
 use Rattle.con_rects.specs.Runs.{units_written, words_written, unit_filled, word_filled}
 use Rattle.con_rects.specs.Scroll.{scrolled}
-use Rattle.con_screen.specs.Page.{Page, IsPage}
+use Rattle.con_page.specs.Page.{Page, IsPage}
 use Rattle.con_screen.specs.Screen.{Screen}
-use Rattle.con_screen.specs.Alternate.{Sides, sides}
+use Rattle.con_page.specs.Sides.{Sides, sides}
 use Rattle.con_screens.specs.Buffers.{Buffers, AreBuffers, IsLive, screen_at}
 use Rattle.con_screens.specs.Lending.{screen_left}
 use Rattle.con_screens.specs.LentLaws.{lent_keeps, left_same, screen_has}

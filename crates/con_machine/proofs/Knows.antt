@@ -7,7 +7,7 @@ use Rattle.std.proofs.lemmas.Bool.{cases_eq}
 use Rattle.std.proofs.lemmas.Grind.{replicate_next}
 use Rattle.std.proofs.lemmas.List.{get_or_append_left}
 use Rattle.con_units.specs.declared.view.View.{View}
-use Rattle.con_screen.specs.Alternate.{Sides, sides}
+use Rattle.con_page.specs.Sides.{Sides, sides}
 use Rattle.con_screens.specs.Buffers.{Buffers, AreBuffers, buffer_at, screen_at}
 use Rattle.con_screens.specs.Stamps.{Remembered, remembered, all_remembered, WasShown, IsAsShown}
 use Rattle.con_screens.specs.StampLaws.{remembers_shown}

@@ -4,7 +4,7 @@ use Rattle.std.specs.Prelude.{◌==◌}
 use Rattle.std.proofs.lemmas.Bool.{and_parts}
 use Rattle.std.proofs.lemmas.Bool.Decides.{nat_tests}
 use Rattle.con_units.specs.declared.place.Size.{Size}
-use Rattle.con_screen.specs.Fit.{Fit}
+use Rattle.con_page.specs.Fit.{Fit}
 use Rattle.con_screens.specs.Buffers.{Buffers, is_alternate}
 use Rattle.con_machine.specs.ScreenCalls.{is_size}
 

@@ -10,7 +10,7 @@ use Rattle.con_events.specs.declared.reply.Reply.TheVariants as replies
 use Rattle.con_handles.specs.declared.handle.Kind.TheVariants as kind
 use Rattle.con_handles.specs.declared.handle.Object.{Object}
 use Rattle.con_procs.specs.Procs.{ids_of, program_of}
-use Rattle.con_screen.specs.Setters.{info_of}
+use Rattle.con_page.specs.Setters.{info_of}
 use Rattle.con_alias.specs.Aliases.{Entry, alias_at, entries_in}
 use Rattle.con_history.specs.Histories.{lines_of}
 use Rattle.con_machine.specs.State.{State}

@@ -25,7 +25,7 @@ use Rattle.con_readers.specs.declared.open.Open.{Open}
 use Rattle.con_records.specs.declared.record.Record.{Record}
 use Rattle.con_screens.specs.Buffers.{Buffers, screen_at, free_id, gone, with_buffer, with_handles, handles_of}
 use Rattle.con_screen.specs.ModeSet.{mode_set}
-use Rattle.con_screen.specs.Setters.{info_of, cursor_set, origin_set, pen_of_word}
+use Rattle.con_page.specs.Setters.{info_of, cursor_set, origin_set, pen_of_word}
 use Rattle.con_rects.specs.Rules.{rect_cells, rect_written}
 use Rattle.con_rects.specs.Runs.{run_count, run_cells, units_written, words_written, unit_filled, word_filled}
 use Rattle.con_rects.specs.Scroll.{scrolled}

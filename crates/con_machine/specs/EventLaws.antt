@@ -44,7 +44,8 @@ use Rattle.con_readers.specs.declared.open.OpenRead.{OpenRead}
 use Rattle.con_readers.specs.declared.open.OpenRead.TheVariants as reads
 use Rattle.con_cooked.specs.Cooked.{line_of}
 use Rattle.con_cooked.specs.declared.cooked.Cooked.{Cooked}
-use Rattle.con_screen.specs.Echo.{Echoed, echoed, ended as line_ended}
+use Rattle.con_page.specs.Echo.{ended as line_ended}
+use Rattle.con_screen.specs.Echo.{Echoed, echoed}
 use Rattle.con_screens.specs.Buffers.{Buffers, screen_at}
 use Rattle.con_screens.specs.Resize.{all_resized}
 use Rattle.con_machine.specs.State.{State, rest_in, noted_of, without_noted}

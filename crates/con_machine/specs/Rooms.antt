@@ -10,7 +10,7 @@ use Rattle.con_grid.specs.Picture.{Picture}
 use Rattle.con_rects.specs.Runs.{run_count, run_cells}
 use Rattle.con_machine.specs.CellCalls.{cells_for, is_over}
 use Rattle.con_handles.specs.declared.handle.Object.{Object}
-use Rattle.con_screen.specs.Fit.{Fit, IsFit}
+use Rattle.con_page.specs.Fit.{Fit, IsFit}
 use Rattle.con_screens.specs.Buffers.{Buffers}
 use Rattle.con_machine.specs.State.{State}
 use Rattle.con_machine.specs.Outcome.{buffer_of}

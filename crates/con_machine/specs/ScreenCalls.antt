@@ -10,14 +10,14 @@ use Rattle.con_records.specs.declared.record.Record.TheVariants as kinds
 use Rattle.con_handles.specs.declared.handle.Kind.TheVariants as kind
 use Rattle.con_handles.specs.declared.handle.Object.{Object}
 use Rattle.con_handles.specs.declared.handle.Object.TheVariants as object
-use Rattle.con_screen.specs.Page.{Page}
+use Rattle.con_page.specs.Page.{Page}
 use Rattle.con_screen.specs.Screen.{Screen}
-use Rattle.con_screen.specs.Setters.{info_of, cursor_set, origin_set, pen_of_word}
+use Rattle.con_page.specs.Setters.{info_of, cursor_set, origin_set, pen_of_word}
 use Rattle.con_screen.specs.ModeSet.{mode_set}
-use Rattle.con_screen.specs.Mode.{number_of}
-use Rattle.con_screen.specs.Fit.{refitted}
+use Rattle.con_page.specs.Mode.{number_of}
+use Rattle.con_page.specs.Fit.{refitted}
 use Rattle.con_screen.specs.Told.{Told, nothing_told}
-use Rattle.con_screen.specs.declared.info.Info.{Info}
+use Rattle.con_page.specs.declared.info.Info.{Info}
 use Rattle.con_screens.specs.Buffer.{buffer_written, told_on}
 use Rattle.con_screens.specs.Buffers.{Buffers, buffer_at, screen_at, is_alternate, with_buffer}
 use Rattle.con_screens.specs.Lending.{screen_left}

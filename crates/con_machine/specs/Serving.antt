@@ -4,9 +4,10 @@ use Rattle.std.specs.Option.{option_map_or}
 use Rattle.con_units.specs.Units.{changed_where}
 use Rattle.con_cooked.specs.declared.cooked.Cooked.{Cooked}
 use Rattle.con_cooked.specs.Cooked.{line_of}
-use Rattle.con_screen.specs.Page.{Page}
-use Rattle.con_screen.specs.Echo.{Echoed, echoed, ended as line_ended}
-use Rattle.con_screen.specs.declared.origin.Origin.{Origin}
+use Rattle.con_page.specs.Page.{Page}
+use Rattle.con_page.specs.Echo.{ended as line_ended}
+use Rattle.con_screen.specs.Echo.{Echoed, echoed}
+use Rattle.con_page.specs.declared.origin.Origin.{Origin}
 use Rattle.con_screens.specs.declared.buffer.Buffer.{Buffer}
 use Rattle.con_screens.specs.Buffers.{Buffers, buffer_at, screen_at}
 use Rattle.con_readers.specs.Act.{Act, began, typed, passed, ended, woke}

@@ -5,7 +5,7 @@ use Rattle.con_handles.specs.Tables.{IsTable, tally, on}
 use Rattle.con_handles.specs.declared.handle.Handle.{Handle}
 use Rattle.con_handles.specs.declared.handle.Object.{Object}
 use Rattle.con_handles.specs.declared.handle.Object.TheVariants as object
-use Rattle.con_screen.specs.Alternate.{Sides}
+use Rattle.con_page.specs.Sides.{Sides}
 use Rattle.con_screens.specs.Buffers.{Buffers, AreBuffers, IsLive, handles_of}
 use Rattle.con_screens.specs.Stamps.{Remembered, WasShown, all_remembered}
 use Rattle.con_machine.specs.State.{State}

@@ -13,7 +13,7 @@ use Rattle.con_vtin.specs.Sequences.{key_units}
 use Rattle.con_mouse.specs.Reports.{report_of}
 use Rattle.con_mouse.specs.Presses.{held_after, record_of}
 use Rattle.con_mouse.specs.declared.report.Report.{Report}
-use Rattle.con_screen.specs.Page.{Page}
+use Rattle.con_page.specs.Page.{Page}
 use Rattle.con_screens.specs.Resize.{all_resized}
 use Rattle.con_machine.specs.State.{State}
 use Rattle.con_machine.specs.Outcome.{has_bit}

@@ -1,14 +1,7 @@
 pub mod ModeLemmas
 pub mod WriteLemmas
-pub mod AlternateLemmas
 pub mod SidesLemmas
 pub mod RunLemmas
-pub mod EndLemmas
-pub mod TabLemmas
-pub mod FitLemmas
-pub mod WordLemmas
-pub mod ScanLemmas
 pub mod EchoLemmas
 pub mod PlaceLemmas
 pub mod ToldLemmas
-pub mod PenLemmas

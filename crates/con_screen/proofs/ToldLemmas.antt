@@ -8,14 +8,15 @@ use Rattle.con_vtgram.specs.declared.item.Item.TheVariants as items
 use Rattle.con_vtgram.specs.Few.{HaveShortTitles, AreFew}
 use Rattle.con_vtgram.specs.Spoken.{Spoken, spoken_by}
 use Rattle.con_units.specs.Split.{Split}
-use Rattle.con_screen.specs.Page.{Page}
-use Rattle.con_screen.specs.Effect.{first}
+use Rattle.con_page.specs.Page.{Page}
+use Rattle.con_page.specs.Effect.{first}
 use Rattle.con_units.specs.Decimal.{decimal}
-use Rattle.con_screen.specs.Told.{Told, cursor_report, device_report, report_row, report_column, reported, plain_told, private_told, is_reset, csi_told, told_by, told_after, HasShortTitle}
+use Rattle.con_page.specs.Setters.{report_row, report_column}
+use Rattle.con_screen.specs.Told.{Told, cursor_report, device_report, reported, plain_told, private_told, is_reset, csi_told, told_by, told_after, HasShortTitle}
 use Rattle.con_screen.specs.Parts.{has_sequences, item_alone}
 use Rattle.con_screen.specs.Written.{spoken_alone, split_in, split_on, Heard, heard, written}
 use Rattle.con_screen.specs.Laws.{IsToldWithin}
-use Rattle.con_screen.specs.declared.mode.Mode.{Mode}
+use Rattle.con_page.specs.declared.mode.Mode.{Mode}
 
 -- n units told u after t
 record Within (n : ℕ) (t u : Told) : Type 0 where

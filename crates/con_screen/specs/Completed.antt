@@ -1,14 +1,9 @@
--- What the item does and tells that a unit completes, if it completes one.
+-- What the item tells that a unit completes, if it completes one.
 use Rattle.std.specs.Prelude.{ℕ, Bool, false, List, Option, None, Some}
 use Rattle.con_vtgram.specs.declared.item.Item.{Item}
 use Rattle.con_vtgram.specs.Spoken.{spoken_by}
-use Rattle.con_screen.specs.Page.{Page}
-use Rattle.con_screen.specs.Effect.{effect}
+use Rattle.con_page.specs.Page.{Page}
 use Rattle.con_screen.specs.Told.{Told, told_after, is_switch}
-
-abbrev pub effect_if : Page → Option Item → Page
-effect_if p None = p
-effect_if p (Some item) = effect p item
 
 -- where a title's text is t
 abbrev pub told_if : Page → Told → List ℕ → Option Item → Told

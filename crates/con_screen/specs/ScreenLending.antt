@@ -2,7 +2,7 @@
 use Rattle.std.specs.Borrow.{Lends, MutBor, Fml}
 use Rattle.con_grid.specs.Picture.{Picture}
 use Rattle.con_grid.specs.contracts.grid.Grid as grid
-use Rattle.con_screen.specs.PageLending.{with_grid}
+use Rattle.con_page.specs.PageLending.{with_grid}
 use Rattle.con_screen.specs.Screen.{Screen}
 use Rattle.con_screen.specs.contracts.screen.Screen.{the_row}
 

@@ -1,5 +1,5 @@
 //! A screen.
-ghost use Rattle.std.specs.Prelude.{◌≡◌, ℕ, ◌+◌, ◌-◌, ◌<◌, ◌≤◌, true, false, [], length, take, None, IfOk, IfErr, IfSome, IfNone, OnOk, ◌⊎◌, pos, ◌≤ℤ◌};
+ghost use Rattle.std.specs.Prelude.{◌≡◌, ℕ, ◌+◌, ◌-◌, ◌<◌, ◌≤◌, true, false, [], length, take, None, IfOk, IfErr, OnOk, ◌⊎◌};
 ghost use Rattle.con_units.specs.Natural.{natural};
 ghost use Rattle.con_units.specs.declared.code.Code.TheVariants.{BadArgument};
 ghost use Rattle.con_grid.specs.Picture.{IsInside};
@@ -9,37 +9,15 @@ mod alternate;
 mod echo;
 
 use crate::answers::Answers;
-use crate::fit::Fit;
-use crate::info::Info;
-use crate::mode::Mode;
-use crate::page::Page;
-use crate::pen::Pen;
-use crate::tabs::default_stops;
 use crate::write::{has_sequences, write_some};
 pub use alternate::is_switched_whole;
 use con_grid::Grid;
-use con_units::{Code, Coord, OutOfMemory, Rect, Shade, Size};
+use con_page::{Fit, Info, Mode, Page};
+use con_units::{Code, Coord, OutOfMemory, Size};
 use con_vtgram::{Splitter, completes_one_item};
 pub use echo::{is_echoed_by_part, is_laid_row_by_row};
 use std::alloc::Global;
 use std::marker::Model;
-
-// A coordinate at which a side of this length stays below an end.
-fn index_in(coordinate: i16, side: usize, end: usize) -> Option<u16>
-    requires { end ≤ 2048 }
-    ensures some { IfSome result (λ n. (pos 0 ≤ℤ coordinate) × (n ≡ natural coordinate) × (n + side ≤ end)) }
-    ensures none { IfNone result ((pos 0 ≤ℤ coordinate) → natural coordinate + side ≤ end → ⊥) }
-{
-    if coordinate < 0 {
-        return None;
-    }
-    let n = coordinate as u16;
-    if side <= end && n as usize <= end - side {
-        Some(n)
-    } else {
-        None
-    }
-}
 
 /// A screen. Contracts see its page, and its unfinished text, of which the code keeps no unit but those of a title.
 #[derive(Drop)]
@@ -62,12 +40,12 @@ impl Screen {
     ghost use Rattle.std.specs.Borrow.{sem};
     ghost use Rattle.con_screen.specs.ScreenLending.{LendsGrid};
     ghost use Rattle.con_units.specs.Attr.{plain};
-    ghost use Rattle.con_screen.specs.Page.{IsPage, attr};
+    ghost use Rattle.con_page.specs.Page.{IsPage, attr};
     ghost use Rattle.con_screen.specs.Written.{written, switches};
-    ghost use Rattle.con_screen.specs.Setters.{new_page, cursor_set, origin_set, IsOrigin, pen_of_word, info_of};
+    ghost use Rattle.con_page.specs.Setters.{new_page, cursor_set, origin_set, IsOrigin, pen_of_word, info_of};
     ghost use Rattle.con_screen.specs.ModeSet.{mode_set};
-    ghost use Rattle.con_screen.specs.Fit.{AreSizes, IsFit, refitted};
-    ghost use Rattle.con_screen.specs.Alternate.{sides};
+    ghost use Rattle.con_page.specs.Fit.{AreSizes, IsFit, refitted};
+    ghost use Rattle.con_page.specs.Sides.{sides};
 
     /// Writes units, up to the end of a sequence that switches to the alternate screen or back, and says how many.
     pub fn write(&mut self, units: &[u16], answers: &mut Answers) -> usize
@@ -116,17 +94,7 @@ impl Screen {
         ensures page { IsPage self.new.page }
         ensures sides { sides self.new.page ≡ sides self.old.page }
     {
-        let size = self.page.grid.size();
-        let (Some(x), Some(y)) = (
-            index_in(at.x, 1, size.w as usize),
-            index_in(at.y, 1, size.h as usize),
-        ) else {
-            return Err(Code::BadArgument);
-        };
-        self.page.x = x;
-        self.page.y = y;
-        self.page.late = false;
-        self.page.show_cursor();
+        self.page.set_cursor(at)?;
         Ok(())
     }
 
@@ -139,15 +107,7 @@ impl Screen {
         ensures page { IsPage self.new.page }
         ensures sides { sides self.new.page ≡ sides self.old.page }
     {
-        let size = self.page.grid.size();
-        let (Some(x), Some(y)) = (
-            index_in(at.x, self.page.w as usize, size.w as usize),
-            index_in(at.y, self.page.h as usize, size.h as usize),
-        ) else {
-            return Err(Code::BadArgument);
-        };
-        self.page.left = x;
-        self.page.top = y;
+        self.page.set_window_origin(at)?;
         Ok(())
     }
 
@@ -159,15 +119,7 @@ impl Screen {
         ensures page { IsPage self.new.page }
         ensures sides { sides self.new.page ≡ sides self.old.page }
     {
-        self.page.pen = Pen {
-            foreground: (word % 16) as u8,
-            background: (word / 16 % 16) as u8,
-            fore: Shade::Plain,
-            back: Shade::Plain,
-            bold: false,
-            underline: word / 0x8000 % 2 == 1,
-            negative: word / 0x4000 % 2 == 1,
-        };
+        self.page.set_attr(word);
     }
 
     /// Sets the output mode. Only a number above 15 is refused. Unfinished text goes where sequences do not act.
@@ -182,8 +134,7 @@ impl Screen {
             return Err(Code::BadArgument);
         }
         let mode = Mode::of(mode);
-        self.page.mode = mode;
-        self.page.late = false;
+        self.page.set_mode(mode);
         if !has_sequences(mode) {
             self.text.clear();
         }
@@ -199,11 +150,7 @@ impl Screen {
         ensures page { IsPage self.new.page }
         ensures sides { sides self.new.page ≡ sides self.old.page }
     {
-        if size == 0 || 100 < size {
-            return Err(Code::BadArgument);
-        }
-        self.page.cursor_size = size;
-        self.page.visible = visible;
+        self.page.set_cursor_info(size, visible)?;
         Ok(())
     }
 
@@ -215,19 +162,7 @@ impl Screen {
         ensures window { IfOk result (λ f. f.window ≡ window) }
         ensures fit { IfOk result (λ f. IsFit self.now.page f) }
     {
-        let page = &self.page;
-        let Ok(tabs) = default_stops(*page.tabs.allocator(), buffer.w as usize) else {
-            return Err(OutOfMemory);
-        };
-        let grid = page
-            .grid
-            .resized(buffer, page.lost_rows(buffer.h), page.blank())?;
-        Ok(Fit {
-            buffer,
-            window,
-            grid,
-            tabs,
-        })
+        self.page.fit(buffer, window)
     }
 
     /// Resizes the buffer and the window. Where the height falls, as many rows go at the top as the cursor's row lies
@@ -249,24 +184,7 @@ impl Screen {
         requires { IsPage self.now.page }
         ensures { result ≡ info_of self.now.page }
     {
-        let page = &self.page;
-        Info {
-            buffer: page.grid.size(),
-            cursor: Coord {
-                x: page.x as i16,
-                y: page.y as i16,
-            },
-            word: page.pen.attr().bits(),
-            window: Rect {
-                left: page.left as i16,
-                top: page.top as i16,
-                right: (page.left + page.w - 1) as i16,
-                bottom: (page.top + page.h - 1) as i16,
-            },
-            mode: page.mode.number(),
-            cursor_size: page.cursor_size,
-            visible: page.visible,
-        }
+        self.page.info()
     }
 
     /// Its cells, to be changed. Every later call needs that the grid has the size that it had.
@@ -281,7 +199,7 @@ impl Screen {
     pub fn grid(&self) -> &Grid
         ensures { result.now ≡ self.now.page.grid }
     {
-        &self.page.grid
+        self.page.grid()
     }
 }
 

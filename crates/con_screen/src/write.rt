@@ -6,14 +6,14 @@ ghost use Rattle.con_vtgram.specs.declared.item.Csi.{Csi as TheCsi};
 ghost use Rattle.con_vtgram.specs.declared.item.Item.TheVariants as item;
 ghost use Rattle.con_screen.specs.Told as tells;
 ghost use Rattle.con_screen.specs.Parts as parts;
-ghost use Rattle.con_screen.specs.Page.{IsPage};
+ghost use Rattle.con_page.specs.Page.{IsPage};
 ghost use Rattle.con_screen.specs.Done.{Done, DoneSome, IsRun};
-ghost use Rattle.con_screen.specs.Completed.{effect_if, told_if, switch_if};
+ghost use Rattle.con_page.specs.Applied.{effect_if};
+ghost use Rattle.con_screen.specs.Completed.{told_if, switch_if};
 
 use crate::answers::Answers;
-use crate::ends::is_end;
-use crate::mode::Mode;
-use crate::page::Page;
+use con_page::ends::is_end;
+use con_page::{Mode, Page};
 use con_vtgram::{Csi, Found, Splitter};
 
 fn is_acting(unit: u16) -> bool

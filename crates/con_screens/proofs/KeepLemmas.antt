@@ -4,10 +4,10 @@ use Rattle.std.specs.Prelude.{IsSome, IfSome, ◌==◌, nat_lt, ◌%◌, ◌&&�
 use Rattle.std.specs.Option.{option_map}
 use Rattle.std.proofs.lemmas.List.{get_or-set_other, length-set, length-replicate}
 use Rattle.std.proofs.lemmas.Bool.{cond_both, eqb-false}
-use Rattle.con_screen.specs.Page.{Page, IsPage}
+use Rattle.con_page.specs.Page.{Page, IsPage}
 use Rattle.con_screen.specs.Screen.{Screen}
-use Rattle.con_screen.specs.Setters.{default_tabs}
-use Rattle.con_screen.specs.Alternate.{Sides, sides}
+use Rattle.con_page.specs.Setters.{default_tabs}
+use Rattle.con_page.specs.Sides.{Sides, sides}
 use Rattle.con_screens.specs.Buffer.{IsBuffer, HasWindow, new_buffer, new_screen}
 use Rattle.con_screens.specs.Buffers.{Buffers, AreBuffers, IsLive, buffer_at, screen_in, screen_at, with_slot, gone, created, first_buffers}
 use Rattle.con_units.specs.declared.view.View.{View}

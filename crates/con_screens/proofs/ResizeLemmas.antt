@@ -5,9 +5,9 @@ use Rattle.std.specs.Option.{option_map}
 use Rattle.std.proofs.lemmas.List.{get_or-set_same, get_or-set_other, length-set, get_or_push, get_or_past, get_or_default}
 use Rattle.std.proofs.lemmas.Bool.{cases_eq, cases_lt}
 use Rattle.con_units.specs.declared.place.Size.{Size}
-use Rattle.con_screen.specs.Page.{IsPage, shown}
+use Rattle.con_page.specs.Page.{IsPage, shown}
 use Rattle.con_screen.specs.Screen.{Screen}
-use Rattle.con_screen.specs.Fit.{refitted}
+use Rattle.con_page.specs.Fit.{refitted}
 use Rattle.con_screens.specs.Buffer.{IsBuffer, HasWindow}
 use Rattle.con_screens.specs.Buffers.{Buffers, AreBuffers, buffer_at}
 use Rattle.con_screens.specs.Slot.{HasPages, HaveWindow}

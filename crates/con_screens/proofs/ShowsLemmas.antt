@@ -10,8 +10,8 @@ use Rattle.con_units.specs.declared.place.Coord.{Coord}
 use Rattle.con_units.specs.declared.place.Size.{Size}
 use Rattle.con_units.specs.declared.view.View.{View}
 use Rattle.con_grid.specs.Picture.{Picture, IsPicture, IsUntouched}
-use Rattle.con_screen.specs.Page.{Page, IsPage}
-use Rattle.con_screen.specs.Alternate.{sides}
+use Rattle.con_page.specs.Page.{Page, IsPage}
+use Rattle.con_page.specs.Sides.{sides}
 use Rattle.con_screens.specs.View.{rows_in, cursor_in, cursor_shown, view_of}
 use Rattle.con_screens.specs.ViewLaws.{length-rows_in, row_of_rows, view_row}
 use Rattle.con_screens.specs.Stamps.{WasShown}

@@ -4,7 +4,7 @@ use Rattle.std.specs.Prelude.{fold}
 use Rattle.std.proofs.lemmas.List.{take-append-drop, drop-take, length-drop, take_all, take-take}
 use Rattle.std.proofs.lemmas.List.Sums.{fold-append}
 use Rattle.std.proofs.lemmas.Bool.{or_parts}
-use Rattle.con_screen.specs.Page.{IsPage}
+use Rattle.con_page.specs.Page.{IsPage}
 use Rattle.con_screen.specs.Told.{Told, Answered}
 use Rattle.con_screen.specs.Written.{Stage, written, switches}
 use Rattle.con_screen.specs.Laws.{IsWrittenWhole}

@@ -1,9 +1,9 @@
 -- One screen buffer: a main screen and an alternate one, of which one is shown.
 use Rattle.std.specs.Prelude.{ℕ, ◌≡◌, ◌<◌, Bool, true, false, List, [], ◌∷◌, fold, Option, None, Some, if◌then◌else◌}
 use Rattle.con_units.specs.declared.place.Size.{Size}
-use Rattle.con_screen.specs.Page.{IsPage}
+use Rattle.con_page.specs.Page.{IsPage}
 use Rattle.con_screen.specs.Screen.{Screen}
-use Rattle.con_screen.specs.Setters.{new_page}
+use Rattle.con_page.specs.Setters.{new_page}
 use Rattle.con_screen.specs.Told.{Told}
 use Rattle.con_screen.specs.Written.{Stage, written, switches}
 use Rattle.con_screen.specs.Alternate.{alternate_begun, mode_taken}

@@ -2,9 +2,9 @@
 use Rattle.std.specs.Prelude.{ℕ, ◌≡◌, ◌≤◌, ◌<◌, ◌==◌, max, Bool, not, List, map, length, Option, None, Some, slice_index_or, if◌then◌else◌}
 use Rattle.std.specs.Option.{option_map}
 use Rattle.con_units.specs.declared.place.Size.{Size}
-use Rattle.con_screen.specs.Page.{Page}
+use Rattle.con_page.specs.Page.{Page}
 use Rattle.con_screen.specs.Screen.{Screen}
-use Rattle.con_screen.specs.Fit.{IsFit, refitted}
+use Rattle.con_page.specs.Fit.{IsFit, refitted}
 use Rattle.con_screens.specs.declared.buffer.Buffer.{Buffer}
 use Rattle.con_screens.specs.Buffers.{Buffers, buffer_at}
 use Rattle.con_screens.specs.declared.fits.BufferFit.{BufferFit}

@@ -1,6 +1,6 @@
 -- The place of one buffer.
 use Rattle.std.specs.Prelude.{ℕ, Option, None, Some, IfSome}
-use Rattle.con_screen.specs.Page.{IsPage}
+use Rattle.con_page.specs.Page.{IsPage}
 use Rattle.con_screens.specs.Buffer.{IsBuffer, HasWindow}
 use Rattle.con_screens.specs.declared.buffer.Buffer.{Buffer}
 

@@ -8,9 +8,9 @@ use Rattle.con_units.specs.Glyph.{Glyph}
 use Rattle.con_units.specs.View.{row_of, row_part}
 use Rattle.con_units.specs.declared.view.View.{View}
 use Rattle.con_grid.specs.Picture.{Picture, IsPicture, IsRowOf, IsUntouched, raised}
-use Rattle.con_screen.specs.Page.{Page, IsPage}
+use Rattle.con_page.specs.Page.{Page, IsPage}
 use Rattle.con_screen.specs.Screen.{Screen}
-use Rattle.con_screen.specs.Alternate.{Sides, sides}
+use Rattle.con_page.specs.Sides.{Sides, sides}
 use Rattle.con_screens.specs.Buffer.{HasWindow, new_buffer}
 use Rattle.con_screens.specs.Buffers.{Buffers, AreBuffers, IsLive, buffer_at, screen_in, screen_at, is_alternate, gone, created}
 use Rattle.con_screens.specs.Lending.{with_shown, screen_left}

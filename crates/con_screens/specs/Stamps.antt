@@ -5,8 +5,8 @@ use Rattle.con_units.specs.Glyph.{Glyph}
 use Rattle.con_units.specs.View.{row_of}
 use Rattle.con_units.specs.declared.view.View.{View}
 use Rattle.con_grid.specs.Picture.{raised}
-use Rattle.con_screen.specs.Page.{Page}
-use Rattle.con_screen.specs.Alternate.{Sides, sides}
+use Rattle.con_page.specs.Page.{Page}
+use Rattle.con_page.specs.Sides.{Sides, sides}
 use Rattle.con_screen.specs.Screen.{Screen}
 use Rattle.con_screens.specs.Buffer.{main_screen, alternate_screen}
 use Rattle.con_screens.specs.Buffers.{Buffers}

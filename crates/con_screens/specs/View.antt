@@ -4,7 +4,7 @@ use Rattle.con_units.specs.Glyph.{Glyph}
 use Rattle.con_units.specs.declared.place.Coord.{Coord}
 use Rattle.con_units.specs.View.{row_part}
 use Rattle.con_units.specs.declared.view.View.{View}
-use Rattle.con_screen.specs.Page.{Page}
+use Rattle.con_page.specs.Page.{Page}
 
 -- a window's first n rows, from the row `top` on, one after the other, in cells of a width
 abbrev pub rows_in : ℕ → List Glyph → ℕ → ℕ → ℕ → ℕ → List Glyph

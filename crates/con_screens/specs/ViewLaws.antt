@@ -11,7 +11,7 @@ use Rattle.con_units.specs.Glyph.{Glyph}
 use Rattle.con_units.specs.declared.place.Coord.{Coord}
 use Rattle.con_units.specs.View.{IsWhole, row_of, row_part}
 use Rattle.con_grid.specs.Picture.{Picture, IsPicture}
-use Rattle.con_screen.specs.Page.{Page, IsPage}
+use Rattle.con_page.specs.Page.{Page, IsPage}
 use Rattle.con_screens.specs.View.{rows_in, is_from, cursor_shown, cursor_in, view_of}
 
 -- ---- a view is whole

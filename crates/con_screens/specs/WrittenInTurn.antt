@@ -11,9 +11,9 @@ use Rattle.con_vtgram.specs.declared.item.Csi.{Csi}
 use Rattle.con_vtgram.specs.declared.item.Item.{Item}
 use Rattle.con_vtgram.specs.declared.item.Item.TheVariants as items
 use Rattle.con_vtgram.specs.Spoken.{Spoken}
-use Rattle.con_screen.specs.Page.{Page}
+use Rattle.con_page.specs.Page.{Page}
 use Rattle.con_screen.specs.Screen.{Screen}
-use Rattle.con_screen.specs.Effect.{effect, first}
+use Rattle.con_page.specs.Effect.{effect, first}
 use Rattle.con_screen.specs.Told.{Told, told_after, told_by, csi_told, private_told, plain_told, switched, is_switch}
 use Rattle.con_screen.specs.Written.{Stage, heard, written, switches, any_switch, split_on}
 use Rattle.con_screens.specs.Buffer.{BufferStage, carried, unit_written, written_on, buffer_written}

@@ -1,6 +1,6 @@
 //! One buffer.
 ghost use Rattle.std.specs.Prelude.{◌≡◌, ℕ, ◌-◌, ◌+◌, ◌<◌, ◌≤◌, true, false, length, take, IfOk};
-ghost use Rattle.con_screen.specs.Page.{IsPage};
+ghost use Rattle.con_page.specs.Page.{IsPage};
 ghost use Rattle.con_screens.specs.Buffer.{IsBuffer, new_buffer, alternate_on, alternate_off, turned, written_on, buffer_written};
 ghost use Rattle.con_screens.specs.Stamps.{remembered};
 

@@ -1,5 +1,5 @@
 //! The memory of a resize of the window.
-use con_screen::Fit;
+use con_page::Fit;
 use con_units::Size;
 use std::marker::Model;
 

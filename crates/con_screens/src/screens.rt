@@ -55,7 +55,7 @@ impl Screens {
     ghost use Rattle.std.specs.Borrow.{sem};
     ghost use Rattle.con_screens.specs.Buffers.{AreBuffers, IsLive, IsRoom, buffer_at, screen_at, is_alternate, free_id};
     ghost use Rattle.con_screens.specs.Buffers.{created, handles_of, handle_retained, handle_released, with_buffer};
-    ghost use Rattle.con_screen.specs.Alternate.{sides};
+    ghost use Rattle.con_page.specs.Sides.{sides};
     ghost use Rattle.con_screens.specs.Lending.{LendsScreen, screen_left};
     ghost use Rattle.con_screens.specs.Resize.{AreFits, all_resized};
     ghost use Rattle.con_units.specs.View.{IsWhole};

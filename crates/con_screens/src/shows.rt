@@ -2,8 +2,8 @@
 ghost use Rattle.std.specs.Prelude.{◌≡◌, ◌↔◌, ℕ, ◌+◌, ◌-◌, ◌*◌, ◌^◌, ◌<◌, ◌≤◌, true, false, length, take, drop};
 ghost use Rattle.con_units.specs.View.{row_of, row_part};
 ghost use Rattle.con_grid.specs.Picture.{IsUntouched};
-ghost use Rattle.con_screen.specs.Page.{IsPage};
-ghost use Rattle.con_screen.specs.Alternate.{sides};
+ghost use Rattle.con_page.specs.Page.{IsPage};
+ghost use Rattle.con_page.specs.Sides.{sides};
 ghost use Rattle.con_screens.specs.View.{rows_in, view_of};
 ghost use Rattle.con_screens.specs.Stamps.{WasShown, IsAsShown};
 

@@ -2,7 +2,7 @@
 ghost use Rattle.std.specs.Prelude.{◌≡◌, ◌<◌, ◌≤◌, ◌-◌, false, length, is_none, is_some, IsSome, IfSome};
 ghost use Rattle.std.specs.List.{position};
 ghost use Rattle.std.specs.Option.{option_map, option_map_or};
-ghost use Rattle.con_screen.specs.Page.{IsPage};
+ghost use Rattle.con_page.specs.Page.{IsPage};
 ghost use Rattle.con_screens.specs.Buffer.{alternate_on, alternate_off, buffer_written, told_on};
 ghost use Rattle.con_screens.specs.Buffers.{with_handles};
 ghost use Rattle.con_screens.specs.Slot.{HasPages, Keeps};

@@ -2,8 +2,8 @@
 ghost use Rattle.std.specs.Prelude.{◌≡◌, ℕ, ◌+◌, ◌-◌, ◌*◌, ◌<◌, ◌≤◌, ◌^◌, ◌++◌, [], pos, length, take, drop, vec_capacity};
 ghost use Rattle.con_units.specs.View.{row_of, row_part};
 ghost use Rattle.con_grid.specs.Picture.{IsPicture, IsUntouched};
-ghost use Rattle.con_screen.specs.Page.{IsPage};
-ghost use Rattle.con_screen.specs.Alternate.{sides};
+ghost use Rattle.con_page.specs.Page.{IsPage};
+ghost use Rattle.con_page.specs.Sides.{sides};
 ghost use Rattle.con_screens.specs.View.{view_of, is_from, rows_in, cursor_in, cursor_shown};
 ghost use Rattle.con_screens.specs.Stamps.{WasShown};
 

@@ -10,7 +10,7 @@ use crate::calls::setters;
 use crate::console::Console;
 use con_events::{Numbers, Reply};
 use con_handles::{Kind, Object};
-use con_screen::Info;
+use con_page::Info;
 use con_units::{Code, Coord, OutOfMemory};
 use std::alloc::Global;
 

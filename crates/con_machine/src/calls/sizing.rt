@@ -2,7 +2,7 @@
 ghost use Rattle.std.specs.Prelude.{◌≡◌, ◌==◌, ◌&&◌, ◌||◌, not, true, nat_le, List, IfOk, Option, Some};
 ghost use Rattle.con_units.specs.Limits.{most_columns, most_buffer_rows};
 ghost use Rattle.con_handles.specs.declared.handle.Handle.{Handle};
-ghost use Rattle.con_screen.specs.Fit.{IsFit};
+ghost use Rattle.con_page.specs.Fit.{IsFit};
 ghost use Rattle.con_screens.specs.Buffers.{AreBuffers, IsLive, is_alternate};
 ghost use Rattle.con_machine.specs.Outcome.{guard, checked};
 ghost use Rattle.con_handles.specs.declared.handle.Kind.TheVariants as kind;
@@ -13,7 +13,7 @@ ghost use Rattle.con_machine.specs.Sound.{AreCounted};
 use crate::console::Console;
 use crate::painting::showing::window;
 use con_events::Reply;
-use con_screen::Fit;
+use con_page::Fit;
 use con_screens::Screens;
 use con_units::limits::{MOST_BUFFER_ROWS, MOST_COLUMNS};
 use con_units::{BufferId, Code, OutOfMemory, Size};

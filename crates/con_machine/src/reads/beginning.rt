@@ -22,8 +22,8 @@ use con_alias::has_control;
 use con_cooked::Cooked;
 use con_events::Reply;
 use con_handles::Kind;
+use con_page::Origin;
 use con_readers::{Answer, OpenRead, WantsRecords, WantsUnits};
-use con_screen::Origin;
 use con_units::limits::{LINE_UNITS, MOST_ITEMS, MOST_RECORDS};
 use con_units::{BufferId, Code, OutOfMemory, Units};
 

@@ -4,9 +4,10 @@ ghost use Rattle.con_cooked.specs.declared.cooked.Cooked.{Cooked};
 ghost use Rattle.con_cooked.specs.Cooked.{line_of, echo_between};
 ghost use Rattle.con_readers.specs.Lines.{line_text};
 ghost use Rattle.con_handles.specs.declared.handle.Handle.{Handle};
-ghost use Rattle.con_screen.specs.Alternate.{sides};
-ghost use Rattle.con_screen.specs.Echo.{echoed, ended};
-ghost use Rattle.con_screen.specs.Page.{IsPage};
+ghost use Rattle.con_page.specs.Sides.{sides};
+ghost use Rattle.con_page.specs.Echo.{ended};
+ghost use Rattle.con_screen.specs.Echo.{echoed};
+ghost use Rattle.con_page.specs.Page.{IsPage};
 ghost use Rattle.con_screens.specs.Buffers.{AreBuffers, IsLive, buffer_at, screen_at};
 ghost use Rattle.con_screens.specs.Lending.{screen_left};
 ghost use Rattle.con_screens.specs.Stamps.{all_remembered};
@@ -16,7 +17,8 @@ ghost use Rattle.con_machine.specs.Sound.{AreCounted};
 
 use crate::reads::noted::Noted;
 use con_cooked::Echo;
-use con_screen::{Origin, Screen, is_echoed_by_part};
+use con_page::Origin;
+use con_screen::{Screen, is_echoed_by_part};
 use con_screens::Screens;
 use con_units::{BufferId, index_of};
 

@@ -2,7 +2,7 @@
 ghost use Rattle.std.specs.Prelude.{◌≡◌, ◌<◌, ◌^◌, true};
 ghost use Rattle.con_machine.specs.Serving.{cell_before};
 
-use con_screen::Origin;
+use con_page::Origin;
 use con_units::BufferId;
 
 /// What is noted of a process's open line read: its handle and how many units it asked for at most; whether it echoes,

@@ -5,7 +5,7 @@ ghost use Rattle.con_machine.specs.State.{noted_of, without_noted, is_noted};
 ghost use Rattle.con_machine.specs.Serving.{note_changed, cell_before};
 
 use crate::reads::noted::Noted;
-use con_screen::Origin;
+use con_page::Origin;
 use con_units::{BufferId, OutOfMemory};
 use std::alloc::Global;
 use std::marker::Model;

@@ -4,7 +4,8 @@ use crate::rooms::rect_room::RectRoom;
 use con_alias::AliasRoom;
 use con_events::Reply;
 use con_history::ConfigRoom;
-use con_screen::{Answers, Fit};
+use con_page::Fit;
+use con_screen::Answers;
 use con_screens::NewBuffer;
 
 /// What a call is given that takes memory, made ready in the state in which it is entered.

@@ -1,8 +1,9 @@
 //! What the buffers of a console need of a screen: units up to a switch, and the alternate screen's beginning and end.
 ghost use Rattle.std.specs.Prelude.{◌≡◌, ◌-◌, ◌<◌, ◌≤◌, true, length, take};
-ghost use Rattle.con_screen.specs.Page.{IsPage};
+ghost use Rattle.con_page.specs.Page.{IsPage};
 ghost use Rattle.con_screen.specs.Written.{written, switches};
-ghost use Rattle.con_screen.specs.Alternate.{alternate_begun, mode_taken, sides, IsSwitchedWhole};
+ghost use Rattle.con_page.specs.Sides.{sides};
+ghost use Rattle.con_screen.specs.Alternate.{alternate_begun, mode_taken, IsSwitchedWhole};
 
 use crate::answers::Answers;
 use crate::screen::Screen;
@@ -47,8 +48,8 @@ impl Screen {
         ensures page { IsPage self.new.page }
         ensures sides { sides self.new.page ≡ sides self.old.page }
     {
-        self.page.mode = other.page.mode;
-        if !has_sequences(self.page.mode) {
+        self.page.take_mode(&other.page);
+        if !has_sequences(self.page.mode()) {
             self.text.clear();
         }
     }

@@ -1,11 +1,12 @@
 //! What a line that is edited does to the screen.
 ghost use Rattle.std.specs.Prelude.{◌≡◌, ℕ, ◌+◌, ◌<◌, ◌^◌, length};
-ghost use Rattle.con_screen.specs.Page.{IsPage};
-ghost use Rattle.con_screen.specs.Alternate.{sides};
-ghost use Rattle.con_screen.specs.Echo.{part_echoed, ended, IsEchoedByPart, IsLaidRowByRow};
+ghost use Rattle.con_page.specs.Page.{IsPage};
+ghost use Rattle.con_page.specs.Sides.{sides};
+ghost use Rattle.con_page.specs.Echo.{ended};
+ghost use Rattle.con_screen.specs.Echo.{part_echoed, IsEchoedByPart, IsLaidRowByRow};
 
-use crate::origin::Origin;
 use crate::screen::Screen;
+use con_page::Origin;
 
 impl Screen {
     /// Shows a change of a line that begins at `origin`: its units from place `offset` on, up to its end, then `blanks`

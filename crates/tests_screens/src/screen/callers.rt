@@ -1,11 +1,12 @@
 //! Callers that use the clauses and laws of con_screen at every value.
 ghost use Rattle.std.specs.Prelude.{◌≡◌, ◌+◌, ◌*◌, ◌<◌, ◌≤◌, ◌^◌, OnOk, OnErr, length, take};
-ghost use Rattle.con_screen.specs.Alternate.{sides};
-ghost use Rattle.con_screen.specs.Page.{IsPage};
+ghost use Rattle.con_page.specs.Sides.{sides};
+ghost use Rattle.con_page.specs.Page.{IsPage};
 ghost use Rattle.con_screen.specs.Told.{HasShortTitle, nothing_told};
 ghost use Rattle.con_screen.specs.Written.{written};
 
-use con_screen::{Answers, Origin, Screen, is_told_within};
+use con_page::Origin;
+use con_screen::{Answers, Screen, is_told_within};
 use con_units::{Code, Coord, OutOfMemory};
 
 /// Sets the pen and the mode.

@@ -1,8 +1,9 @@
 //! What a screen is told to do, and the lines that show it.
 ghost use Rattle.std.specs.Prelude.{◌≡◌, ◌<◌, ◌≤◌};
-ghost use Rattle.con_screen.specs.Page.{IsPage};
+ghost use Rattle.con_page.specs.Page.{IsPage};
 
-use con_screen::{Answers, Origin, Screen};
+use con_page::Origin;
+use con_screen::{Answers, Screen};
 use con_units::Coord;
 use std::test::Fail;
 

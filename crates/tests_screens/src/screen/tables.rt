@@ -1,12 +1,13 @@
 //! Lines that are edited, worked out by hand from the rule of echoes; what texts tell; and units that no session can hold.
 ghost use Rattle.std.specs.Prelude.{◌≡◌, ◌<◌, ◌≤◌};
-ghost use Rattle.con_screen.specs.Page.{IsPage};
+ghost use Rattle.con_page.specs.Page.{IsPage};
 
 use crate::screen::rows::{
     Line, change, echo, letters, letters_behind, show, show_origin, show_told, show_words, side,
     write, write_units,
 };
-use con_screen::{Answers, Origin, Screen};
+use con_page::Origin;
+use con_screen::{Answers, Screen};
 use con_units::{Coord, Size};
 use std::alloc::Global;
 use std::test::Fail;

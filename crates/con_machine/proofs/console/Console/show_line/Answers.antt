@@ -2,7 +2,7 @@ use Rattle.std.proofs.Common.{◌≡◌, refl, sym, ap, ◌∙◌}
 use Rattle.con_cooked.specs.Cooked.{line_of}
 use Rattle.con_readers.specs.Lines.{line_text}
 use Rattle.con_screen.specs.Echo.{Echoed, echoed}
-use Rattle.con_screen.specs.declared.origin.Origin.{Origin}
+use Rattle.con_page.specs.declared.origin.Origin.{Origin}
 use Rattle.con_screens.specs.Buffers.{screen_at}
 use Rattle.con_machine.specs.Held.{state_of}
 use Rattle.con_machine.specs.Kept.{Noting}

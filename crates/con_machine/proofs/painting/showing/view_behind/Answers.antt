@@ -1,6 +1,6 @@
 use Rattle.std.proofs.Common.{sym, subst}
 use Rattle.con_units.specs.declared.view.View.{View}
-use Rattle.con_screen.specs.Alternate.{sides}
+use Rattle.con_page.specs.Sides.{sides}
 use Rattle.con_screens.specs.Buffers.{screen_at}
 use Rattle.con_screens.specs.Stamps.{WasShown}
 use Rattle.con_machine.proofs.Knows.{known_was}

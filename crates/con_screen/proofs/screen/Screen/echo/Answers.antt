@@ -1,5 +1,5 @@
 use Rattle.std.proofs.Common.{rules, ap, ◌∙◌}
-use Rattle.con_screen.specs.Alternate.{sides}
+use Rattle.con_page.specs.Sides.{sides}
 use Rattle.con_screen.specs.Screen.{Screen}
 use Rattle.con_screen.proofs.EchoLemmas.{changed_sides}
 use Rattle.con_screen.proofs.screen.Screen.echo.Goals as goal

@@ -3,7 +3,7 @@ use Rattle.std.proofs.Common.{◌+◌, ◌-◌, drop, take, ◌≤◌, length, a
 use Rattle.std.proofs.lemmas.List.{length-drop, length-take}
 use Rattle.con_screen.specs.Screen.{Screen}
 use Rattle.con_screen.proofs.WriteLemmas.{stands_first, switches-front}
-use Rattle.con_screen.specs.Alternate.{sides}
+use Rattle.con_page.specs.Sides.{sides}
 use Rattle.con_screen.proofs.SidesLemmas.{written_sides}
 use Rattle.con_screen.proofs.RunLemmas.{stands_some}
 use Rattle.con_screen.proofs.screen.Screen.write.Goals as goal

@@ -1,5 +1,5 @@
 use Rattle.std.proofs.Common.{rules, ap, ◌∙◌, take}
-use Rattle.con_screen.specs.Alternate.{sides}
+use Rattle.con_page.specs.Sides.{sides}
 use Rattle.con_screen.specs.Screen.{Screen}
 use Rattle.con_screen.specs.ScreenView.{screen_of}
 use Rattle.con_screen.proofs.SidesLemmas.{written_sides}

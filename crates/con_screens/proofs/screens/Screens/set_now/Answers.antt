@@ -1,6 +1,6 @@
 use Rattle.std.proofs.Common.{◌≡◌, sym, ap, subst, ◌∙◌}
 use Rattle.con_screen.specs.Screen.{Screen}
-use Rattle.con_screen.specs.Alternate.{sides}
+use Rattle.con_page.specs.Sides.{sides}
 use Rattle.con_screens.specs.Buffers.{Buffers, screen_at}
 use Rattle.con_screens.specs.View.{view_of}
 use Rattle.con_screens.specs.Stamps.{WasShown, numbered}

@@ -1,0 +1,10 @@
+pub mod ApplyLemmas
+pub mod AlternateLemmas
+pub mod RunLemmas
+pub mod EndLemmas
+pub mod TabLemmas
+pub mod FitLemmas
+pub mod WordLemmas
+pub mod ScanLemmas
+pub mod EchoLemmas
+pub mod PenLemmas

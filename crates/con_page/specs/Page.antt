@@ -1,0 +1,127 @@
+-- A screen without its unfinished text.
+use Rattle.std.specs.Prelude.{ℕ, ◌+◌, ◌-◌, ◌*◌, ◌<◌, ◌≡◌, ◌≤◌, Bool, false, ◌==◌, nat_lt, List, length, Option, None, Some, if◌then◌else◌}
+use Rattle.con_units.specs.Attr.{Attribute}
+use Rattle.con_units.specs.Glyph.{Glyph, blank_in}
+use Rattle.con_grid.specs.Picture.{Picture, IsPicture, filled, part_lifted, part_lowered}
+use Rattle.con_page.specs.Pen.{attr_of, IsPen}
+use Rattle.con_page.specs.declared.pen.Pen.{Pen}
+use Rattle.con_page.specs.declared.mode.Mode.{Mode}
+use Rattle.con_page.specs.declared.margins.Margins.{Margins}
+
+pub record Page : Type 0 where
+  pub grid : Picture
+  -- the cursor
+  pub x : ℕ
+  pub y : ℕ
+  pub visible : Bool
+  pub cursor_size : ℕ
+  -- the window
+  pub left : ℕ
+  pub top : ℕ
+  pub w : ℕ
+  pub h : ℕ
+  pub mode : Mode
+  pub pen : Pen
+  pub saved_x : ℕ
+  pub saved_y : ℕ
+  pub margins : Option Margins
+  -- for each column, whether a tab stops there
+  pub tabs : List Bool
+  pub drawing : Bool
+  -- a print stood in the last column, and the next one wraps first
+  pub late : Bool
+
+abbrev pub AreMargins : ℕ → Option Margins → Type 0
+AreMargins h None = Unit {0}
+AreMargins h (Some m) = (0 < m.top) × (m.top < m.bottom) × (m.bottom ≤ h)
+
+pub record IsPage (p : Page) : Type 0 where
+  pub grid : IsPicture p.grid
+  pub column : p.x < p.grid.width
+  pub row : p.y < p.grid.height
+  pub cursor_size : p.cursor_size ≤ 100
+  pub wide : 0 < p.w
+  pub tall : 0 < p.h
+  pub low : p.h ≤ 256
+  pub right : p.left + p.w ≤ p.grid.width
+  pub bottom : p.top + p.h ≤ p.grid.height
+  pub pen : IsPen p.pen
+  pub saved_column : p.saved_x < p.grid.width
+  pub saved_row : p.saved_y < p.grid.height
+  pub margins : AreMargins p.h p.margins
+  pub tabs : length p.tabs ≡ p.grid.width
+
+abbrev pub place : Page → ℕ
+place p = p.y * p.grid.width + p.x
+
+abbrev pub row_start : Page → ℕ
+row_start p = p.y * p.grid.width
+
+abbrev pub row_end : Page → ℕ
+row_end p = p.y * p.grid.width + p.grid.width
+
+-- what cells are written in
+abbrev pub attr : Page → Attribute
+attr p = attr_of p.pen
+
+-- its attribute word
+abbrev pub word : Page → ℕ
+word p = (attr p).word
+
+abbrev pub blank : Page → Glyph
+blank p = blank_in (attr p)
+
+abbrev pub with_cells : Page → List Glyph → Page
+with_cells p cells = record p { grid = record p.grid { cells = cells } }
+
+abbrev pub unlate : Page → Page
+unlate p = record p { late = false }
+
+-- the cells from one place up to another become blank
+abbrev pub erased : Page → ℕ → ℕ → Page
+erased p from upto = with_cells p (filled p.grid.cells from upto (blank p))
+
+-- the rows from one up to another go up, with blank rows below
+abbrev pub rows_up : Page → ℕ → ℕ → ℕ → Page
+rows_up p first end n = with_cells p (part_lifted p.grid.cells (first * p.grid.width) (end * p.grid.width) (n * p.grid.width) (blank p))
+
+-- the rows from one up to another go down, with blank rows above
+abbrev pub rows_down : Page → ℕ → ℕ → ℕ → Page
+rows_down p first end n = with_cells p (part_lowered p.grid.cells (first * p.grid.width) (end * p.grid.width) (n * p.grid.width) (blank p))
+
+-- ---- the region
+
+abbrev pub first_of : Page → Option Margins → ℕ
+first_of p None = p.top
+first_of p (Some m) = p.top + m.top - 1
+
+abbrev pub end_of : Page → Option Margins → ℕ
+end_of p None = p.top + p.h
+end_of p (Some m) = p.top + m.bottom
+
+-- the region's first row
+abbrev pub region_first : Page → ℕ
+region_first p = first_of p p.margins
+
+-- the row behind the region's last one
+abbrev pub region_end : Page → ℕ
+region_end p = end_of p p.margins
+
+abbrev pub row_down : Page → Page
+row_down p = if p.y + 1 == p.grid.height then p else record p { y = p.y + 1 }
+
+abbrev pub down_in : Page → Option Margins → Page
+down_in p None = if p.y + 1 == p.grid.height then rows_up p 0 p.grid.height 1 else record p { y = p.y + 1 }
+down_in p (Some m) = if p.y + 1 == p.top + m.bottom then rows_up p (p.top + m.top - 1) (p.top + m.bottom) 1 else row_down p
+
+unfoldable pub down : Page → Page
+down p = down_in p p.margins
+
+-- ---- the window
+
+abbrev pub least_shift : ℕ → ℕ → ℕ → ℕ
+least_shift from size at = if nat_lt at from then at else if nat_lt at (from + size) then from else at + 1 - size
+
+-- the window moves by the least distance that shows the cursor
+unfoldable pub shown : Page → Page
+shown p = record p { left = least_shift p.left p.w p.x; top = least_shift p.top p.h p.y }

@@ -1,7 +1,0 @@
--- The stops so far.
-use Rattle.std.proofs.Common.{◌≡◌, ◌<◌, length}
-use Rattle.con_screen.specs.Effect as now
-use Rattle.con_screen.proofs.tabs.stops_right.Given as goal
-
-abbrev pub invariant-loop-k : goal.invariant-loop-k
-invariant-loop-k l = (l.at ≡ now.times l.k (now.tab_right l.tabs (length l.tabs)) l.fn.at) × (l.at < length l.tabs)

@@ -1,6 +1,0 @@
--- The fields of a fit.
-use Rattle.con_screen.specs.Fit.{Fit}
-use Rattle.con_screen.specs.declared.fit.Fit.TheInside.{Inside}
-
-abbrev pub fit_of : Inside → Fit
-fit_of f = record { buffer = f.buffer; window = f.window; grid = f.grid; tabs = f.tabs.items }
