@@ -1,6 +1,7 @@
 -- The processes, the first of which has the number 1.
-use Rattle.std.specs.Prelude.{ℕ, zero, suc, ◌+◌, ◌-◌, ◌==◌, ◌&&◌, ◌||◌, Bool, true, false, not, List, [], ◌∷◌, Option, Some, None, Result, Ok, Err, drop, map, nat_lt, slice_get, slice_set, if◌then◌else◌, is_some, replicate}
+use Rattle.std.specs.Prelude.{ℕ, zero, suc, ◌+◌, ◌-◌, ◌==◌, ◌&&◌, ◌||◌, Bool, true, false, not, List, [], ◌∷◌, Option, Some, None, Result, Ok, Err, option_and_then, drop, map, nat_lt, slice_get, slice_set, if◌then◌else◌, is_some, replicate}
 use Rattle.std.specs.List.{list_any}
+use Rattle.std.specs.Option.{option_map_or}
 use Rattle.con_units.specs.declared.code.Code.{Code}
 use Rattle.con_units.specs.declared.code.Code.TheVariants as code
 use Rattle.con_procs.specs.Pending.{pended}
@@ -16,16 +17,12 @@ started s = record { program = s.program; group = s.group; ignore = false; ended
 abbrev pub is_live : Proc → Bool
 is_live p = not (is_some p.ended)
 
-abbrev pub live_in : Option Proc → Bool
-live_in None = false
-live_in (Some p) = is_live p
-
 -- the process of this number
 abbrev pub proc_of : List Proc → ℕ → Option Proc
 proc_of ps k = if k == 0 then None else slice_get ps (k - 1)
 
 abbrev pub is_attached : List Proc → ℕ → Bool
-is_attached ps k = nat_lt 0 k && live_in (slice_get ps (k - 1))
+is_attached ps k = nat_lt 0 k && option_map_or is_live (slice_get ps (k - 1)) false
 
 -- the numbers of the attached ones, where the first has this number
 unfoldable pub ids_from : ℕ → List Proc → List ℕ
@@ -35,18 +32,12 @@ ids_from k (p ∷ ps) = if is_live p then k ∷ ids_from (k + 1) ps else ids_fro
 abbrev pub ids_of : List Proc → List ℕ
 ids_of ps = ids_from 1 ps
 
-abbrev pub is_member : ℕ → Proc → Bool
-is_member group p = is_live p && p.group == group
-
+-- an attached process is of this group
 abbrev pub group_known : List Proc → ℕ → Bool
-group_known ps group = list_any (is_member group) ps
-
-abbrev pub program_in : Option Proc → List ℕ
-program_in None = []
-program_in (Some p) = p.program
+group_known ps group = list_any (λ p. is_live p && p.group == group) ps
 
 abbrev pub program_of : List Proc → ℕ → List ℕ
-program_of ps k = program_in (proc_of ps k)
+program_of ps k = option_map_or (λ p. p.program) (proc_of ps k) []
 
 -- the programs of the attached ones, in the order of their numbers
 abbrev pub programs_of : List Proc → List (List ℕ)
@@ -57,17 +48,11 @@ programs_of (p ∷ ps) = if is_live p then p.program ∷ programs_of ps else pro
 -- CTRL_CLOSE_EVENT (2)
 abbrev pub reaches : ℕ → ℕ → Proc → Bool
 reaches event group p =
-    is_live p && (
-    if event == 0 then group == 0 && not p.ignore
-    else if event == 1 then group == 0 || p.group == group
-    else true)
-
-abbrev pub told : ℕ → ℕ → Proc → Proc
-told event group p = if reaches event group p then record p { pending = pended p.pending event } else p
+    is_live p && (if event == 0 then group == 0 && not p.ignore else if event == 1 then group == 0 || p.group == group else true)
 
 -- each process that is reached has the event pending, after those that it had
 abbrev pub signalled : List Proc → ℕ → ℕ → List Proc
-signalled ps event group = map (told event group) ps
+signalled ps event group = map {A = Proc} (λ p. if reaches event group p then record p { pending = pended p.pending event } else p) ps
 
 abbrev pub changed_at : (Proc → Proc) → List Proc → ℕ → List Proc
 changed_at f [] k = []
@@ -81,51 +66,34 @@ changed f ps k = if k == 0 then ps else changed_at f ps (k - 1)
 abbrev pub exited : List Proc → ℕ → ℕ → List Proc
 exited ps k status = changed (λ p. record p { ended = Some status }) ps k
 
-abbrev pub ended_in : Option Proc → Option ℕ
-ended_in None = None
-ended_in (Some p) = p.ended
-
 abbrev pub status_of : List Proc → ℕ → Option ℕ
-status_of ps k = ended_in (proc_of ps k)
+status_of ps k = option_and_then (λ p. p.ended) (proc_of ps k)
 
 abbrev pub ignoring : List Proc → ℕ → Bool → List Proc
 ignoring ps k on = changed (λ p. record p { ignore = on }) ps k
 
-abbrev pub pending_in : Option Proc → List ℕ
-pending_in None = []
-pending_in (Some p) = p.pending
-
 abbrev pub first_pending : List Proc → ℕ → Option ℕ
-first_pending ps k = slice_get (pending_in (proc_of ps k)) 0
+first_pending ps k = slice_get (option_map_or (λ p. p.pending) (proc_of ps k) []) 0
 
 abbrev pub took_pending : List Proc → ℕ → List Proc
 took_pending ps k = changed (λ p. record p { pending = drop 1 p.pending }) ps k
 
-abbrev pub rack_in : Option Proc → List Place
-rack_in None = []
-rack_in (Some p) = p.rack
-
 -- what a place of a process's rack is
 abbrev pub place_in : List Proc → ℕ → ℕ → Option Place
-place_in ps k place = slice_get (rack_in (proc_of ps k)) place
+place_in ps k place = slice_get (option_map_or (λ p. p.rack) (proc_of ps k) []) place
 
 -- the place is there, and was never added
 abbrev pub is_fresh : Option Place → Bool
-is_fresh None = false
 is_fresh (Some place.Fresh) = true
-is_fresh (Some place.Chained) = false
-is_fresh (Some place.Removed) = false
+is_fresh _ = false
 
 -- the place is in the chain
 abbrev pub is_chained : Option Place → Bool
-is_chained None = false
-is_chained (Some place.Fresh) = false
 is_chained (Some place.Chained) = true
-is_chained (Some place.Removed) = false
+is_chained _ = false
 
 abbrev pub granted : Bool → Result (Unit {0}) Code
-granted true = Ok tt
-granted false = Err code.BadArgument
+granted good = if good then Ok tt else Err code.BadArgument
 
 abbrev pub placed : List Proc → ℕ → ℕ → Place → List Proc
 placed ps k at to = changed (λ p. record p { rack = slice_set p.rack at to }) ps k
@@ -141,3 +109,25 @@ remove_answer ps k at = granted (is_chained (place_in ps k at))
 
 abbrev pub handler_removed : List Proc → ℕ → ℕ → List Proc
 handler_removed ps k at = if is_chained (place_in ps k at) then placed ps k at place.Removed else ps
+
+-- The words below are the code's own and those of proofs: what the words above say of one process that is there or not.
+
+abbrev pub live_in : Option Proc → Bool
+live_in o = option_map_or is_live o false
+
+-- an attached process of this group
+abbrev pub is_member : ℕ → Proc → Bool
+is_member group p = is_live p && p.group == group
+
+abbrev pub program_in : Option Proc → List ℕ
+program_in o = option_map_or (λ p. p.program) o []
+
+-- a process after an event was signalled to a group
+abbrev pub told : ℕ → ℕ → Proc → Proc
+told event group p = if reaches event group p then record p { pending = pended p.pending event } else p
+
+abbrev pub pending_in : Option Proc → List ℕ
+pending_in o = option_map_or (λ p. p.pending) o []
+
+abbrev pub rack_in : Option Proc → List Place
+rack_in o = option_map_or (λ p. p.rack) o []
