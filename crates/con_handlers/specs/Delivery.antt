@@ -3,19 +3,20 @@ use Rattle.std.specs.Prelude.{ℕ, zero, suc, ◌+◌, Bool, List, [], ◌∷◌
 use Rattle.con_units.specs.declared.code.Code.{Code}
 use Rattle.con_units.specs.declared.code.Code.TheVariants as code
 use Rattle.std.specs.List.{list_all}
+use Rattle.std.specs.Option.{option_map_or}
 use Rattle.con_handlers.specs.Answers.{answer}
 use Rattle.con_handlers.specs.Memory.{Memory, after_event}
 use Rattle.con_handlers.specs.declared.chain.Delivered.{Delivered}
 use Rattle.con_handlers.specs.declared.chain.Delivered.TheVariants as outcome
 
-abbrev pub newer_or : Bool → Option ℕ → Option ℕ
-newer_or b (Some i) = Some (i + 1)
-newer_or b None = if b then Some 0 else None
-
 -- the newest that answers true
 abbrev pub newest : List Bool → Option ℕ
 newest [] = None
-newest (b ∷ bs) = newer_or b (newest bs)
+newest (b ∷ bs) = option_map_or (λ i. Some (i + 1)) (newest bs) (if b then Some 0 else None)
+
+-- a word of proofs: one handler before the others
+abbrev pub newer_or : Bool → Option ℕ → Option ℕ
+newer_or b o = option_map_or (λ i. Some (i + 1)) o (if b then Some 0 else None)
 
 abbrev pub delivered_by : Option ℕ → Delivered
 delivered_by None = outcome.Unhandled
