@@ -1,6 +1,8 @@
 -- Where histories stand, and what a change at a place does.
-use Rattle.std.proofs.Common.{◌≡◌, ℕ, suc, ◌+◌, ◌-◌, ◌<◌, ◌≤◌, Bool, true, false, cond, not, List, [], ◌∷◌, length, get_or, set, Some, None, position, refl, ap, subst, ◌∙◌, arith, nat_lt, nat_eq}
+use Rattle.std.proofs.Common.{◌≡◌, ℕ, suc, ◌+◌, ◌-◌, ◌<◌, ◌≤◌, Bool, true, false, cond, not, List, [], ◌∷◌, length, get_or, set, Option, Some, None, position, refl, ap, subst, ◌∙◌, arith, nat_lt, nat_eq}
 use Rattle.std.specs.List.{position_or_len, starts_with}
+use Rattle.std.specs.Prelude.{find}
+use Rattle.std.specs.Option.{option_map_or}
 use Rattle.std.proofs.lemmas.Bool.{ltb-false}
 use Rattle.std.proofs.lemmas.List.Sums.{prefix_len-le-length}
 use Rattle.con_units.specs.Units.{same_units}
@@ -27,8 +29,11 @@ place-none p xs is =
     let within = place-within p xs in
     omega arith
 
-lines_step : (b : Bool) (h : ProgramLines) (hs : List ProgramLines) (d : ProgramLines) (n : ℕ) (r : List (List ℕ)) → (n < length hs → (get_or hs n d).lines ≡ r)
-    → cond (not b) (1 + n) 0 < length (h ∷ hs) → (get_or (h ∷ hs) (cond (not b) (1 + n) 0) d).lines ≡ cond b h.lines r
+abbrev lines_by : Option ProgramLines → List (List ℕ)
+lines_by o = option_map_or (λ h. h.lines) o []
+
+lines_step : (b : Bool) (h : ProgramLines) (hs : List ProgramLines) (d : ProgramLines) (n : ℕ) (r : Option ProgramLines) → (n < length hs → (get_or hs n d).lines ≡ lines_by r)
+    → cond (not b) (1 + n) 0 < length (h ∷ hs) → (get_or (h ∷ hs) (cond (not b) (1 + n) 0) d).lines ≡ lines_by (cond b (Some h) r)
 lines_step true h hs d n r rest within = refl
 lines_step false h hs d n r rest within =
     let next : 1 + n ≡ suc n = omega arith in
@@ -37,16 +42,16 @@ lines_step false h hs d n r rest within =
 -- the lines at the place are the program's
 pub lines-at : (p : List ℕ) (used : List ProgramLines) (d : ProgramLines) → place_of p used < length used → (get_or used (place_of p used) d).lines ≡ lines_in used p
 lines-at p [] d within = absurd (omega arith)
-lines-at p (h ∷ hs) d within = lines_step (same_units h.program p) h hs d (place_of p hs) (lines_in hs p) (lines-at p hs d) within
+lines-at p (h ∷ hs) d within = lines_step (same_units h.program p) h hs d (place_of p hs) (find (λ x. same_units x.program p) hs) (lines-at p hs d) within
 
-none_step : (b : Bool) (h : ProgramLines) (m n : ℕ) (r : List (List ℕ)) → (m ≤ n → r ≡ []) → suc m ≤ cond (not b) (1 + n) 0 → cond b h.lines r ≡ []
+none_step : (b : Bool) (h : ProgramLines) (m n : ℕ) (r : Option ProgramLines) → (m ≤ n → lines_by r ≡ []) → suc m ≤ cond (not b) (1 + n) 0 → lines_by (cond b (Some h) r) ≡ []
 none_step true h m n r rest past = absurd (omega arith)
 none_step false h m n r rest past = rest (omega arith)
 
 -- a program that has no place has no lines
 pub lines-none : (p : List ℕ) (used : List ProgramLines) → length used ≤ place_of p used → lines_in used p ≡ []
 lines-none p [] past = refl
-lines-none p (h ∷ hs) past = none_step (same_units h.program p) h (length hs) (place_of p hs) (lines_in hs p) (lines-none p hs) (omega arith)
+lines-none p (h ∷ hs) past = none_step (same_units h.program p) h (length hs) (place_of p hs) (find (λ x. same_units x.program p) hs) (lines-none p hs) (omega arith)
 
 changed_step : (b : Bool) (f : ProgramLines → ProgramLines) (h : ProgramLines) (hs : List ProgramLines) (d : ProgramLines) (n : ℕ) (r : List ProgramLines) → (n < length hs → set hs n (f (get_or hs n d)) ≡ r)
     → cond (not b) (1 + n) 0 < length (h ∷ hs) → set (h ∷ hs) (cond (not b) (1 + n) 0) (f (get_or (h ∷ hs) (cond (not b) (1 + n) 0) d)) ≡ cond b (f h ∷ hs) (h ∷ r)

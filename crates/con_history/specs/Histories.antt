@@ -1,6 +1,7 @@
 -- Line histories: for each program the lines that were typed, oldest first, and the programs in order of use.
-use Rattle.std.specs.Prelude.{ℕ, zero, suc, ◌+◌, ◌-◌, ◌≤◌, Bool, not, nat_eq, nat_lt, ◌==◌, ◌||◌, List, [], ◌∷◌, ◌++◌, Option, Some, None, length, take, drop, remove, filter, map, min, replicate, slice_index_or, if◌then◌else◌}
+use Rattle.std.specs.Prelude.{ℕ, zero, suc, ◌+◌, ◌-◌, ◌≤◌, Bool, not, nat_eq, nat_lt, ◌==◌, ◌||◌, List, [], ◌∷◌, ◌++◌, Option, Some, None, length, take, drop, remove, filter, find, map, min, replicate, slice_index_or, if◌then◌else◌}
 use Rattle.std.specs.List.{starts_with, position_or_len, list_any}
+use Rattle.std.specs.Option.{option_or, option_map_or}
 use Rattle.std.specs.Str.{bytes_eq as same_units}
 use Rattle.con_units.specs.Units.{changed_where}
 use Rattle.con_history.specs.declared.info.HistoryInfo.{HistoryInfo}
@@ -24,19 +25,11 @@ IsShort line = length line ≤ 1024
 abbrev pub newest : {X : Type 0} → ℕ → List X → List X
 newest n xs = drop (length xs - n) xs
 
--- the lines that are not this one
-abbrev pub without : List ℕ → List (List ℕ) → List (List ℕ)
-without line lines = filter (λ other. not (same_units other line)) lines
-
 -- the lines with one more: an empty one is dropped, equal ones go first where that is asked for, and the oldest go past the limit
 abbrev pub added : Bool → ℕ → List (List ℕ) → List ℕ → List (List ℕ)
 added no_duplicates limit lines line =
     if length line == 0 then lines
-    else newest limit ((if no_duplicates then without line lines else lines) ++ line ∷ [])
-
--- a history of another limit keeps its newest lines
-abbrev pub shortened : ℕ → ProgramLines → ProgramLines
-shortened limit h = record h { lines = newest limit h.lines; limit = limit }
+    else newest limit ((if no_duplicates then filter (λ other. not (same_units other line)) lines else lines) ++ line ∷ [])
 
 -- the last, among the n lines from a place on, that begins with these units
 abbrev pub last_that_begins : List ℕ → List (List ℕ) → ℕ → ℕ → Option ℕ
@@ -44,28 +37,13 @@ last_that_begins start lines low zero = None
 last_that_begins start lines low (suc n) =
     if starts_with nat_eq (slice_index_or lines (low + n) []) start then Some (low + n) else last_that_begins start lines low n
 
-abbrev pub or_else : Option ℕ → Option ℕ → Option ℕ
-or_else (Some k) other = Some k
-or_else None other = other
-
 -- the search goes from before a place down to the oldest, and then from the newest down to that place
 abbrev pub found : List ℕ → List (List ℕ) → ℕ → Option ℕ
-found start lines from = or_else (last_that_begins start lines 0 from) (last_that_begins start lines from (length lines - from))
-
--- where a program's history stands, or how many there are
-abbrev pub place_of : List ℕ → List ProgramLines → ℕ
-place_of program used = position_or_len (λ h. same_units h.program program) used
-
-abbrev pub has_history : LineHistories → List ℕ → Bool
-has_history s program = nat_lt (place_of program s.used) (length s.used)
+found start lines from = option_or (last_that_begins start lines 0 from) (last_that_begins start lines from (length lines - from))
 
 -- a program's lines; none where it has no history
-abbrev pub lines_in : List ProgramLines → List ℕ → List (List ℕ)
-lines_in [] program = []
-lines_in (h ∷ hs) program = if same_units h.program program then h.lines else lines_in hs program
-
 abbrev pub lines_of : LineHistories → List ℕ → List (List ℕ)
-lines_of s program = lines_in s.used program
+lines_of s program = option_map_or (λ h. h.lines) (find (λ h. same_units h.program program) s.used) []
 
 -- a program's history, changed
 abbrev pub changed_in : (ProgramLines → ProgramLines) → List ProgramLines → List ℕ → List ProgramLines
@@ -79,12 +57,43 @@ added_to s program line =
 abbrev pub cleared : LineHistories → List ℕ → LineHistories
 cleared s program = record s { used = changed_in (λ h. record h { lines = [] }) s.used program }
 
-abbrev pub is_busy : List (List ℕ) → List ℕ → Bool
-is_busy busy program = list_any (λ b. same_units b program) busy
+-- the histories after a program has used its own, which goes last, an empty one where it had none: a new one where there is place
+-- for one more, or else one in place of the least recently used whose program is not busy
+abbrev pub used_by : LineHistories → List ℕ → List (List ℕ) → LineHistories
+used_by s program busy =
+    let own : ℕ = position_or_len (λ h. same_units h.program program) s.used in
+    let idle : ℕ = position_or_len (λ h. not (list_any (λ b. same_units b h.program) busy)) s.used in
+    let empty : ProgramLines = record { program = program; lines = []; limit = s.info.lines } in
+    if nat_lt own (length s.used) then record s { used = remove s.used own ++ take 1 (drop own s.used) }
+    else if nat_lt (length s.used) s.info.number then record s { used = s.used ++ empty ∷ [] }
+    else if nat_lt idle (length s.used) then record s { used = remove s.used idle ++ empty ∷ [] }
+    else s
+
+-- settings that are refused: 1 to 999 lines, 1 to 64 histories, a flag of 0 or 1
+abbrev pub is_refused : HistoryInfo → Bool
+is_refused info = info.lines == 0 || nat_lt 999 info.lines || info.number == 0 || nat_lt 64 info.number || nat_lt 1 info.flag
+
+-- the histories under other settings: the least recently used ones go, and the others keep their newest lines
+abbrev pub configured : LineHistories → HistoryInfo → LineHistories
+configured s info =
+    let kept : List ProgramLines = map {A = ProgramLines} (λ h. record h { lines = newest info.lines h.lines; limit = info.lines }) (newest info.number s.used) in
+    if is_refused info then s else record { used = kept; info = info }
+
+-- The words below are the code's own and those of proofs.
+
+-- where a program's history stands, or how many there are
+abbrev pub place_of : List ℕ → List ProgramLines → ℕ
+place_of program used = position_or_len (λ h. same_units h.program program) used
+
+abbrev pub has_history : LineHistories → List ℕ → Bool
+has_history s program = nat_lt (place_of program s.used) (length s.used)
+
+abbrev pub lines_in : List ProgramLines → List ℕ → List (List ℕ)
+lines_in used program = option_map_or (λ h. h.lines) (find (λ h. same_units h.program program) used) []
 
 -- the least recently used history whose program is not busy, or how many there are
 abbrev pub idle_place : List (List ℕ) → List ProgramLines → ℕ
-idle_place busy used = position_or_len (λ h. not (is_busy busy h.program)) used
+idle_place busy used = position_or_len (λ h. not (list_any (λ b. same_units b h.program) busy)) used
 
 -- an empty history of a program
 abbrev pub fresh_of : LineHistories → List ℕ → ProgramLines
@@ -95,27 +104,10 @@ abbrev pub can_use : LineHistories → List ℕ → List (List ℕ) → Bool
 can_use s program busy =
     has_history s program || nat_lt (length s.used) s.info.number || nat_lt (idle_place busy s.used) (length s.used)
 
--- the histories after a program has used its own
-abbrev pub used_by : LineHistories → List ℕ → List (List ℕ) → LineHistories
-used_by s program busy =
-    if has_history s program then record s { used = remove s.used (place_of program s.used) ++ take 1 (drop (place_of program s.used) s.used) }
-    else if nat_lt (length s.used) s.info.number then record s { used = s.used ++ fresh_of s program ∷ [] }
-    else if nat_lt (idle_place busy s.used) (length s.used) then record s { used = remove s.used (idle_place busy s.used) ++ fresh_of s program ∷ [] }
-    else s
-
--- what has to be there before that
+-- what has to be there before a program uses its history
 abbrev pub room_for_use : LineHistories → List ℕ → Option ProgramLines
 room_for_use s program = if has_history s program then None else Some (fresh_of s program)
 
--- settings that are refused: 1 to 999 lines, 1 to 64 histories, a flag of 0 or 1
-abbrev pub is_refused : HistoryInfo → Bool
-is_refused info = info.lines == 0 || nat_lt 999 info.lines || info.number == 0 || nat_lt 64 info.number || nat_lt 1 info.flag
-
--- the histories under other settings: the least recently used ones go, and the others keep their newest lines
-abbrev pub configured : LineHistories → HistoryInfo → LineHistories
-configured s info =
-    if is_refused info then s else record { used = map (shortened info.lines) (newest info.number s.used); info = info }
-
--- what has to be there before that: a buffer for each history that stays
+-- what has to be there before the settings change: a buffer for each history that stays
 abbrev pub room_for_configure : LineHistories → HistoryInfo → List ℕ
 room_for_configure s info = if is_refused info then [] else replicate (min (length s.used) info.number) info.lines

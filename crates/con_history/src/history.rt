@@ -2,7 +2,8 @@
 ghost use Rattle.std.specs.Prelude.{◌≡◌, ℕ, ◌≤◌, ◌<◌, ◌-◌, List, [], ◌∷◌, ◌++◌, Option, Some, None, length, take, drop, slice_index_or, IfOk, if◌then◌else◌, nat_eq};
 ghost use Rattle.std.specs.List.{starts_with};
 ghost use Rattle.con_units.specs.Units.{same_units};
-ghost use Rattle.con_history.specs.Histories.{ProgramLines, newest, without, added, shortened, last_that_begins, found, is_busy};
+ghost use Rattle.con_history.specs.Histories.{ProgramLines, newest, added, last_that_begins, found};
+ghost use Rattle.con_history.specs.Parts.{without, shortened, is_busy};
 
 use crate::kept::{Kept, whole_sum};
 use circular_buffer::HeapCircularBuffer;

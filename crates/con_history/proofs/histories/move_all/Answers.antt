@@ -2,7 +2,8 @@
 use Rattle.std.proofs.Common.{◌≡◌, ℕ, ◌+◌, ◌-◌, ◌<◌, ◌∙◌, ap, length, replicate, set, vec_len, get_or, arith}
 use Rattle.std.proofs.lemmas.List.{length-replicate}
 use Rattle.std.proofs.lemmas.List.Edits.{map_over_more}
-use Rattle.con_history.specs.Histories.{shortened, ProgramLines}
+use Rattle.con_history.specs.Histories.{ProgramLines}
+use Rattle.con_history.specs.Parts.{shortened}
 use Rattle.con_history.proofs.histories.move_all.Goals as goal
 
 pub loop-history-preserved : goal.loop-history-preserved

@@ -1,6 +1,6 @@
 -- So many are moved, and a buffer is left for each of the others.
 use Rattle.std.proofs.Common.{◌≡◌, ◌-◌, ◌++◌, map, take, drop, length, replicate}
-use Rattle.con_history.specs.Histories.{shortened}
+use Rattle.con_history.specs.Parts.{shortened}
 use Rattle.con_history.proofs.histories.move_all.Given as goal
 
 abbrev pub invariant-loop-history : goal.invariant-loop-history

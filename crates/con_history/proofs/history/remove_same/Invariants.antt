@@ -1,5 +1,5 @@
 use Rattle.std.proofs.Common.{◌≡◌, ◌≤◌, ◌++◌, length, take, drop}
-use Rattle.con_history.specs.Histories.{without}
+use Rattle.con_history.specs.Parts.{without}
 use Rattle.con_history.proofs.history.remove_same.Given as goal
 
 abbrev pub invariant-loop : goal.invariant-loop
