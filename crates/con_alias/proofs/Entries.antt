@@ -1,5 +1,5 @@
 -- What a map from sources to targets says of the aliases that it holds.
-use Rattle.std.proofs.Common.{◌≡◌, ℕ, ◌+◌, ◌≤◌, ◌<◌, ◌&&◌, nat_le, Bool, true, false, cond, not, List, [], ◌∷◌, length, drop, get_or, slice_get, Option, Some, None, is_some, refl, sym, ap, ◌∙◌, arith}
+use Rattle.std.proofs.Common.{◌≡◌, ℕ, ◌+◌, ◌≤◌, ◌<◌, ◌&&◌, ◌==◌, nat_le, Bool, true, false, cond, not, List, [], ◌∷◌, length, drop, get_or, slice_get, Option, Some, None, is_some, refl, sym, ap, ◌∙◌, arith}
 use Rattle.std.proofs.lemmas.List.{drop_more, length-map, get_or-map}
 use Rattle.std.proofs.lemmas.Bool.{le-leb, lt-leb}
 use Rattle.std.proofs.lemmas.Option.{get_or_from_slice_get}
@@ -7,7 +7,7 @@ use Rattle.std.proofs.Math.ListN.{drop_of_length-le}
 use Rattle.std.specs.Option.{option_map}
 use Rattle.std.specs.Map.{lookup}
 use Rattle.indexmap.specs.IndexMap.{insert_entry, shift_remove_entry}
-use Rattle.con_alias.specs.Aliases.{Entry, entry_of, same_name, same_letter, find_entry, put_entry, without_entry, is_full, with_entry}
+use Rattle.con_alias.specs.Aliases.{Entry, entry_of, same_name, folded_unit, find_entry, put_entry, without_entry, is_full, with_entry}
 use Rattle.con_alias.specs.Room.{entries_of}
 use Rattle.con_alias.specs.Hashed.{name_equiv}
 
@@ -16,14 +16,14 @@ pub same_name-longer : (a b : List ℕ) → (length a ≡ length b → ⊥) → 
 same_name-longer [] [] h = absurd (h refl)
 same_name-longer [] (y ∷ ys) h = refl
 same_name-longer (x ∷ xs) [] h = refl
-same_name-longer (x ∷ xs) (y ∷ ys) h = longer_step (same_letter x y) (same_name xs ys) (same_name-longer xs ys (λ e. h (omega arith)))
+same_name-longer (x ∷ xs) (y ∷ ys) h = longer_step (folded_unit x == folded_unit y) (same_name xs ys) (same_name-longer xs ys (λ e. h (omega arith)))
   where
     longer_step : (p q : Bool) → q ≡ false → (p && q) ≡ false
     longer_step true q e = e
     longer_step false q e = refl
 
 -- one place more
-pub same_name-more : (a b : List ℕ) (i : ℕ) → i < length a → i < length b → same_name (drop i a) (drop i b) ≡ (same_letter (get_or a i 0) (get_or b i 0) && same_name (drop (i + 1) a) (drop (i + 1) b))
+pub same_name-more : (a b : List ℕ) (i : ℕ) → i < length a → i < length b → same_name (drop i a) (drop i b) ≡ (folded_unit (get_or a i 0) == folded_unit (get_or b i 0) && same_name (drop (i + 1) a) (drop (i + 1) b))
 same_name-more a b i h k = ap (λ (l : List ℕ). same_name l (drop i b)) (drop_more a i 0 h) ∙ ap (λ (l : List ℕ). same_name (get_or a i 0 ∷ drop (i + 1) a) l) (drop_more b i 0 k)
 
 -- at the end they are the same

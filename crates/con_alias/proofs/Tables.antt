@@ -2,9 +2,12 @@
 use Rattle.std.proofs.Common.{◌≡◌, ℕ, Bool, true, false, cond, not, List, [], ◌∷◌, ◌++◌, Option, Some, None, is_some, Result, Ok, Err, Vec, refl, sym, ap, ◌∙◌}
 use Rattle.std.specs.declared.alloc.Global.{Global}
 use Rattle.std.specs.Map.{lookup, set_value}
+use Rattle.std.specs.Prelude.{remove}
+use Rattle.std.specs.List.{position_or_len}
 use Rattle.con_units.specs.declared.code.Code.{Code}
 use Rattle.con_units.specs.declared.code.Code.TheVariants as code
-use Rattle.con_alias.specs.Aliases.{Entry, AliasList, entry_of, empty_list, find_entry, is_full, with_entry, without_entry, entries_in, is_known, changed_in, is_bad, is_no_source, is_over, alias_at, added, removed, add_answer, remove_answer}
+use Rattle.con_alias.proofs.Removal.{removed-first}
+use Rattle.con_alias.specs.Aliases.{Entry, AliasList, same_name, entry_of, empty_list, find_entry, is_full, with_entry, without_entry, entries_in, is_known, changed_in, is_bad, is_no_source, is_over, alias_at, added, removed, add_answer, remove_answer}
 use Rattle.con_alias.specs.Room.{AliasTable, Listed, Prepared, listed, lists_of, places_of, room_for}
 use Rattle.con_alias.proofs.Lists.{Lists, sought, places, known-none, entries-found, entries-none, changed-lists, changed-none, same_some, pushed-lists, places-same}
 
@@ -18,16 +21,16 @@ with_lists s l = record s { programs = l }
 pub removed-found : (es xs : Lists) (spare : ℕ) (p source : List ℕ) (was w : Listed) → is_no_source source ≡ false → lookup (sought p) es ≡ Some was → xs ≡ set_value (sought p) es w
     → w ≡ (let l : Listed = record was { entries = without_entry was.entries source } in l) → table xs spare ≡ with_lists (table es spare) (removed (lists_of es) p source)
 removed-found es xs spare p source was w good h is say =
-    let f : List Entry → List Entry = λ es. without_entry es source in
+    let f : List Entry → List Entry = λ es. remove es (position_or_len (λ e. same_name e.source source) es) in
     let lists : lists_of xs ≡ removed (lists_of es) p source =
-    ap lists_of is ∙ changed-lists f es p was w h (ap (λ (l : Listed). l.entries) say) ∙ sym (ap (λ (b : Bool). cond b (lists_of es) (changed_in f (lists_of es) p)) good) in
+    ap lists_of is ∙ changed-lists f es p was w h (ap (λ (l : Listed). l.entries) say ∙ sym (removed-first was.entries source)) ∙ sym (ap (λ (b : Bool). cond b (lists_of es) (changed_in f (lists_of es) p)) good) in
     let kept : places_of xs ≡ places_of es = ap places_of is ∙ places-same es p was w h (ap (λ (l : Listed). l.spare) say) in
     ap (λ ls. let t : AliasTable = record { programs = ls; places = places xs spare } in t) lists
     ∙ ap (λ ps. let t : AliasTable = record { programs = removed (lists_of es) p source; places = record { lists = ps; spare = spare } } in t) kept
 
 pub removed-none : (es : Lists) (spare : ℕ) (p source : List ℕ) → is_no_source source ≡ false → lookup (sought p) es ≡ None → table es spare ≡ with_lists (table es spare) (removed (lists_of es) p source)
 removed-none es spare p source good h =
-    let f : List Entry → List Entry = λ es. without_entry es source in
+    let f : List Entry → List Entry = λ es. remove es (position_or_len (λ e. same_name e.source source) es) in
     ap (with_lists (table es spare)) (sym (changed-none f es p h) ∙ sym (ap (λ (b : Bool). cond b (lists_of es) (changed_in f (lists_of es) p)) good))
 
 -- the alias that a source names

@@ -4,3 +4,5 @@ pub mod Expansion
 -- The code's own words: the memory that is promised, and how sources are looked up.
 pub mod Room
 pub mod Hashed
+-- The code's own words: how a target is read, sign by sign.
+pub mod Signs

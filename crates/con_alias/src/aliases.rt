@@ -4,7 +4,7 @@ ghost use Rattle.std.specs.List.{list_any};
 ghost use Rattle.std.specs.Bool.{OnFalse};
 ghost use Rattle.con_units.specs.Stored.{is_control};
 ghost use Rattle.std.specs.Option.{option_map};
-ghost use Rattle.con_alias.specs.Aliases.{Entry, entries_in, is_text, has_control, is_bad, is_no_source, added, add_answer, alias_at, removed, remove_answer};
+ghost use Rattle.con_alias.specs.Aliases.{Entry, entries_in, has_control, is_bad, is_no_source, added, add_answer, alias_at, removed, remove_answer};
 ghost use Rattle.con_alias.specs.Room.{room_for, has_room};
 ghost use Rattle.con_alias.specs.Expansion.{expansion, lines_of};
 
@@ -56,12 +56,6 @@ impl Drop for Aliases {
     }
 }
 
-fn is_length(text: &Units, most: usize) -> bool
-    ensures { result ≡ is_text 1 most text.now }
-{
-    1 <= text.len() && text.len() <= most
-}
-
 /// Whether a text has a control: a unit of 0x00 to 0x1F or 0x7F to 0x9F.
 pub fn has_control(text: &[u16]) -> bool
     ensures { result ≡ has_control text.now }
@@ -82,9 +76,10 @@ fn refused(program: &Units, source: &Units, target: &Units) -> bool
     ensures source { OnFalse result (length source.now ≤ 255) }
     ensures target { OnFalse result (length target.now ≤ 1024) }
 {
-    !is_length(program, SOURCE_UNITS)
-        || !is_length(source, SOURCE_UNITS)
-        || !is_length(target, TARGET_UNITS)
+    is_no_source(program.as_slice())
+        || is_no_source(source.as_slice())
+        || target.as_slice().is_empty()
+        || TARGET_UNITS < target.as_slice().len()
         || is_any_space(source.as_slice())
         || has_control(source.as_slice())
         || has_control(target.as_slice())
