@@ -1,6 +1,9 @@
 -- A refused call on aliases leaves them as they are.
 use Rattle.std.proofs.Common.{◌≡◌, ◌||◌, Bool, true, false, cond, List, [], ◌∷◌, ◌++◌, ℕ, Option, Some, None, is_some, Ok, Err, refl, sym, ap, ◌∙◌}
+use Rattle.std.specs.Prelude.{remove}
+use Rattle.std.specs.List.{position_or_len}
 use Rattle.con_alias.proofs.Entries.{with-full}
+use Rattle.con_alias.proofs.Removal.{removed-first}
 use Rattle.con_alias.specs.Aliases.{Entry, AliasList, entry_of, find_entry, without_entry, with_entry, is_full, entries_in, is_known, changed_in, is_bad, is_no_source, is_over, alias_at, added, add_answer, removed, remove_answer}
 use Rattle.con_units.specs.Units.{same_units}
 use Rattle.con_alias.specs.Aliases.{same_name}
@@ -34,9 +37,11 @@ without-none (e ∷ es) source none =
     without_step (same_name e.source source) e es (without_entry es source) (find_entry es source) none (λ rest. without-none es source rest)
 
 removed_by : (b : Bool) (ls : List AliasList) (program source : List ℕ) → is_some (cond b None (find_entry (entries_in ls program) source)) ≡ false
-    → cond b ls (changed_in (λ es. without_entry es source) ls program) ≡ ls
+    → cond b ls (changed_in (λ es. remove es (position_or_len (λ e. same_name e.source source) es)) ls program) ≡ ls
 removed_by true ls program source none = refl
-removed_by false ls program source none = changed-same (λ es. without_entry es source) ls program (without-none (entries_in ls program) source none)
+removed_by false ls program source none =
+    changed-same (λ es. remove es (position_or_len (λ e. same_name e.source source) es)) ls program
+    (removed-first (entries_in ls program) source ∙ without-none (entries_in ls program) source none)
 
 removed-none : (ls : List AliasList) (program source : List ℕ) → is_some (alias_at ls program source) ≡ false → removed ls program source ≡ ls
 removed-none ls program source none = removed_by (is_no_source source) ls program source none
