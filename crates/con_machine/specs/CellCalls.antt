@@ -1,5 +1,5 @@
 -- Calls on the cells of the shown screen of a buffer: rectangles and runs.
-use Rattle.std.specs.Prelude.{ℕ, ℤ, ◌==◌, ◌&&◌, Bool, true, nat_lt, List, [], ◌∷◌, length, map, replicate, Option, Result, Ok, Err, if◌then◌else◌}
+use Rattle.std.specs.Prelude.{ℕ, ℤ, ◌==◌, ◌&&◌, Bool, true, nat_lt, List, [], ◌∷◌, length, map, zip, replicate, Option, Result, Ok, Err, if◌then◌else◌}
 use Rattle.con_units.specs.Limits.{most_items}
 use Rattle.con_units.specs.Attr.{plain}
 use Rattle.con_units.specs.Glyph.{Glyph, cell_of}
@@ -19,7 +19,47 @@ use Rattle.con_rects.specs.Scroll.{scrolled}
 use Rattle.con_screens.specs.Buffers.{Buffers}
 use Rattle.con_machine.specs.State.{State}
 use Rattle.con_machine.specs.Outcome.{Outcome, refused, answered, done, by_result, on_buffer}
-use Rattle.con_machine.specs.ScreenCalls.{page_at, page_left}
+use Rattle.con_machine.specs.ScreenCalls.{page_at, page_left, page_of, with_page}
+
+-- the cells that a buffer shows
+abbrev pub cells_of : State → ℕ → Picture
+cells_of s id = (page_of s id).grid
+
+-- others stand there
+abbrev pub with_cells : State → ℕ → Picture → State
+with_cells s id picture = with_page s id (record (page_of s id) { grid = picture })
+
+-- as many words as there are units
+abbrev pub words_of : Words → ℕ → List ℕ
+words_of (words.One w) n = replicate n w
+words_of (words.Each ws) n = ws
+
+abbrev pub are_words : Words → ℕ → Bool
+are_words (words.One w) n = true
+are_words (words.Each ws) n = length ws == n
+
+-- the cells of units and their words
+abbrev pub cells_for : List ℕ → Words → List Glyph
+cells_for units ws = map (λ x. cell_of x.0 (plain x.1)) (zip units (words_of ws (length units)))
+
+-- as many units, and as many words, as a rectangle has cells
+abbrev pub are_cells : Rect → List ℕ → Words → Bool
+are_cells r units ws = (length units == cell_count r) && are_words ws (length units)
+
+abbrev pub at_place : ℤ → ℤ → Coord
+at_place x y = record { x = x; y = y }
+
+-- one call reads and writes no more cells than this
+abbrev pub run_told : Picture → Coord → ℕ → (Glyph → ℕ) → Reply
+run_told g at n part = if nat_lt most_items (run_count g at n) then replies.Fail code.Limit else replies.Units (map part (run_cells g at n))
+
+abbrev pub run_answer : Picture → Coord → ℕ → Result ℕ Code
+run_answer g at n = if nat_lt most_items (run_count g at n) then Err code.Limit else Ok (run_count g at n)
+
+-- ---- the words of the code and of laws
+
+abbrev pub paired : List ℕ → List ℕ → List Glyph
+paired us ws = map (λ x. cell_of x.0 (plain x.1)) (zip us ws)
 
 -- the cells that a buffer shows
 abbrev pub cells_at : Buffers → ℕ → Picture
@@ -28,12 +68,6 @@ cells_at b id = (page_at b id).grid
 -- others stand there
 abbrev pub cells_left : Buffers → ℕ → Picture → Buffers
 cells_left b id picture = page_left b id (record (page_at b id) { grid = picture })
-
-abbrev pub cells_of : State → ℕ → Picture
-cells_of s id = cells_at s.buffers id
-
-abbrev pub with_cells : State → ℕ → Picture → State
-with_cells s id picture = record s { buffers = cells_left s.buffers id picture }
 
 -- more cells than one call may read or write
 abbrev pub is_over : ℕ → Bool
@@ -57,28 +91,6 @@ rect_told g r = if is_over (used_in g r) then replies.Fail code.Limit else repli
 abbrev pub read_rect : State → ℕ → ℕ → Rect → Outcome
 read_rect s p h r = on_buffer s p h 1 (λ id. answered s (rect_told (cells_of s id) r))
 
--- as many words as there are units
-abbrev pub words_of : Words → ℕ → List ℕ
-words_of (words.One w) n = replicate n w
-words_of (words.Each ws) n = ws
-
-abbrev pub are_words : Words → ℕ → Bool
-are_words (words.One w) n = true
-are_words (words.Each ws) n = length ws == n
-
-abbrev pub paired : List ℕ → List ℕ → List Glyph
-paired [] ws = []
-paired (u ∷ us) [] = []
-paired (u ∷ us) (w ∷ ws) = cell_of u (plain w) ∷ paired us ws
-
--- the cells of units and their words
-abbrev pub cells_for : List ℕ → Words → List Glyph
-cells_for units ws = paired units (words_of ws (length units))
-
--- as many units, and as many words, as a rectangle has cells
-abbrev pub are_cells : Rect → List ℕ → Words → Bool
-are_cells r units ws = (length units == cell_count r) && are_words ws (length units)
-
 abbrev pub rect_answer : Picture → Rect → Result Rect Code
 rect_answer g r = if is_over (used_in g r) then Err code.Limit else Ok (used_of g r)
 
@@ -91,20 +103,11 @@ wrote_rect s p h r units ws = on_buffer s p h 2 (λ id.
 
 -- ---- runs: ReadConsoleOutputCharacter, ReadConsoleOutputAttribute, and the calls that write and fill
 
-abbrev pub at_place : ℤ → ℤ → Coord
-at_place x y = record { x = x; y = y }
-
-abbrev pub run_told : Picture → Coord → ℕ → (Glyph → ℕ) → Reply
-run_told g at n part = if is_over (run_count g at n) then replies.Fail code.Limit else replies.Units (map part (run_cells g at n))
-
 abbrev pub read_run_units : State → ℕ → ℕ → ℤ → ℤ → ℕ → Outcome
 read_run_units s p h x y n = on_buffer s p h 1 (λ id. answered s (run_told (cells_of s id) (at_place x y) n (λ g. g.unit)))
 
 abbrev pub read_run_words : State → ℕ → ℕ → ℤ → ℤ → ℕ → Outcome
 read_run_words s p h x y n = on_buffer s p h 1 (λ id. answered s (run_told (cells_of s id) (at_place x y) n (λ g. g.attr.word)))
-
-abbrev pub run_answer : Picture → Coord → ℕ → Result ℕ Code
-run_answer g at n = if is_over (run_count g at n) then Err code.Limit else Ok (run_count g at n)
 
 abbrev pub wrote_run_units : State → ℕ → ℕ → ℤ → ℤ → List ℕ → Outcome
 wrote_run_units s p h x y units = on_buffer s p h 2 (λ id.

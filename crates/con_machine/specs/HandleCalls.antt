@@ -1,5 +1,5 @@
 -- Calls that make and close handles.
-use Rattle.std.specs.Prelude.{ℕ, List, Option, None, Some, Result, Ok, Err, if◌then◌else◌}
+use Rattle.std.specs.Prelude.{ℕ, List, Option, Some, Result, Ok, Err, if◌then◌else◌}
 use Rattle.con_units.specs.declared.code.Code.{Code}
 use Rattle.con_units.specs.declared.code.Code.TheVariants as code
 use Rattle.con_handles.specs.Handles.{entered, new_number, object_of, without}
@@ -9,33 +9,40 @@ use Rattle.con_handles.specs.declared.handle.Object.TheVariants as object
 use Rattle.con_handles.specs.declared.handle.Kind.TheVariants as kind
 use Rattle.con_screens.specs.Buffers.{Buffers, created, free_id, handle_retained, handle_released}
 use Rattle.con_machine.specs.State.{State, without_rest, id_of}
-use Rattle.con_machine.specs.Outcome.{Outcome, refused, answered, done, while_open, guard, with_object, on_buffer, are_rights}
+use Rattle.con_machine.specs.Outcome.{Outcome, refused, answered, done, or_refused, while_open, guard, with_object, on_buffer, are_rights}
 use Rattle.con_events.specs.declared.reply.Reply.TheVariants as replies
 
 abbrev pub handle_with : State → ℕ → ℕ → Object → ℕ → List Handle
 handle_with s p n o rights = entered (record { process = p; number = n; object = o; rights = rights }) s.handles
 
-abbrev pub retained : Object → Buffers → Buffers
-retained object.Input buffers = buffers
-retained (object.Output id) buffers = handle_retained buffers id.0
-
-abbrev pub released : Object → Buffers → Buffers
-released object.Input buffers = buffers
-released (object.Output id) buffers = handle_released buffers id.0
+-- what is done to the buffer that a handle is of; one of the input is of none
+abbrev pub of_output : (Buffers → ℕ → Buffers) → Object → Buffers → Buffers
+of_output f object.Input buffers = buffers
+of_output f (object.Output id) buffers = f buffers id.0
 
 -- a handle more for an object, whose number is the least free one
-abbrev pub opened_at : State → ℕ → Object → ℕ → Result ℕ Code → Outcome
-opened_at s p o rights (Err why) = refused s why
-opened_at s p o rights (Ok n) = answered (record s { handles = handle_with s p n o rights; buffers = retained o s.buffers }) (replies.Number n)
-
 abbrev pub opened : State → ℕ → Object → ℕ → Outcome
-opened s p o rights = if are_rights rights then opened_at s p o rights (new_number s.handles p) else refused s code.BadArgument
+opened s p o rights = if are_rights rights then or_refused s (new_number s.handles p) (λ n.
+    answered (record s { handles = handle_with s p n o rights; buffers = of_output handle_retained o s.buffers }) (replies.Number n))
+    else refused s code.BadArgument
 
+-- a handle more, and a buffer that it is of
 abbrev pub buffer_made : State → ℕ → ℕ → Result ℕ Code → Option ℕ → Outcome
-buffer_made s p rights (Err why) id = refused s code.Limit
-buffer_made s p rights (Ok n) None = refused s code.Limit
 buffer_made s p rights (Ok n) (Some id) =
     answered (record s { handles = handle_with s p n (object.Output (id_of id)) rights; buffers = created s.buffers id }) (replies.Number n)
+buffer_made s p rights _ _ = refused s code.Limit
+
+-- ---- the words of the code and of laws
+
+abbrev pub retained : Object → Buffers → Buffers
+retained o buffers = of_output handle_retained o buffers
+
+abbrev pub released : Object → Buffers → Buffers
+released o buffers = of_output handle_released o buffers
+
+abbrev pub opened_at : State → ℕ → Object → ℕ → Result ℕ Code → Outcome
+opened_at s p o rights r =
+    or_refused s r (λ n. answered (record s { handles = handle_with s p n o rights; buffers = retained o s.buffers }) (replies.Number n))
 
 -- CreateConsoleScreenBuffer
 abbrev pub created_buffer : State → ℕ → ℕ → Outcome

@@ -1,4 +1,4 @@
--- Calls on the input queue.
+-- Calls on the input queue: the words of the code and of laws.
 use Rattle.std.specs.Prelude.{ℕ, ◌==◌, nat_lt, List, [], ◌++◌, length, take, min, if◌then◌else◌}
 use Rattle.con_units.specs.Limits.{most_records}
 use Rattle.con_units.specs.declared.code.Code.TheVariants as code

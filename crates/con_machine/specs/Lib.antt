@@ -1,11 +1,9 @@
--- What a reader must believe: the console, its calls by groups, and one step.
+-- What a reader must believe: the console, what each call does, and one step.
 pub mod State
 pub mod Outcome
 pub mod HandleCalls
 pub mod ScreenCalls
 pub mod CellCalls
-pub mod InputCalls
-pub mod LineCalls
 pub mod ProcessCalls
 pub mod Call
 pub mod Serving
@@ -33,7 +31,9 @@ pub mod EventLaws
 pub mod SizeLaws
 pub mod SameViews
 pub mod FeedingLaws
--- The code's own words: what holds of every console, and what is promised to fit.
+-- The code's own words: calls by their names, what holds of every console, and what is promised to fit.
+pub mod InputCalls
+pub mod LineCalls
 pub mod Pumping
 pub mod Began
 pub mod Opened

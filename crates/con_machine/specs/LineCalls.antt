@@ -1,12 +1,12 @@
--- Calls on histories and aliases.
-use Rattle.std.specs.Prelude.{ℕ, ℤ, pos, not, List, [], ◌∷◌, ◌++◌, map, Option, None, Some}
+-- Calls on histories and aliases: the words of the code and of laws.
+use Rattle.std.specs.Prelude.{ℕ, ℤ, pos, not, List, [], ◌∷◌, ◌++◌, map, Option, ok_or}
 use Rattle.con_units.specs.declared.code.Code.TheVariants as code
 use Rattle.con_procs.specs.Procs.{program_of}
 use Rattle.con_history.specs.Histories.{lines_of, cleared, configured, is_refused}
 use Rattle.con_history.specs.declared.info.HistoryInfo.{HistoryInfo}
 use Rattle.con_alias.specs.Aliases.{Entry, alias_at, entries_in, added, add_answer, removed, remove_answer}
 use Rattle.con_machine.specs.State.{State}
-use Rattle.con_machine.specs.Outcome.{Outcome, refused, answered, done, while_open, by_answer, checked}
+use Rattle.con_machine.specs.Outcome.{Outcome, answered, done, or_refused, while_open, by_answer, checked}
 use Rattle.con_events.specs.declared.reply.Reply.TheVariants as replies
 
 -- GetConsoleHistoryInfo
@@ -41,8 +41,7 @@ removed_alias s program source = while_open s (
     by_answer s (remove_answer s.aliases program source) (record s { aliases = removed s.aliases program source }))
 
 abbrev pub told_alias_in : State → Option Entry → Outcome
-told_alias_in s None = refused s code.NoAlias
-told_alias_in s (Some e) = answered s (replies.Units e.target)
+told_alias_in s e = or_refused s (ok_or e code.NoAlias) (λ x. answered s (replies.Units x.target))
 
 abbrev pub told_alias : State → List ℕ → List ℕ → Outcome
 told_alias s program source = while_open s (told_alias_in s (alias_at s.aliases program source))

@@ -1,5 +1,6 @@
 -- What an event comes to, and what stands before each call.
 use Rattle.std.specs.Prelude.{ℕ, ◌==◌, ◌&&◌, Bool, not, nat_le, nat_lt, Result, Ok, Err, bit_and, if◌then◌else◌}
+use Rattle.std.specs.Result.{result_and}
 use Rattle.con_units.specs.declared.code.Code.{Code}
 use Rattle.con_units.specs.declared.code.Code.TheVariants as code
 use Rattle.con_units.specs.declared.view.BufferId.{BufferId}
@@ -28,15 +29,14 @@ answered s reply = record { after = s; reply = reply }
 abbrev pub done : State → Outcome
 done s = answered s replies.Done
 
+-- refused, or what comes of a value
+abbrev pub or_refused : {A : Type 0} → State → Result A Code → (A → Outcome) → Outcome
+or_refused s (Err why) f = refused s why
+or_refused s (Ok a) f = f a
+
 -- a call that is done, or refused
 abbrev pub by_answer : State → Result (Unit {0}) Code → State → Outcome
-by_answer s (Err why) changed = refused s why
-by_answer s (Ok u) changed = done changed
-
--- a call that answers a value, or is refused
-abbrev pub by_result : {A : Type 0} → State → Result A Code → State → (A → Reply) → Outcome
-by_result s (Err why) changed reply = refused s why
-by_result s (Ok a) changed reply = answered changed (reply a)
+by_answer s answer changed = or_refused s answer (λ _. done changed)
 
 -- done, where a test passes
 abbrev pub checked : Bool → Result (Unit {0}) Code
@@ -50,31 +50,17 @@ while_open s o = if s.closed then refused s code.Closed else o
 abbrev pub guard : State → ℕ → ℕ → Kind → ℕ → Result Object Code
 guard s p h k right = if s.closed then Err code.Closed else look s.handles p h k right
 
--- an answer, where the handle serves
-abbrev pub guarded : Result Object Code → Result (Unit {0}) Code → Result (Unit {0}) Code
-guarded (Err why) r = Err why
-guarded (Ok o) r = r
-
-abbrev pub with_object : State → Result Object Code → (Object → Outcome) → Outcome
-with_object s (Err why) f = refused s why
-with_object s (Ok o) f = f o
-
 -- a call on the input
 abbrev pub on_input : State → ℕ → ℕ → ℕ → Outcome → Outcome
-on_input s p h right o = with_object s (guard s p h kind.Input right) (λ _. o)
+on_input s p h right o = or_refused s (guard s p h kind.Input right) (λ _. o)
 
 abbrev pub buffer_of : Object → ℕ
 buffer_of object.Input = 0
 buffer_of (object.Output id) = id.0
 
--- what a buffer's handle stands for, or why there is none
-abbrev pub object_or : Result BufferId Code → Result Object Code
-object_or (Err why) = Err why
-object_or (Ok id) = Ok (object.Output id)
-
 -- a call on a screen buffer
 abbrev pub on_buffer : State → ℕ → ℕ → ℕ → (ℕ → Outcome) → Outcome
-on_buffer s p h right f = with_object s (guard s p h kind.Output right) (λ o. f (buffer_of o))
+on_buffer s p h right f = or_refused s (guard s p h kind.Output right) (λ o. f (buffer_of o))
 
 -- rights to read (1), to write (2), or both
 abbrev pub are_rights : ℕ → Bool
@@ -83,3 +69,20 @@ are_rights n = nat_lt 0 n && nat_le n 3
 -- a bit of a mode
 abbrev pub has_bit : ℕ → ℕ → Bool
 has_bit mode bit = not (bit_and mode bit == 0)
+
+-- ---- the words of the code and of laws
+
+abbrev pub by_result : {A : Type 0} → State → Result A Code → State → (A → Reply) → Outcome
+by_result s r changed reply = or_refused s r (λ a. answered changed (reply a))
+
+abbrev pub with_object : State → Result Object Code → (Object → Outcome) → Outcome
+with_object s r f = or_refused s r f
+
+-- an answer, where the handle serves
+abbrev pub guarded : Result Object Code → Result (Unit {0}) Code → Result (Unit {0}) Code
+guarded r answer = result_and r answer
+
+-- what a buffer's handle stands for, or why there is none
+abbrev pub object_or : Result BufferId Code → Result Object Code
+object_or (Err why) = Err why
+object_or (Ok id) = Ok (object.Output id)

@@ -8,13 +8,15 @@ use Rattle.con_machine.specs.Outcome.{Outcome, refused, answered, done, while_op
 use Rattle.con_machine.specs.Signals.{signalled_to}
 use Rattle.con_events.specs.declared.reply.Reply.TheVariants as replies
 
--- GetConsoleProcessList
-abbrev pub listed_processes : State → Outcome
-listed_processes s = while_open s (answered s (replies.Numbers (map (λ id. pos id) (ids_of s.procs))))
-
 -- ctrl+C (0) and ctrl+break (1) can be sent, and ctrl+break to a group that there is
 abbrev pub is_no_signal : List Proc → ℕ → ℕ → Bool
 is_no_signal ps event group = nat_lt 1 event || ((event == 1) && not (group == 0) && not (group_known ps group))
+
+-- ---- the words of the code and of laws
+
+-- GetConsoleProcessList
+abbrev pub listed_processes : State → Outcome
+listed_processes s = while_open s (answered s (replies.Numbers (map (λ id. pos id) (ids_of s.procs))))
 
 -- GenerateConsoleCtrlEvent
 abbrev pub sent_signal : State → ℕ → ℕ → Outcome

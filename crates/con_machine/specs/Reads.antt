@@ -1,8 +1,10 @@
 -- Events of a client beside its calls: reads begin and are collected, control events are taken, and it exits.
-use Rattle.std.specs.Prelude.{ℕ, zero, suc, ◌==◌, ◌&&◌, ◌||◌, Bool, true, false, not, nat_lt, List, [], ◌∷◌, ◌++◌, length, take, drop, min, filter, slice_get}
-use Rattle.std.specs.Prelude.{pos, Option, None, Some, Result, Ok, Err, if◌then◌else◌}
+use Rattle.std.specs.Prelude.{ℕ, zero, suc, ◌==◌, ◌&&◌, ◌||◌, Bool, false, not, nat_lt, List, [], ◌∷◌, ◌++◌, length, take, drop, min, filter, fold, slice_get, is_none, unwrap_or}
+use Rattle.std.specs.Prelude.{pos, Option, Result, Ok, Err, if◌then◌else◌}
 use Rattle.std.specs.List.{list_any}
-use Rattle.con_units.specs.Limits.{most_items, most_records}
+use Rattle.std.specs.Option.{option_map_or}
+use Rattle.std.specs.Result.{result_and}
+use Rattle.con_units.specs.Limits.{most_items, most_records, line_units}
 use Rattle.con_units.specs.Stored.{is_control}
 use Rattle.con_units.specs.declared.code.Code.{Code}
 use Rattle.con_units.specs.declared.code.Code.TheVariants as code
@@ -19,11 +21,12 @@ use Rattle.con_readers.specs.declared.answer.Answer.{Answer}
 use Rattle.con_readers.specs.declared.answer.Answer.TheVariants as answers
 use Rattle.con_readers.specs.declared.open.OpenRead.{OpenRead}
 use Rattle.con_readers.specs.declared.open.OpenRead.TheVariants as reads
-use Rattle.con_screens.specs.Buffers.{Buffers}
-use Rattle.con_machine.specs.State.{State, noted_of, without_noted, rest_in, with_rest, rest_begun, without_rests, id_of}
-use Rattle.con_machine.specs.Outcome.{Outcome, answered, by_answer, guard, guarded, has_bit}
-use Rattle.con_machine.specs.HandleCalls.{released}
+use Rattle.con_screens.specs.Buffers.{Buffers, handle_released}
+use Rattle.con_machine.specs.State.{State, noted_of, without_noted, is_rest_of, rest_in, with_rest, rest_begun, id_of}
+use Rattle.con_machine.specs.Outcome.{Outcome, refused, answered, by_answer, guard, guarded, has_bit}
+use Rattle.con_machine.specs.HandleCalls.{of_output, released}
 use Rattle.con_machine.specs.declared.reads.noted.Noted.{Noted}
+use Rattle.con_machine.specs.declared.reads.rest.Rest.{Rest}
 
 -- ---- a read begins: ReadConsole, ReadConsoleInput
 
@@ -31,16 +34,11 @@ use Rattle.con_machine.specs.declared.reads.noted.Noted.{Noted}
 abbrev pub with_read : State → ℕ → OpenRead → State
 with_read s p read = record s { reads = s.reads ++ begun p read ∷ [] }
 
--- CR, and then LF
-abbrev pub ends_line : ℕ → List ℕ → Bool
-ends_line u [] = false
-ends_line u (v ∷ vs) = (u == 13) && (v == 10)
-
 -- where the front of a text ends that one read answers: at n units, but not past the first CR LF
 unfoldable pub line_front : ℕ → List ℕ → ℕ
 line_front zero us = 0
 line_front (suc n) [] = 0
-line_front (suc n) (u ∷ us) = if ends_line u us then min (suc n) 2 else suc (line_front n us)
+line_front (suc n) (u ∷ us) = if option_map_or (λ v. (u == 13) && (v == 10)) (slice_get us 0) false then min (suc n) 2 else suc (line_front n us)
 
 abbrev pub front_of : ℕ → List ℕ → List ℕ
 front_of n text = take (line_front n text) text
@@ -48,17 +46,9 @@ front_of n text = take (line_front n text) text
 abbrev pub back_of : ℕ → List ℕ → List ℕ
 back_of n text = drop (line_front n text) text
 
--- the program's history is used, the others of attached processes being busy
-abbrev pub history_used : State → ℕ → State
-history_used s p = record s { histories = used_by s.histories (program_of s.procs p) (programs_of s.procs) }
-
 -- a read that is done at once
 abbrev pub answered_with : State → ℕ → List ℕ → State
 answered_with s p units = with_read s p (reads.Done (answers.Units units))
-
--- what is left of a line answers
-abbrev pub rest_answered : State → ℕ → ℕ → ℕ → List ℕ → State
-rest_answered s p h n rest = record (answered_with s p (front_of n rest)) { rests = with_rest (back_of n rest) s.rests p h }
 
 -- where the line will show is noted when the read becomes the first one
 abbrev pub first_note : State → ℕ → ℕ → ℕ → List ℕ → Noted
@@ -79,33 +69,94 @@ abbrev pub line_opened : State → ℕ → List ℕ → ℕ → OpenRead
 line_opened s p initial mask =
     reads.Line (record { program = program_of s.procs p; insert = has_bit s.mode 0x20; initial = initial; mask = mask; presses = [] })
 
-abbrev pub line_begun : State → ℕ → ℕ → ℕ → List ℕ → ℕ → State
-line_begun s p h n initial mask = record (with_read s p (line_opened s p initial mask)) {
-  noted = s.noted ++ first_note s p h n initial ∷ [];
-  rests = rest_begun s.rests p h;
-}
-
-abbrev pub is_empty : List ℕ → Bool
-is_empty [] = true
-is_empty (u ∷ us) = false
-
--- a read of a line
+-- a read of a line, by what is left for its handle: nothing is asked for; or a line begins; or what is left answers
 abbrev pub began_line : State → ℕ → ℕ → ℕ → List ℕ → ℕ → State
 began_line s p h n initial mask =
+    let rest = rest_in s.rests p h in
     if n == 0 then answered_with s p []
-    else if is_empty (rest_in s.rests p h) then line_begun s p h n initial mask
-    else rest_answered s p h n (rest_in s.rests p h)
+    else if is_none (slice_get rest 0) then record (with_read s p (line_opened s p initial mask)) {
+      noted = s.noted ++ first_note s p h n initial ∷ [];
+      rests = if list_any (is_rest_of p h) s.rests then s.rests else s.rests ++ (let r : Rest = record { process = p; handle = h; units = [] } in r) ∷ [];
+    }
+    else record (answered_with s p (front_of n rest)) { rests = with_rest (back_of n rest) s.rests p h }
 
 -- the read that a line read opens, by what is left for its handle: nothing was asked for; or a line; or what is left answers at once
 abbrev pub line_read : State → ℕ → ℕ → List ℕ → List ℕ → ℕ → OpenRead
 line_read s p n rest initial mask =
     if n == 0 then reads.Done (answers.Units [])
-    else if is_empty rest then line_opened s p initial mask
+    else if is_none (slice_get rest 0) then line_opened s p initial mask
     else reads.Done (answers.Units (front_of n rest))
 
 -- the read that a read of units opens, without line mode
 abbrev pub units_read : ℕ → OpenRead
 units_read n = if n == 0 then reads.Done (answers.Units []) else reads.Units n
+
+-- A plain read begins with an empty text and no mask; without line mode, and where a rest answers, both are ignored. It can't begin while a read is open, or
+-- with an initial text that has a control, or more than 1,024 units, or more than the read asks for. Of a line, the program's history is used, the others of
+-- attached processes being busy.
+abbrev pub began_read : State → ℕ → ℕ → ℕ → List ℕ → ℕ → Outcome
+began_read s p h n initial mask =
+    by_answer s (result_and (guard s p h kind.Input 1)
+    (if is_open s.reads p || (list_any is_control initial || nat_lt line_units (length initial) || nat_lt n (length initial)) then Err code.BadArgument
+    else if nat_lt most_items n then Err code.Limit else Ok tt))
+    (if has_bit s.mode 2 then began_line (record s { histories = used_by s.histories (program_of s.procs p) (programs_of s.procs) }) p h n initial mask
+    else if n == 0 then answered_with s p [] else with_read s p (reads.Units n))
+
+unfoldable pub began : State → ℕ → Wanted → Outcome
+began s p (wanted.Read h n) = began_read s p h n [] 0
+began s p (wanted.ReadInput h n) = by_answer s (result_and (guard s p h kind.Input 1)
+    (if is_open s.reads p || (n == 0) then Err code.BadArgument else if nat_lt most_records n then Err code.Limit else Ok tt)) (with_read s p (reads.Records n))
+began s p (wanted.ReadWith h n initial mask) = began_read s p h n initial mask
+
+-- ---- a read is collected
+
+-- Of a text that ended by a masked control the first n units answer, and of a line those up to its first CR LF at most. What follows is left for the
+-- handle, unless it was closed.
+abbrev pub answer_told : State → Option Noted → Answer → Outcome
+answer_told s n (answers.Units text) = option_map_or (λ m. answered (record s {
+  rests = with_rest (if m.woken then drop m.n text else back_of m.n text) s.rests m.process m.handle;
+}) (replies.Units (if m.woken then take m.n text else front_of m.n text))) n (answered s (replies.Units text))
+answer_told s n (answers.Records records) = answered s (replies.Records records)
+answer_told s n (answers.Fail why) = refused s why
+
+unfoldable pub collected : State → ℕ → Outcome
+collected s p =
+    answer_told (record s { reads = without s.reads p; noted = without_noted s.noted p }) (noted_of s.noted p)
+    (answer_in (slice_get s.reads (place_of s.reads p)))
+
+-- the oldest control event is taken
+unfoldable pub took_ctrl : State → ℕ → Outcome
+took_ctrl s p = answered (record s { procs = took_pending s.procs p }) (replies.Ctrl (unwrap_or (first_pending s.procs p) 0))
+
+-- a client exits: its read goes, with what is noted of it and left for it, and every handle is closed
+unfoldable pub left : State → ℕ → ℕ → State
+left s p status =
+    let t : State = record s { reads = without s.reads p; noted = without_noted s.noted p; rests = filter (λ r. not (r.process == p)) s.rests } in
+    let buffers = fold (λ b h. of_output handle_released h.object b) s.buffers (filter (is_owned p) s.handles) in
+    record t { handles = filter (λ h. not (is_owned p h)) s.handles; buffers = buffers; procs = exited s.procs p status }
+
+-- ---- the words of the code and of laws
+
+-- CR, and then LF
+abbrev pub ends_line : ℕ → List ℕ → Bool
+ends_line u us = option_map_or (λ v. (u == 13) && (v == 10)) (slice_get us 0) false
+
+abbrev pub is_empty : List ℕ → Bool
+is_empty us = is_none (slice_get us 0)
+
+-- the program's history is used, the others of attached processes being busy
+abbrev pub history_used : State → ℕ → State
+history_used s p = record s { histories = used_by s.histories (program_of s.procs p) (programs_of s.procs) }
+
+-- what is left of a line answers
+abbrev pub rest_answered : State → ℕ → ℕ → ℕ → List ℕ → State
+rest_answered s p h n rest = record (answered_with s p (front_of n rest)) { rests = with_rest (back_of n rest) s.rests p h }
+
+abbrev pub line_begun : State → ℕ → ℕ → ℕ → List ℕ → ℕ → State
+line_begun s p h n initial mask = record (with_read s p (line_opened s p initial mask)) {
+  noted = s.noted ++ first_note s p h n initial ∷ [];
+  rests = rest_begun s.rests p h;
+}
 
 -- a read of units, without line mode
 abbrev pub began_units : State → ℕ → ℕ → State
@@ -125,11 +176,6 @@ initial_checked s p n initial =
 abbrev pub read_answer : State → ℕ → ℕ → ℕ → List ℕ → Result (Unit {0}) Code
 read_answer s p h n initial = guarded (guard s p h kind.Input 1) (initial_checked s p n initial)
 
--- a plain read begins with an empty text and no mask; without line mode, and where a rest answers, both are ignored
-abbrev pub began_read : State → ℕ → ℕ → ℕ → List ℕ → ℕ → Outcome
-began_read s p h n initial mask =
-    by_answer s (read_answer s p h n initial) (if has_bit s.mode 2 then began_line (history_used s p) p h n initial mask else began_units s p n)
-
 abbrev pub records_checked : State → ℕ → ℕ → Result (Unit {0}) Code
 records_checked s p n =
     if is_open s.reads p || (n == 0) then Err code.BadArgument
@@ -142,59 +188,18 @@ records_answer s p h n = guarded (guard s p h kind.Input 1) (records_checked s p
 abbrev pub began_read_input : State → ℕ → ℕ → ℕ → Outcome
 began_read_input s p h n = by_answer s (records_answer s p h n) (with_read s p (reads.Records n))
 
-unfoldable pub began : State → ℕ → Wanted → Outcome
-began s p (wanted.Read h n) = began_read s p h n [] 0
-began s p (wanted.ReadInput h n) = began_read_input s p h n
-began s p (wanted.ReadWith h n initial mask) = began_read s p h n initial mask
-
--- ---- a read is collected
-
--- of a text that ended by a masked control the first n units answer, and of a line those up to its first CR LF at most
 abbrev pub part_told : Noted → List ℕ → List ℕ
 part_told n text = if n.woken then take n.n text else front_of n.n text
 
 abbrev pub part_left : Noted → List ℕ → List ℕ
 part_left n text = if n.woken then drop n.n text else back_of n.n text
 
--- what follows is left for the handle, unless it was closed
+-- what follows is left for the handle
 abbrev pub line_cut : State → Noted → List ℕ → Outcome
 line_cut s n text = answered (record s { rests = with_rest (part_left n text) s.rests n.process n.handle }) (replies.Units (part_told n text))
 
 abbrev pub units_told : State → Option Noted → List ℕ → Outcome
-units_told s None units = answered s (replies.Units units)
-units_told s (Some n) text = line_cut s n text
-
-abbrev pub answer_told : State → Option Noted → Answer → Outcome
-answer_told s n (answers.Units units) = units_told s n units
-answer_told s n (answers.Records records) = answered s (replies.Records records)
-answer_told s n (answers.Fail why) = answered s (replies.Fail why)
-
-unfoldable pub collected : State → ℕ → Outcome
-collected s p =
-    answer_told (record s { reads = without s.reads p; noted = without_noted s.noted p }) (noted_of s.noted p)
-    (answer_in (slice_get s.reads (place_of s.reads p)))
-
--- ---- the oldest control event is taken
-
-abbrev pub event_or_none : Option ℕ → ℕ
-event_or_none None = 0
-event_or_none (Some e) = e
-
-unfoldable pub took_ctrl : State → ℕ → Outcome
-took_ctrl s p = answered (record s { procs = took_pending s.procs p }) (replies.Ctrl (event_or_none (first_pending s.procs p)))
-
--- ---- a client exits: its read goes, and every handle is closed
+units_told s n text = option_map_or (λ m. line_cut s m text) n (answered s (replies.Units text))
 
 abbrev pub released_all : Buffers → List Handle → Buffers
-released_all buffers [] = buffers
-released_all buffers (h ∷ hs) = released_all (released h.object buffers) hs
-
-unfoldable pub left : State → ℕ → ℕ → State
-left s p status = record s {
-  handles = filter (λ h. not (is_owned p h)) s.handles;
-  buffers = released_all s.buffers (filter (is_owned p) s.handles);
-  procs = exited s.procs p status;
-  reads = without s.reads p;
-  noted = without_noted s.noted p;
-  rests = without_rests s.rests p;
-}
+released_all buffers hs = fold (λ b h. released h.object b) buffers hs

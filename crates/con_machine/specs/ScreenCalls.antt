@@ -25,27 +25,38 @@ use Rattle.con_machine.specs.State.{State}
 use Rattle.con_machine.specs.Outcome.{Outcome, refused, answered, done, while_open, by_answer, checked, guard, with_object, on_buffer, has_bit}
 
 -- the shown screen of a buffer, without its unfinished text
-abbrev pub page_at : Buffers → ℕ → Page
-page_at b id = (screen_at b id).page
-
--- another page stands there
-abbrev pub page_left : Buffers → ℕ → Page → Buffers
-page_left b id page = screen_left b id (record (screen_at b id) { page = page })
-
 abbrev pub page_of : State → ℕ → Page
-page_of s id = page_at s.buffers id
+page_of s id = (screen_at s.buffers id).page
 
 abbrev pub with_screen : State → ℕ → Screen → State
 with_screen s id screen = record s { buffers = screen_left s.buffers id screen }
 
+-- another page stands there
 abbrev pub with_page : State → ℕ → Page → State
-with_page s id page = record s { buffers = page_left s.buffers id page }
-
--- ---- modes: GetConsoleMode, SetConsoleMode
+with_page s id page = with_screen s id (record (screen_at s.buffers id) { page = page })
 
 abbrev pub mode_in : State → Object → ℕ
 mode_in s object.Input = s.mode
 mode_in s (object.Output id) = number_of (page_of s id.0).mode
+
+-- the input has no bit outside 0x02FF, and no echo without lines; a buffer has four bits
+abbrev pub mode_changed : State → ℕ → Object → Outcome
+mode_changed s n object.Input = by_answer s (checked ((bit_and n 0x2FF == n) && not (has_bit n 4 && not (has_bit n 2)))) (record s { mode = n })
+mode_changed s n (object.Output id) = by_answer s (checked (nat_lt n 0x10)) (with_screen s id.0 (mode_set (screen_at s.buffers id.0) n))
+
+-- a unit of a report as a key that went down
+abbrev pub reported : ℕ → Record
+reported u = kinds.Key (record { down = true; repeat = 1; vk = 0; scan = 0; unit = u; state = 0 })
+
+-- ---- the words of the code and of laws
+
+abbrev pub page_at : Buffers → ℕ → Page
+page_at b id = (screen_at b id).page
+
+abbrev pub page_left : Buffers → ℕ → Page → Buffers
+page_left b id page = screen_left b id (record (screen_at b id) { page = page })
+
+-- ---- modes: GetConsoleMode, SetConsoleMode
 
 abbrev pub told_mode : State → ℕ → ℕ → Outcome
 told_mode s p h = with_object s (guard s p h kind.Any 1) (λ o. answered s (replies.Number (mode_in s o)))
@@ -53,10 +64,6 @@ told_mode s p h = with_object s (guard s p h kind.Any 1) (λ o. answered s (repl
 -- input modes: no bit outside 0x02FF, and no echo without lines
 abbrev pub is_input_mode : ℕ → Bool
 is_input_mode n = (bit_and n 0x2FF == n) && not (has_bit n 4 && not (has_bit n 2))
-
-abbrev pub mode_changed : State → ℕ → Object → Outcome
-mode_changed s n object.Input = by_answer s (checked (is_input_mode n)) (record s { mode = n })
-mode_changed s n (object.Output id) = by_answer s (checked (nat_lt n 0x10)) (with_screen s id.0 (mode_set (screen_at s.buffers id.0) n))
 
 abbrev pub set_mode : State → ℕ → ℕ → ℕ → Outcome
 set_mode s p h n = with_object s (guard s p h kind.Any 2) (mode_changed s n)
@@ -125,10 +132,6 @@ abbrev pub set_title : State → List ℕ → Outcome
 set_title s text = while_open s (if nat_le (length text) 255 then done (record s { title = text }) else refused s code.BadArgument)
 
 -- ---- WriteConsole
-
--- a unit of a report as a key that went down
-abbrev pub reported : ℕ → Record
-reported u = kinds.Key (record { down = true; repeat = 1; vk = 0; scan = 0; unit = u; state = 0 })
 
 abbrev pub told_by : State → Told → State
 told_by s t = record s { records = s.records ++ map reported t.reports; title = unwrap_or t.title s.title; cursor_keys = unwrap_or t.keys s.cursor_keys }

@@ -1,6 +1,7 @@
 -- The console as contracts see it: lists, numbers and texts, and no room.
-use Rattle.std.specs.Prelude.{ℕ, ◌+◌, ◌==◌, ◌&&◌, Bool, false, not, List, [], ◌∷◌, ◌++◌, map, filter, Option, None, Some, if◌then◌else◌}
+use Rattle.std.specs.Prelude.{ℕ, ◌+◌, ◌==◌, ◌&&◌, Bool, false, not, List, [], ◌∷◌, ◌++◌, map, filter, drop, get_or, Option, None, if◌then◌else◌}
 use Rattle.std.specs.List.{find, list_any}
+use Rattle.std.specs.Option.{option_map_or}
 use Rattle.con_units.specs.Units.{changed_where}
 use Rattle.con_units.specs.declared.view.View.{View}
 use Rattle.con_units.specs.declared.view.BufferId.{BufferId}
@@ -52,47 +53,24 @@ pub record State : Type 0 where
 
 -- ---- what is noted of a process's line read
 
-abbrev pub is_noted : ℕ → Noted → Bool
-is_noted p n = n.process == p
-
 abbrev pub noted_of : List Noted → ℕ → Option Noted
-noted_of ns p = find (is_noted p) ns
+noted_of ns p = find (λ n. n.process == p) ns
 
 abbrev pub without_noted : List Noted → ℕ → List Noted
-without_noted ns p = filter (λ n. not (is_noted p n)) ns
+without_noted ns p = filter (λ n. not (n.process == p)) ns
 
 -- ---- rests
 
 abbrev pub is_rest_of : ℕ → ℕ → Rest → Bool
 is_rest_of p h r = (r.process == p) && (r.handle == h)
 
-abbrev pub is_rest_by : ℕ → Rest → Bool
-is_rest_by p r = r.process == p
-
-abbrev pub units_of : Option Rest → List ℕ
-units_of None = []
-units_of (Some r) = r.units
-
 -- what is left for a handle's next line read
 abbrev pub rest_in : List Rest → ℕ → ℕ → List ℕ
-rest_in rs p h = units_of (find (is_rest_of p h) rs)
+rest_in rs p h = option_map_or (λ r. r.units) (find (is_rest_of p h) rs) []
 
 -- a rest that is there becomes another one
 abbrev pub with_rest : List ℕ → List Rest → ℕ → ℕ → List Rest
 with_rest units rs p h = changed_where (is_rest_of p h) (λ r. record r { units = units }) rs
-
-abbrev pub has_rest : List Rest → ℕ → ℕ → Bool
-has_rest rs p h = list_any (is_rest_of p h) rs
-
--- an empty rest, unless there is one
-abbrev pub rest_begun : List Rest → ℕ → ℕ → List Rest
-rest_begun rs p h = if has_rest rs p h then rs else rs ++ (let r : Rest = record { process = p; handle = h; units = [] } in r) ∷ []
-
-abbrev pub without_rest : List Rest → ℕ → ℕ → List Rest
-without_rest rs p h = filter (λ r. not (is_rest_of p h r)) rs
-
-abbrev pub without_rests : List Rest → ℕ → List Rest
-without_rests rs p = filter (λ r. not (is_rest_by p r)) rs
 
 -- a buffer by its number
 abbrev pub id_of : ℕ → BufferId
@@ -100,40 +78,23 @@ id_of n = record { 0 = n }
 
 -- ---- the console at the beginning of a session
 
--- the standard handles: 1 for the input, 2 and 3 for the main buffer, each to read and to write
-abbrev pub first_handles : ℕ → List Handle
-first_handles p = record { process = p; number = 1; object = object.Input; rights = 3 }
-    ∷ record { process = p; number = 2; object = object.Output (id_of 0); rights = 3 }
-    ∷ record { process = p; number = 3; object = object.Output (id_of 0); rights = 3 } ∷ []
-
+-- the standard handles of each client: 1 for the input, 2 and 3 for the main buffer, each to read and to write
 abbrev pub handles_from : ℕ → List Script → List Handle
 handles_from p [] = []
-handles_from p (s ∷ ss) = first_handles p ++ handles_from (p + 1) ss
+handles_from p (s ∷ ss) = record { process = p; number = 1; object = object.Input; rights = 3 }
+    ∷ record { process = p; number = 2; object = object.Output (id_of 0); rights = 3 }
+    ∷ record { process = p; number = 3; object = object.Output (id_of 0); rights = 3 } ∷ handles_from (p + 1) ss
 
--- how many handlers a client's rack has; none where there is no rack
-abbrev pub first_or_none : List ℕ → ℕ
-first_or_none [] = 0
-first_or_none (n ∷ ns) = n
-
-abbrev pub behind_first : List ℕ → List ℕ
-behind_first [] = []
-behind_first (n ∷ ns) = ns
-
-abbrev pub start_of : Script → ℕ → ProcStart
-start_of s rack = record { program = s.program; group = s.group; rack = rack }
-
+-- each client starts, with a rack of so many handlers; none where there is no rack
 abbrev pub starts_of : List Script → List ℕ → List ProcStart
 starts_of [] racks = []
-starts_of (s ∷ ss) racks = start_of s (first_or_none racks) ∷ starts_of ss (behind_first racks)
-
-abbrev pub procs_of : List Script → List ℕ → List Proc
-procs_of scripts racks = map started (starts_of scripts racks)
+starts_of (s ∷ ss) racks = record { program = s.program; group = s.group; rack = get_or racks 0 0 } ∷ starts_of ss (drop 1 racks)
 
 -- a session's clients have started, with racks of so many handlers
 abbrev pub opening : Clients → List ℕ → State
 opening session racks = record {
   handles = handles_from 1 session.scripts;
-  procs = procs_of session.scripts racks;
+  procs = map started (starts_of session.scripts racks);
   reads = [];
   noted = [];
   rests = [];
@@ -152,3 +113,46 @@ opening session racks = record {
   resized = false;
   asked = false;
 }
+
+-- ---- the words of the code and of laws
+
+abbrev pub is_noted : ℕ → Noted → Bool
+is_noted p n = n.process == p
+
+abbrev pub is_rest_by : ℕ → Rest → Bool
+is_rest_by p r = r.process == p
+
+abbrev pub units_of : Option Rest → List ℕ
+units_of r = option_map_or (λ x. x.units) r []
+
+abbrev pub has_rest : List Rest → ℕ → ℕ → Bool
+has_rest rs p h = list_any (is_rest_of p h) rs
+
+-- an empty rest, unless there is one
+abbrev pub rest_begun : List Rest → ℕ → ℕ → List Rest
+rest_begun rs p h = if has_rest rs p h then rs else rs ++ (let r : Rest = record { process = p; handle = h; units = [] } in r) ∷ []
+
+abbrev pub without_rest : List Rest → ℕ → ℕ → List Rest
+without_rest rs p h = filter (λ r. not (is_rest_of p h r)) rs
+
+abbrev pub without_rests : List Rest → ℕ → List Rest
+without_rests rs p = filter (λ r. not (is_rest_by p r)) rs
+
+-- the standard handles of a client
+abbrev pub first_handles : ℕ → List Handle
+first_handles p = record { process = p; number = 1; object = object.Input; rights = 3 }
+    ∷ record { process = p; number = 2; object = object.Output (id_of 0); rights = 3 }
+    ∷ record { process = p; number = 3; object = object.Output (id_of 0); rights = 3 } ∷ []
+
+-- how many handlers a client's rack has
+abbrev pub first_or_none : List ℕ → ℕ
+first_or_none racks = get_or racks 0 0
+
+abbrev pub behind_first : List ℕ → List ℕ
+behind_first racks = drop 1 racks
+
+abbrev pub start_of : Script → ℕ → ProcStart
+start_of s rack = record { program = s.program; group = s.group; rack = rack }
+
+abbrev pub procs_of : List Script → List ℕ → List Proc
+procs_of scripts racks = map started (starts_of scripts racks)

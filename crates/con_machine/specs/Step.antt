@@ -17,16 +17,12 @@ use Rattle.con_machine.specs.Call.{called}
 use Rattle.con_machine.specs.Serving.{settled_state}
 use Rattle.con_machine.specs.Closing.{hung_up, closing}
 use Rattle.con_machine.specs.Reads.{began, collected, took_ctrl, left}
-use Rattle.con_machine.specs.Terminal.{fed, quiet, resized, asked, drained}
+use Rattle.con_machine.specs.Terminal.{fed, quiet, resized}
 use Rattle.con_machine.specs.Painting.{view_now, is_paint_due, painted}
-
-abbrev pub is_painters : Event → Bool
-is_painters e = is_paint e
 
 abbrev pub client_of : Actor → ℕ
 client_of (actors.Client p) = p
-client_of actors.Terminal = 0
-client_of actors.Painter = 0
+client_of _ = 0
 
 -- ---- the step
 
@@ -39,9 +35,9 @@ effect s p (events.Exit status) = done (left s p status)
 effect s p (events.Feed bytes) = done (fed s bytes)
 effect s p events.Quiet = done (quiet s)
 effect s p (events.Resize size) = done (resized s size)
-effect s p events.Ask = done (asked s)
+effect s p events.Ask = done (record s { asked = true })
 effect s p events.Hangup = done (hung_up s)
-effect s p events.Drained = done (drained s)
+effect s p events.Drained = done (record s { drained = true })
 effect s p events.Paint = answered (painted s) (replies.View (view_now s) [] false)
 
 -- an event of a client that is not attached
@@ -57,23 +53,23 @@ step s actor e = if is_outside s actor e then refused s code.BadHandle else fini
 
 -- ---- ready
 
--- nothing is asked for that was not painted yet
-abbrev pub is_served : State → Bool
-is_served s = not s.asked
-
+-- what comes from the terminal's side waits until what was asked for is painted, but that it went away
 unfoldable pub is_due : State → ℕ → Event → Bool
-is_due s p (events.Call call) = true
-is_due s p (events.Begin w) = true
 is_due s p events.Collect = has_done s.reads p
 is_due s p events.TakeCtrl = is_some (first_pending s.procs p)
-is_due s p (events.Exit status) = true
-is_due s p (events.Feed bytes) = is_served s
-is_due s p events.Quiet = is_served s
-is_due s p (events.Resize size) = is_size size && is_served s
-is_due s p events.Ask = is_served s
+is_due s p (events.Resize size) = is_size size && not s.asked
 is_due s p events.Hangup = true
-is_due s p events.Drained = is_served s
 is_due s p events.Paint = is_paint_due s
+is_due s p e = is_clients e || not s.asked
 
 unfoldable pub is_ready : State → Actor → Event → Bool
 is_ready s actor e = is_actors actor e && (is_outside s actor e || is_due s (client_of actor) e)
+
+-- ---- the words of the code and of laws
+
+abbrev pub is_painters : Event → Bool
+is_painters e = is_paint e
+
+-- nothing is asked for that was not painted yet
+abbrev pub is_served : State → Bool
+is_served s = not s.asked

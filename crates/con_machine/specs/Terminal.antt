@@ -1,5 +1,6 @@
 -- What comes from the terminal's side.
-use Rattle.std.specs.Prelude.{ℕ, pos, ◌+◌, ◌-◌, ◌==◌, ◌&&◌, Bool, true, false, List, [], ◌∷◌, ◌++◌, map, fold, min, Option, None, Some, if◌then◌else◌}
+use Rattle.std.specs.Prelude.{ℕ, pos, ◌+◌, ◌-◌, ◌==◌, ◌&&◌, Bool, true, false, List, [], ◌∷◌, ◌++◌, map, fold, min, Option, if◌then◌else◌}
+use Rattle.std.specs.Option.{option_map_or}
 use Rattle.con_units.specs.Natural.{natural}
 use Rattle.con_units.specs.Split.{split_after}
 use Rattle.con_units.specs.declared.place.Size.{Size}
@@ -27,14 +28,11 @@ use Rattle.con_machine.specs.Serving.{settled_state}
 abbrev pub is_break : State → Key → Bool
 is_break s k = has_bit s.mode 1 && (k.vk == 0x43) && (k.unit == 3) && has_bit k.state 8
 
-abbrev pub released_key : Key → Key
-released_key k = record k { down = false }
-
 -- a key as records: it goes down and up, or it is a record for each unit of its sequence
 abbrev pub records_of : State → Key → List Record
 records_of s k =
     if has_bit s.mode 0x200 then map reported (key_units k s.cursor_keys)
-    else kinds.Key k ∷ kinds.Key (released_key k) ∷ []
+    else kinds.Key k ∷ kinds.Key (record k { down = false }) ∷ []
 
 -- Ctrl+C is no record: what stands before it is served first, and then it is signalled to all.
 abbrev pub key_taken : State → Key → State
@@ -42,35 +40,17 @@ key_taken s k =
     if is_break s k then signalled_to (settled_state s) 0 0
     else record s { records = s.records ++ records_of s k }
 
--- ---- the mouse
-
--- a mouse record's place, taken into the window, and counted from the buffer's corner
-abbrev pub placed : Page → Mouse → Mouse
-placed p m = record m { x = pos (min (natural m.x) (p.w - 1) + p.left); y = pos (min (natural m.y) (p.h - 1) + p.top) }
-
+-- a mouse record's place is taken into the window, and counted from the buffer's corner
 abbrev pub mouse_records : Page → Option Mouse → List Record
-mouse_records p None = []
-mouse_records p (Some m) = kinds.Mouse (placed p m) ∷ []
+mouse_records p mouse = option_map_or (λ m. kinds.Mouse (
+    record m { x = pos (min (natural m.x) (p.w - 1) + p.left); y = pos (min (natural m.y) (p.h - 1) + p.top) }) ∷ []) mouse []
 
-abbrev pub report_taken : State → Report → State
-report_taken s r = record s {
-  buttons = held_after s.buttons r;
-  records = s.records ++ mouse_records (page_of s s.buffers.active) (record_of s.buttons r);
-}
-
-abbrev pub by_report : State → Option Report → State
-by_report s None = s
-by_report s (Some r) = report_taken s r
-
--- a control sequence that is no key: it may be a report of the mouse, where these are asked for
-abbrev pub sequence_taken : State → List ℕ → State
-sequence_taken s bytes = if has_bit s.mode 0x10 then by_report s (report_of bytes) else s
-
--- ---- bytes
-
+-- a key; or a control sequence that is no key, which may be a report of the mouse, where these are asked for
 abbrev pub piece_taken : State → Piece → State
 piece_taken s (Typed k) = key_taken s k
-piece_taken s (Ended bytes) = sequence_taken s bytes
+piece_taken s (Ended bytes) = if has_bit s.mode 0x10 then option_map_or
+    (λ r. record s { buttons = held_after s.buttons r; records = s.records ++ mouse_records (page_of s s.buffers.active) (record_of s.buttons r) })
+    (report_of bytes) s else s
 
 -- the pieces of the bytes, after those that were held, are taken in order
 unfoldable pub fed : State → List ℕ → State
@@ -80,17 +60,37 @@ fed s bytes = let parts = split_after piece_grammar s.held bytes in fold piece_t
 unfoldable pub quiet : State → State
 quiet s = fold key_taken (record s { held = [] }) (quieted s.held)
 
--- ---- sizes and requests
-
 -- the size of the active buffer, as a record, where such records are asked for
 abbrev pub size_record : State → Record
 size_record s = let grid = (page_of s s.buffers.active).grid in kinds.Size (record { w = grid.width; h = grid.height })
 
+unfoldable pub resized : State → Size → State
+resized s size = let t : State = record s { buffers = all_resized s.buffers size; resized = true } in
+    if has_bit s.mode 8 then record t { records = s.records ++ size_record t ∷ [] } else t
+
+-- ---- the words of the code and of laws
+
+abbrev pub released_key : Key → Key
+released_key k = record k { down = false }
+
+-- a mouse record's place, taken into the window, and counted from the buffer's corner
+abbrev pub placed : Page → Mouse → Mouse
+placed p m = record m { x = pos (min (natural m.x) (p.w - 1) + p.left); y = pos (min (natural m.y) (p.h - 1) + p.top) }
+
+abbrev pub report_taken : State → Report → State
+report_taken s r = record s {
+  buttons = held_after s.buttons r;
+  records = s.records ++ mouse_records (page_of s s.buffers.active) (record_of s.buttons r);
+}
+
+abbrev pub by_report : State → Option Report → State
+by_report s r = option_map_or (report_taken s) r s
+
+abbrev pub sequence_taken : State → List ℕ → State
+sequence_taken s bytes = if has_bit s.mode 0x10 then by_report s (report_of bytes) else s
+
 abbrev pub size_told : State → State
 size_told s = if has_bit s.mode 8 then record s { records = s.records ++ size_record s ∷ [] } else s
-
-unfoldable pub resized : State → Size → State
-resized s size = size_told (record s { buffers = all_resized s.buffers size; resized = true })
 
 abbrev pub asked : State → State
 asked s = record s { asked = true }

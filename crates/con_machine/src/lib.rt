@@ -1,10 +1,11 @@
 //! The whole console as one machine: an event of an actor is one step, a new console and one reply.
 //!
 //! The definitions stand in `specs/`. `State` is the console as contracts see it: lists, numbers and texts, and
-//! no room. Each call of a client is a function on it in the file of its group (`HandleCalls`, `ScreenCalls`, `CellCalls`,
-//! `InputCalls`, `LineCalls`, `ProcessCalls`), with its refusals in one order: 109, 6, 5, 87, 31, 1816. `Reads` has a
-//! client's waits, `Serving` what open reads do with the records that are there and what shows of it, `Terminal` what
-//! comes from the terminal's side, `Closing` and `Signals` how reads end early, and `Painting` what is painted and when.
+//! no room. `Call` is one table of what each call of a client does, with its refusals in one order: 109, 6, 5, 87, 31, 1816;
+//! what several rows say stands in `Outcome` and in the file of their group (`HandleCalls`, `ScreenCalls`, `CellCalls`,
+//! `ProcessCalls`). Each row has a name there, `InputCalls` or `LineCalls`, for the contract of the method that does it.
+//! `Reads` has a client's waits, `Serving` what open reads do with the records that are there and what shows of it, `Terminal`
+//! what comes from the terminal's side, `Closing` and `Signals` how reads end early, and `Painting` what is painted and when.
 //! `Step` joins them: `step`, and `is_ready`, which says when an event may be entered; `History` runs a list of entries.
 //!
 //! In `src/`, `calls` has a client's calls, a file for each group, and what they do to buffers; `reads` a read from its beginning until it is
