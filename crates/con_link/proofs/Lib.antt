@@ -1,5 +1,6 @@
 pub mod Parts
 pub mod Pieces
+pub mod Said
 pub mod OneFrame
 pub mod NoFrame
 pub mod OneAnswer

@@ -7,8 +7,8 @@ use Rattle.con_units.specs.declared.view.Frame.TheVariants.{Bytes, Quiet, Resize
 use Rattle.con_units.specs.declared.view.FrameFault.TheVariants as kinds
 use Rattle.con_link.specs.declared.fault.LinkFault.{LinkFault}
 use Rattle.con_link.specs.declared.fault.LinkFault.TheVariants as faults
-use Rattle.con_link.specs.Frames.{Answers, is_part, is_less, is_tag, is_bad_tag}
-use Rattle.con_link.specs.Mirrored.{MirrorAnswers, is_bad_mirror_tag, is_mirror_less, is_mirror_part, is_part_of_attach}
+use Rattle.con_link.specs.Walked.{Takes, is_part, is_less, is_tag, is_bad_tag}
+use Rattle.con_link.specs.Walked.{MirrorTakes, is_bad_mirror_tag, is_mirror_less, is_mirror_part, is_part_of_attach}
 use Rattle.con_link.specs.Attached.{plain_read, attach_read}
 
 tags : (x y : ℕ) (r s : List ℕ) → x ∷ r ≡ y ∷ s → x ≡ y
@@ -32,7 +32,7 @@ no_tag (x ∷ xs) e = absurd (cc)
 
 -- behind the first byte of an attaching frame a size is read as behind that of a new size
 pub retagged : (r : Result Frame LinkFault) (place : ℕ) (text : List ℕ) (left : Option (List ℕ))
-    → Answers r place (82 ∷ text) left → MirrorAnswers (attach_read r) place (65 ∷ text) left
+    → Takes r place (82 ∷ text) left → MirrorTakes (attach_read r) place (65 ∷ text) left
 retagged (Ok (Resize size)) place text left a = (ap as_attach a.0, a.1, tt, a.3)
 retagged (Ok (Bytes bytes)) place text left a = absurd (omega (arith, tags _ _ _ _ a.0))
 retagged (Ok Quiet) place text left a = absurd (omega (arith, tags _ _ _ _ a.0))
@@ -76,7 +76,7 @@ bad_still tag [] a d e = rw (other tag 65 a, other tag 68 d) (by_tag (is_tag tag
 bad_still tag (x ∷ xs) a d e = absurd (cc)
 
 pub read_still : (r : Result Frame LinkFault) (place tag : ℕ) (text : List ℕ) (left : Option (List ℕ)) → (tag ≡ 65 → ⊥) → (tag ≡ 68 → ⊥)
-    → Answers r place (tag ∷ text) left → MirrorAnswers (plain_read r) place (tag ∷ text) left
+    → Takes r place (tag ∷ text) left → MirrorTakes (plain_read r) place (tag ∷ text) left
 read_still (Ok frame) place tag text left n m a = a
 read_still (Err (faults.Bad at kinds.Tag)) place tag text left n m (e, s, l) = (e, bad_still tag text n m s, l)
 read_still (Err (faults.Bad at kinds.Length)) place tag text left n m a = a

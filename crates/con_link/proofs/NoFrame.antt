@@ -4,9 +4,12 @@ use Rattle.std.specs.Prelude.{IfSome, nat_lt, ◌&&◌, not}
 use Rattle.std.proofs.lemmas.Bool.Decides.{nat_tests}
 use Rattle.con_units.specs.declared.view.Frame.{Frame}
 use Rattle.con_units.specs.declared.view.Frame.TheVariants.{Bytes, Quiet, Resize, Ask, Hangup, End}
+use Rattle.con_units.specs.declared.view.FrameFault.{FrameFault}
 use Rattle.con_units.specs.declared.view.FrameFault.TheVariants as kinds
-use Rattle.con_link.specs.Frames.{spelling, is_frame, two, is_bad_tag, is_tag, is_part, is_length, is_size}
+use Rattle.con_link.specs.Frames.{spelling, is_frame, two, is_length, is_size}
+use Rattle.con_link.specs.Walked.{is_bad_tag, is_tag, is_part, Fails}
 use Rattle.con_link.specs.Only.{NoFrame}
+use Rattle.con_link.proofs.Said.{fault_back}
 
 again : (n : ℕ) → two (n / 256) (n % 256) ≡ n
 again n = omega arith
@@ -83,14 +86,18 @@ none_after (x ∷ xs) = ap (λ l. x ∷ l) (none_after xs)
 rest_none : (left : Option (List ℕ)) (rest : List ℕ) → IfSome left (λ r. r ≡ []) → left ≡ Some rest → rest ≡ []
 rest_none left rest p e = let P : Option (List ℕ) → Type 0 = λ o. IfSome o (λ r. r ≡ []) in subst P e p
 
-pub no_frame : NoFrame
-no_frame kinds.Tag text rest left shows is f s fine p e = clash (is_tag (first (text ++ rest))) (bad_tag text rest shows) (ap (λ xs. is_tag (first xs)) e ∙ tagged f s p)
-no_frame kinds.Length text rest left shows is f s fine p e =
+by_fault : (kind : FrameFault) (text rest : List ℕ) (left : Option (List ℕ)) → Fails kind text left → left ≡ Some rest
+    → (f : Frame) (s : List ℕ) → is_frame f ≡ true → (f ≡ End → ⊥) → text ++ rest ≡ spelling f ++ s → ⊥
+by_fault kinds.Tag text rest left shows is f s fine p e = clash (is_tag (first (text ++ rest))) (bad_tag text rest shows) (ap (λ xs. is_tag (first xs)) e ∙ tagged f s p)
+by_fault kinds.Length text rest left shows is f s fine p e =
     let at : text ++ rest ≡ 66 ∷ shows.0 ∷ shows.1 ∷ rest = ap (λ t. t ++ rest) shows.2 in
     clash (is_length (two shows.0 shows.1)) shows.3 (ap (λ xs. is_length (number_at 1 xs)) (sym at) ∙ length_told f s (text ++ rest) fine p e (ap first at))
-no_frame kinds.Size text rest left shows is f s fine p e =
+by_fault kinds.Size text rest left shows is f s fine p e =
     let at : text ++ rest ≡ 82 ∷ shows.0 ∷ shows.1 ∷ shows.2 ∷ shows.3 ∷ rest = ap (λ t. t ++ rest) shows.4 in
     clash (is_size (two shows.0 shows.1) (two shows.2 shows.3)) shows.5 (ap (λ xs. is_size (number_at 1 xs) (number_at 3 xs)) (sym at) ∙ size_told f s (text ++ rest) fine p e (ap first at))
-no_frame kinds.Cut text rest left shows is f s fine p e =
+by_fault kinds.Cut text rest left shows is f s fine p e =
     let none : rest ≡ [] = rest_none left rest shows.1 is in
     cut f s text p shows.0 (sym (none_after text) ∙ (ap (λ r. text ++ r) (sym none) ∙ e))
+
+pub no_frame : NoFrame
+no_frame kind text rest left shows is f s fine p e = by_fault kind text rest left (fault_back kind text left shows) is f s fine p e

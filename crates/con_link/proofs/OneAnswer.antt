@@ -8,8 +8,11 @@ use Rattle.con_units.specs.declared.view.FrameFault.{FrameFault}
 use Rattle.con_units.specs.declared.view.FrameFault.TheVariants as kinds
 use Rattle.con_link.specs.declared.fault.LinkFault.{LinkFault}
 use Rattle.con_link.specs.declared.fault.LinkFault.TheVariants as faults
-use Rattle.con_link.specs.Frames.{spelling, is_frame, two, Answers, IsEnd, IsLessButLast, is_less, is_bad_tag, is_part, is_part_of_bytes, is_length, is_size}
+use Rattle.con_link.specs.Frames.{spelling, is_frame, two, IsEnd, is_length, is_size}
+use Rattle.con_link.specs.LinkReading.{is_part_of_bytes}
+use Rattle.con_link.specs.Walked.{Takes, IsLessButLast, is_less, is_bad_tag, is_part}
 use Rattle.con_link.specs.Only.{is_told, OneAnswer}
+use Rattle.con_link.proofs.Said.{back}
 
 again : (n : ℕ) → two (n / 256) (n % 256) ≡ n
 again n = omega arith
@@ -216,12 +219,12 @@ append_none : (xs : List ℕ) → xs ++ [] ≡ xs
 append_none [] = refl
 append_none (x ∷ xs) = ap (λ l. x ∷ l) (append_none xs)
 
-ok_found : (f : Frame) (place : ℕ) (text l : List ℕ) → Answers (Ok f) place text (Some l) → IsFound (Ok f) place (length text) (text ++ l)
+ok_found : (f : Frame) (place : ℕ) (text l : List ℕ) → Takes (Ok f) place text (Some l) → IsFound (Ok f) place (length text) (text ++ l)
 ok_found f place text l a =
     let few : place + length (spelling f) ≤ 16777216 = omega (arith, a.3, ap length a.0) in
     rw a.0 (found_by (Ok f) place (length (spelling f)) (spelling f ++ l) few (frame_need f l a.1 a.2) (frame_answer f place l a.1 a.2))
 
-bad_found : (kind : FrameFault) (at place : ℕ) (text l : List ℕ) → Answers (Err (faults.Bad at kind)) place text (Some l) → IsFound (Err (faults.Bad at kind)) place (length text) (text ++ l)
+bad_found : (kind : FrameFault) (at place : ℕ) (text l : List ℕ) → Takes (Err (faults.Bad at kind)) place text (Some l) → IsFound (Err (faults.Bad at kind)) place (length text) (text ++ l)
 bad_found kinds.Tag at place text l a = rw a.0 (tag_found place text l a.1 a.2)
 bad_found kinds.Length at place text l a = let s = a.1 in let few = a.2 in
     let few' : place + 3 ≤ 16777216 = omega (arith, few, ap length s.2) in
@@ -232,7 +235,7 @@ bad_found kinds.Size at place text l a = let s = a.1 in let few = a.2 in
 bad_found kinds.Cut at place text l a = let none : l ≡ [] = a.1.1 in
     rw (a.0, none, append_none text) (cut_found place text a.1.0 a.2)
 
-told_found : (a : Result Frame LinkFault) (place : ℕ) (text l : List ℕ) → is_told a ≡ true → Answers a place text (Some l) → IsFound a place (length text) (text ++ l)
+told_found : (a : Result Frame LinkFault) (place : ℕ) (text l : List ℕ) → is_told a ≡ true → Takes a place text (Some l) → IsFound a place (length text) (text ++ l)
 told_found (Ok f) place text l t a = ok_found f place text l a
 told_found (Err (faults.Bad at kind)) place text l t a = bad_found kind at place text l a
 told_found (Err faults.TooLong) place text l t a = long_found place text l a.0 a.1
@@ -241,8 +244,8 @@ told_found (Err faults.OutOfMemory) place text l t a = cc
 
 pub one_answer : OneAnswer
 one_answer a b place x y l m t u p q e =
-    let first = told_found a place x l t p in
-    let second = told_found b place y m u q in
+    let first = told_found a place x l t (back a place x (Some l) p) in
+    let second = told_found b place y m u (back b place y (Some m) q) in
     let same : a ≡ b = first.is ∙ (ap (found place) e ∙ sym second.is) in
     let size : length x ≡ length y = first.takes ∙ (ap (taken place) e ∙ sym second.takes) in
     (same, sym (take_at x l (length x) refl) ∙ (ap (take (length x)) e ∙ take_at y m (length x) (sym size)))

@@ -11,10 +11,13 @@ use Rattle.con_link.specs.declared.fault.LinkFault.{LinkFault}
 use Rattle.con_link.specs.declared.fault.LinkFault.TheVariants as faults
 use Rattle.con_link.specs.declared.mirror.MirrorFrame.{MirrorFrame}
 use Rattle.con_link.specs.declared.mirror.MirrorFrame.TheVariants.{Plain, Attach, Detach}
-use Rattle.con_link.specs.Frames.{spelling, is_frame, is_part, is_less, is_tag, is_bad_tag, Answers}
-use Rattle.con_link.specs.Mirrored.{mirror_spelling, is_mirror_frame, is_mirror_less, is_mirror_part, is_bad_mirror_tag, MirrorAnswers}
+use Rattle.con_link.specs.Frames.{spelling, is_frame}
+use Rattle.con_link.specs.Walked.{is_part, is_less, is_tag, is_bad_tag, Takes}
+use Rattle.con_link.specs.Mirrored.{mirror_spelling, is_mirror_frame}
+use Rattle.con_link.specs.Walked.{is_mirror_less, is_mirror_part, is_bad_mirror_tag, MirrorTakes}
 use Rattle.con_link.specs.MirrorOnly.{OneMirrorFrame, OneMirrorAnswer, is_mirror_told}
 use Rattle.con_link.specs.Only.{is_told}
+use Rattle.con_link.proofs.Said.{said, mirror_back}
 use Rattle.con_link.proofs.OneFrame.{one_frame}
 use Rattle.con_link.proofs.OneAnswer.{one_answer}
 
@@ -167,7 +170,7 @@ length_as [] = refl
 length_as (t ∷ more) = refl
 
 -- an answer, read as ever
-answers_as : (a : Result MirrorFrame LinkFault) (place : ℕ) (x l : List ℕ) → MirrorAnswers a place x (Some l) → Answers (answer_as a) place (as_ever x) (Some l)
+answers_as : (a : Result MirrorFrame LinkFault) (place : ℕ) (x l : List ℕ) → MirrorTakes a place x (Some l) → Takes (answer_as a) place (as_ever x) (Some l)
 answers_as (Ok (Plain frame)) place x l (e, f, g, n) = (ap as_ever e ∙ spelled_as (Plain frame), f, g, omega (arith, n, length_as x))
 answers_as (Ok (Attach z)) place x l (e, f, g, n) = (ap as_ever e ∙ spelled_as (Attach z), f, tt, omega (arith, n, length_as x))
 answers_as (Ok Detach) place x l (e, f, g, n) = (ap as_ever e ∙ spelled_as Detach, f, tt, omega (arith, n, length_as x))
@@ -192,7 +195,7 @@ told_as (Err (faults.Bad at kind)) = refl
 told_as (Err faults.OutOfMemory) = refl
 
 -- where nothing was taken, nothing is left
-none_left : (a : Result MirrorFrame LinkFault) (place : ℕ) (l : List ℕ) → is_mirror_told a ≡ true → MirrorAnswers a place [] (Some l) → l ≡ []
+none_left : (a : Result MirrorFrame LinkFault) (place : ℕ) (l : List ℕ) → is_mirror_told a ≡ true → MirrorTakes a place [] (Some l) → l ≡ []
 none_left (Ok (Plain End)) place l t (e, f, g, n) = g
 none_left (Ok (Plain (Bytes bytes))) place l t (e, f, g, n) = absurd (omega (arith, ap length e))
 none_left (Ok (Plain Quiet)) place l t (e, f, g, n) = absurd (omega (arith, ap length e))
@@ -215,7 +218,7 @@ append_none [] = refl
 append_none (x ∷ xs) = ap (λ (ys : List ℕ). x ∷ ys) (append_none xs)
 
 -- what is left may be read as ever as well, where nothing was taken
-ever_more : (a : Result MirrorFrame LinkFault) (place : ℕ) (x l : List ℕ) → is_mirror_told a ≡ true → MirrorAnswers a place x (Some l)
+ever_more : (a : Result MirrorFrame LinkFault) (place : ℕ) (x l : List ℕ) → is_mirror_told a ≡ true → MirrorTakes a place x (Some l)
     → as_ever (x ++ l) ≡ as_ever x ++ l
 ever_more a place [] l t k = let e = none_left a place l t k in ap as_ever e ∙ sym e
 ever_more a place (x ∷ xs) l t k = refl
@@ -230,7 +233,7 @@ fault_in (Err z) = z
 
 -- answers that are the same as ever, over bytes that begin alike
 same_answer : (a b : Result MirrorFrame LinkFault) (place : ℕ) (x y l m : List ℕ)
-    → MirrorAnswers a place x (Some l) → MirrorAnswers b place y (Some m) → answer_as a ≡ answer_as b → first x ≡ first y → a ≡ b
+    → MirrorTakes a place x (Some l) → MirrorTakes b place y (Some m) → answer_as a ≡ answer_as b → first x ≡ first y → a ≡ b
 same_answer (Ok f) (Ok g) place x y l m p q e t =
     ap (λ (z : MirrorFrame). let r : Result MirrorFrame LinkFault = Ok z in r) (same_frame f g (ap frame_in e) (ap first (sym p.0) ∙ (t ∙ ap first q.0)))
 same_answer (Ok f) (Err g) place x y l m p q e t = absurd (cc)
@@ -246,16 +249,20 @@ same_bytes (a ∷ as') (b ∷ bs) e t = ap (λ (z : ℕ). z ∷ as') t ∙ ap (�
 
 -- they begin alike
 starts : (a b : Result MirrorFrame LinkFault) (place : ℕ) (x y l m : List ℕ) → is_mirror_told a ≡ true → is_mirror_told b ≡ true
-    → MirrorAnswers a place x (Some l) → MirrorAnswers b place y (Some m) → x ++ l ≡ y ++ m → first x ≡ first y
+    → MirrorTakes a place x (Some l) → MirrorTakes b place y (Some m) → x ++ l ≡ y ++ m → first x ≡ first y
 starts a b place [] [] l m s t p q e = refl
 starts a b place [] (y ∷ ys) l m s t p q e = absurd (let n = none_left a place l s p in omega (arith, ap length e, ap length n))
 starts a b place (x ∷ xs) [] l m s t p q e = absurd (let n = none_left b place m t q in omega (arith, ap length e, ap length n))
 starts a b place (x ∷ xs) (y ∷ ys) l m s t p q e = ap first e
 
-pub one_mirror_answer : OneMirrorAnswer
-one_mirror_answer a b place x y l m s t p q e =
+by_takes : (a b : Result MirrorFrame LinkFault) (place : ℕ) (x y l m : List ℕ) → is_mirror_told a ≡ true → is_mirror_told b ≡ true
+    → MirrorTakes a place x (Some l) → MirrorTakes b place y (Some m) → x ++ l ≡ y ++ m → (a ≡ b) × (x ≡ y)
+by_takes a b place x y l m s t p q e =
     let ever : as_ever x ++ l ≡ as_ever y ++ m = sym (ever_more a place x l s p) ∙ (ap as_ever e ∙ ever_more b place y m t q) in
     let both = one_answer (answer_as a) (answer_as b) place (as_ever x) (as_ever y) l m (sym (told_as a) ∙ s) (sym (told_as b) ∙ t)
-    (answers_as a place x l p) (answers_as b place y m q) ever in
+    (said _ place _ _ (answers_as a place x l p)) (said _ place _ _ (answers_as b place y m q)) ever in
     let begin = starts a b place x y l m s t p q e in
     (same_answer a b place x y l m p q both.0 begin, same_bytes x y both.1 begin)
+
+pub one_mirror_answer : OneMirrorAnswer
+one_mirror_answer a b place x y l m s t p q e = by_takes a b place x y l m s t (mirror_back a place x (Some l) p) (mirror_back b place y (Some m) q) e

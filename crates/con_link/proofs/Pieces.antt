@@ -9,7 +9,8 @@ use Rattle.con_link.specs.declared.fault.LinkFault.{LinkFault}
 use Rattle.con_link.specs.declared.fault.LinkFault.TheVariants as faults
 use Rattle.con_link.specs.declared.fill.Filled.{Filled}
 use Rattle.con_link.specs.declared.fill.Filled.TheVariants.{Full, Cut, TooLong, Failed}
-use Rattle.con_link.specs.Frames.{Answers, Fills, HasLast, fault_as, two, is_length, is_less, is_part}
+use Rattle.con_link.specs.Frames.{two, is_length}
+use Rattle.con_link.specs.Walked.{Takes, Fills, HasLast, fault_as, is_less, is_part}
 
 one : (xs : List ℕ) → length xs ≡ 1 → xs ≡ get_or xs 0 0 ∷ []
 one [] e = absurd (omega arith)
@@ -63,7 +64,7 @@ bytes_are front bytes a b n is p count long =
 pub gap_after : (tag : ℕ) (head : List ℕ) (gap : Filled) (text buf : List ℕ) (place taken : ℕ) (left : Option (List ℕ)) → (gap ≡ Full → ⊥)
     → Fills gap text buf left taken → taken ≡ place + 1 + length head + length text
     → ((front : List ℕ) → length front < length buf → is_part (tag ∷ (head ++ front)) ≡ true)
-    → Answers (Err (fault_as gap place)) place (tag ∷ (head ++ text)) left
+    → Takes (Err (fault_as gap place)) place (tag ∷ (head ++ text)) left
 gap_after tag head Full text buf place taken left not_full fills total parts = absurd (not_full refl)
 gap_after tag head Cut text buf place taken left not_full fills total parts =
     (refl, (parts text fills.0, fills.2), omega (arith, fills.1, length-append head text))

@@ -5,7 +5,8 @@ use Rattle.con_units.specs.declared.view.FrameFault.{FrameFault}
 use Rattle.con_units.specs.declared.view.Frame.TheVariants.{End}
 use Rattle.con_link.specs.declared.fault.LinkFault.{LinkFault}
 use Rattle.con_link.specs.declared.fault.LinkFault.TheVariants as faults
-use Rattle.con_link.specs.Frames.{spelling, is_frame, Shows, Answers}
+use Rattle.con_link.specs.Frames.{spelling, is_frame}
+use Rattle.con_link.specs.Plainly.{Shows, Answers}
 
 abbrev pub OneFrame : Type 0
 OneFrame = (f g : Frame) (r s : List ℕ) → IsTrue (is_frame f) → IsTrue (is_frame g) → (f ≡ End → ⊥) → (g ≡ End → ⊥)

@@ -3,7 +3,8 @@
 ghost use Rattle.std.specs.Prelude.{◌≡◌, ℕ, ◌≤◌, true, List, [], ◌++◌, length, OnOk, OnErr, IfErr, flat_map, Err};
 ghost use Rattle.std.specs.List.{list_all};
 ghost use Rattle.con_outside.specs.Outside.{Rose, then_left};
-ghost use Rattle.con_link.specs.Frames.{spelling, is_frame, goes_on, ends_link, Answers, IsLink};
+ghost use Rattle.con_link.specs.Frames.{spelling, is_frame, goes_on, ends_link};
+ghost use Rattle.con_link.specs.Plainly.{Answers, IsLink};
 
 use crate::fault::LinkFault;
 use crate::reader::LinkReader;

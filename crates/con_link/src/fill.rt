@@ -2,7 +2,7 @@
 
 ghost use Rattle.std.specs.Prelude.{◌≡◌, ℕ, ◌+◌, ◌<◌, ◌≤◌, List, [], ◌++◌, length, take, Option, Some, None, IfSome};
 ghost use Rattle.con_outside.specs.Outside.{Rose, then_left};
-ghost use Rattle.con_link.specs.Frames.{Fills, fault_as};
+ghost use Rattle.con_link.specs.Walked.{Fills, fault_as};
 
 use crate::fault::LinkFault;
 use con_outside::Source;

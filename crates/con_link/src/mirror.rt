@@ -2,7 +2,8 @@
 
 ghost use Rattle.std.specs.Prelude.{◌≡◌, ℕ, ◌+◌, ◌≤◌, List, [], ◌∷◌, length, Option, Ok, Err};
 ghost use Rattle.con_outside.specs.Outside.{Rose, then_left};
-ghost use Rattle.con_link.specs.Mirrored.{MirrorAnswers};
+ghost use Rattle.con_link.specs.LinkReading.{mirrored, AnswersBy};
+ghost use Rattle.con_link.specs.Walked.{MirrorTakes};
 ghost use Rattle.con_link.specs.Attached.{plain_read, attach_read};
 
 use crate::fault::LinkFault;
@@ -55,7 +56,7 @@ fn mirror_frame<I: Source>(
     requires few { taken.old ≤ MOST }
     requires at { taken.old ≡ place + 1 }
     ensures took { (text : List ℕ) × (I.left link.old ≡ then_left text (I.left link.new))
-        × (taken.new ≡ taken.old + length text) × MirrorAnswers result place (tag ∷ text) (I.left link.new) }
+        × (taken.new ≡ taken.old + length text) × MirrorTakes result place (tag ∷ text) (I.left link.new) }
     ensures failed { result ≡ Err LinkFault.Failed → Rose (I.faults link.old) (I.faults link.new) }
     ensures never_falls { I.faults link.old ≤ I.faults link.new }
 {
@@ -71,7 +72,7 @@ impl LinkReader {
     pub fn next_mirrored<I: Source>(&mut self, link: &mut I) -> Result<MirrorFrame, LinkFault>
         requires { self.old ≤ MOST }
         ensures took { (text : List ℕ) × (I.left link.old ≡ then_left text (I.left link.new))
-            × (self.new ≡ self.old + length text) × MirrorAnswers result self.old text (I.left link.new) }
+            × (self.new ≡ self.old + length text) × AnswersBy mirrored result self.old text (I.left link.new) }
         ensures failed { result ≡ Err LinkFault.Failed → Rose (I.faults link.old) (I.faults link.new) }
         ensures never_falls { I.faults link.old ≤ I.faults link.new }
     {

@@ -2,7 +2,9 @@
 
 ghost use Rattle.std.specs.Prelude.{◌≡◌, ℕ, ◌+◌, ◌<◌, ◌≤◌, List, [], ◌∷◌, ◌++◌, length, take, Option, Some, None, IfSome};
 ghost use Rattle.con_outside.specs.Outside.{Rose, then_left};
-ghost use Rattle.con_link.specs.Frames.{Answers, two};
+ghost use Rattle.con_link.specs.Frames.{two};
+ghost use Rattle.con_link.specs.Plainly.{Answers};
+ghost use Rattle.con_link.specs.Walked.{Takes};
 
 use crate::fault::LinkFault;
 use crate::fill::{Filled, MOST, fault_of, fill};
@@ -69,7 +71,7 @@ pub(crate) fn plain_frame<I: Source>(
     requires few { taken.old ≤ MOST }
     requires at { taken.old ≡ place + 1 }
     ensures took { (text : List ℕ) × (I.left link.old ≡ then_left text (I.left link.new))
-        × (taken.new ≡ taken.old + length text) × Answers result place (tag ∷ text) (I.left link.new) }
+        × (taken.new ≡ taken.old + length text) × Takes result place (tag ∷ text) (I.left link.new) }
     ensures failed { result ≡ Err LinkFault.Failed → Rose (I.faults link.old) (I.faults link.new) }
     ensures never_falls { I.faults link.old ≤ I.faults link.new }
 {
@@ -103,7 +105,7 @@ fn bytes_frame<I: Source>(
     requires few { taken.old ≤ MOST }
     requires at { taken.old ≡ place + 1 }
     ensures took { (text : List ℕ) × (I.left link.old ≡ then_left text (I.left link.new))
-        × (taken.new ≡ taken.old + length text) × Answers result place (66 ∷ text) (I.left link.new) }
+        × (taken.new ≡ taken.old + length text) × Takes result place (66 ∷ text) (I.left link.new) }
     ensures failed { result ≡ Err LinkFault.Failed → Rose (I.faults link.old) (I.faults link.new) }
     ensures never_falls { I.faults link.old ≤ I.faults link.new }
 {
@@ -137,7 +139,7 @@ pub(crate) fn resize_frame<I: Source>(
     requires few { taken.old ≤ MOST }
     requires at { taken.old ≡ place + 1 }
     ensures took { (text : List ℕ) × (I.left link.old ≡ then_left text (I.left link.new))
-        × (taken.new ≡ taken.old + length text) × Answers result place (82 ∷ text) (I.left link.new) }
+        × (taken.new ≡ taken.old + length text) × Takes result place (82 ∷ text) (I.left link.new) }
     ensures failed { result ≡ Err LinkFault.Failed → Rose (I.faults link.old) (I.faults link.new) }
     ensures never_falls { I.faults link.old ≤ I.faults link.new }
 {
