@@ -18,8 +18,9 @@ use Rattle.con_readers.specs.declared.open.Open.{Open}
 use Rattle.con_readers.specs.declared.open.OpenRead.{OpenRead}
 use Rattle.con_readers.specs.declared.open.OpenRead.TheVariants as reads
 use Rattle.con_records.specs.declared.record.Record.{Record}
-use Rattle.con_laws.specs.Fates.{How, Served, Emptied, Interrupted, CutOff, Piece, Begins, by_read, taken_by}
-use Rattle.con_laws.specs.Answers.{by_how, read_after}
+use Rattle.con_laws.specs.Fates.{How, Served, Emptied, Interrupted, CutOff, Piece}
+use Rattle.con_laws.specs.Walks.{Begins, by_read, taken_by}
+use Rattle.con_laws.specs.AnswerWalks.{by_how, read_after}
 use Rattle.con_laws.proofs.Served.{Alone, alone}
 use Rattle.con_laws.proofs.Mine.{Apart, own, own_none, own_more, none_taken, Choose, Mine}
 use Rattle.con_laws.proofs.Woken.{woke_of}

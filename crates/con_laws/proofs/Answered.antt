@@ -38,9 +38,12 @@ use Rattle.con_machine.specs.History.{run}
 use Rattle.con_machine.specs.Outcome.{has_bit}
 use Rattle.con_machine.specs.Reads.{answer_told, units_told, front_of, is_empty}
 use Rattle.con_machine.specs.Step.{step}
-use Rattle.con_laws.specs.Fates.{Begun, Begin, How, Served, Emptied, Interrupted, CutOff, Piece, pieces, done_for, last_begin, fated}
-use Rattle.con_laws.specs.Answers.{opens, console_before, by_how, read_after}
-use Rattle.con_laws.specs.Texts.{line_part, AnswersText, asked_for}
+use Rattle.con_laws.specs.Fates.{Begun, How, Served, Emptied, Interrupted, CutOff, Piece, done_for}
+use Rattle.con_laws.specs.Walks.{Begin, pieces, last_begin, fated}
+use Rattle.con_laws.specs.Answers.{opens}
+use Rattle.con_laws.specs.AnswerWalks.{console_before, by_how, read_after}
+use Rattle.con_laws.specs.TextWalks.{line_part, AnswersText}
+use Rattle.con_laws.specs.Texts.{asked_for}
 use Rattle.con_machine.specs.declared.reads.noted.Noted.{Noted}
 use Rattle.con_laws.proofs.FateLists.{log}
 use Rattle.con_laws.proofs.Conserved.{WholeReads}

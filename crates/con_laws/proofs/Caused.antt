@@ -31,8 +31,10 @@ use Rattle.con_machine.specs.History.{run}
 use Rattle.con_machine.specs.Reads.{answer_told, front_of, is_empty, line_opened}
 use Rattle.con_machine.specs.Outcome.{has_bit}
 use Rattle.con_machine.specs.Step.{step}
-use Rattle.con_laws.specs.Fates.{Begun, Begin, How, Served, Emptied, Interrupted, CutOff, Piece, pieces, last_begin}
-use Rattle.con_laws.specs.Answers.{opens, console_before, by_how, read_after, is_interruption, is_cut, was_interrupted, was_cut_off, is_aborted, is_closed}
+use Rattle.con_laws.specs.Fates.{Begun, How, Served, Emptied, Interrupted, CutOff, Piece}
+use Rattle.con_laws.specs.Walks.{Begin, pieces, last_begin}
+use Rattle.con_laws.specs.Answers.{opens}
+use Rattle.con_laws.specs.AnswerWalks.{console_before, by_how, read_after, is_interruption, is_cut, was_interrupted, was_cut_off, is_aborted, is_closed}
 use Rattle.con_machine.specs.declared.reads.noted.Noted.{Noted}
 use Rattle.con_laws.proofs.FateLists.{log}
 use Rattle.con_laws.proofs.Served.{UnitsPiece}

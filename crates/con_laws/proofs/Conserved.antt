@@ -48,7 +48,8 @@ use Rattle.con_machine.specs.History.{run}
 use Rattle.con_machine.specs.declared.reads.noted.Noted.{Noted}
 use Rattle.con_machine.specs.CallLaws.{Parts, stands}
 use Rattle.con_machine.specs.EventLaws.{settled_shows}
-use Rattle.con_laws.specs.Fates.{reports_in, no_begins, pieces, Piece, Served, CutOff, Begins, by_read, taken_by, interrupted_by, interrupted, cut_off, hung_pieces, closing_pieces, signal_pieces, end_pieces, served_pieces, records_written, reports_written, call_arrivals, keys_arrivals, report_arrivals, bytes_arrivals, all_bytes_arrivals, fed_arrivals, size_arrivals, effect_arrivals, step_arrivals, arrived, flushed_pieces, call_pieces, key_pieces, keys_pieces, bytes_pieces, all_bytes_pieces, fed_pieces, effect_pieces, step_pieces, begins_after, pieces_from}
+use Rattle.con_laws.specs.Walks.{reports_in, no_begins, pieces, Begins, by_read, taken_by, interrupted_by, interrupted, cut_off, hung_pieces, closing_pieces, signal_pieces, end_pieces, served_pieces, records_written, reports_written, call_arrivals, keys_arrivals, report_arrivals, bytes_arrivals, all_bytes_arrivals, fed_arrivals, size_arrivals, effect_arrivals, step_arrivals, arrived, flushed_pieces, call_pieces, key_pieces, keys_pieces, bytes_pieces, all_bytes_pieces, fed_pieces, effect_pieces, step_pieces, begins_after, pieces_from}
+use Rattle.con_laws.specs.Fates.{Piece, Served, CutOff}
 
 unfoldable pub WholeReads : Type 0
 WholeReads = (al : List AliasList) (os : List Open) (rs : List Record) (hs : LineHistories) → joined (pieces_of al os rs hs) ++ (settled al os rs hs).records ≡ rs
@@ -166,7 +167,7 @@ sequence_by : (s : State) (r : Option Report) (b : Bool) → s.records ++ (if b 
 sequence_by s r true = report_by s r
 sequence_by s r false = append-nil s.records
 
-bytes_keep : WholeReads → (begins : Begins) (s : State) (b : Bytes) → s.records ++ bytes_arrivals s b ≡ joined (bytes_pieces begins s b) ++ (piece_taken s b).records
+pub bytes_keep : WholeReads → (begins : Begins) (s : State) (b : Bytes) → s.records ++ bytes_arrivals s b ≡ joined (bytes_pieces begins s b) ++ (piece_taken s b).records
 unfolding joined
 bytes_keep w begins s (Typed k) = key_by w begins s k (is_break s k)
 bytes_keep w begins s (Ended bytes) = sequence_by s (report_of bytes) (has_bit s.mode 0x10)
@@ -289,10 +290,10 @@ painted_keeps s = refl
 
 -- ---- events
 
-Kept : Begins → ℕ → State → ℕ → Event → Type 0
+unfoldable pub Kept : Begins → ℕ → State → ℕ → Event → Type 0
 Kept begins place s p e = s.records ++ effect_arrivals s p e ≡ joined (effect_pieces begins place s p e) ++ (effect s p e).after.records
 
-effect_keeps : WholeReads → (begins : Begins) (place : ℕ) (s : State) (p : ℕ) (e : Event) → Kept begins place s p e
+pub effect_keeps : WholeReads → (begins : Begins) (place : ℕ) (s : State) (p : ℕ) (e : Event) → Kept begins place s p e
 unfolding Kept effect joined
 effect_keeps w begins place s p (events.Call c) = call_keeps begins place s p c
 effect_keeps w begins place s p (events.Begin wanted) = same s (read_began s p wanted) (begin_keeps s p wanted)

@@ -34,7 +34,7 @@ use Rattle.con_machine.specs.Terminal.{is_break, key_taken, records_of, mouse_re
 use Rattle.con_machine.specs.Step.{step, effect}
 use Rattle.con_machine.specs.History.{run}
 use Rattle.con_machine.specs.EventLaws.{AreDone, Frame, served_first, settled_shows, fed_walk}
-use Rattle.con_laws.specs.Fates.{key_arrivals, report_arrivals, bytes_arrivals, all_bytes_arrivals, fed_arrivals, step_arrivals, arrived}
+use Rattle.con_laws.specs.Walks.{key_arrivals, report_arrivals, bytes_arrivals, all_bytes_arrivals, fed_arrivals, step_arrivals, arrived}
 use Rattle.con_laws.specs.Cut.{feed, in_two, in_one, unplaced, AreLines, CutAnywhere}
 use Rattle.con_machine.specs.declared.reads.noted.Noted.{Noted}
 use Rattle.con_machine.specs.FeedingLaws.{fed_by_bytes, settled_held}

@@ -5,7 +5,8 @@ use Rattle.std.proofs.lemmas.Bool.Decides.{nat_tests}
 use Rattle.std.proofs.lemmas.List.Elements.{filter-append}
 use Rattle.con_readers.specs.Pieces.{joined}
 use Rattle.con_records.specs.declared.record.Record.{Record}
-use Rattle.con_laws.specs.Fates.{Taker, Piece, fate_in, is_taker, is_fate, records_with}
+use Rattle.con_laws.specs.Fates.{Taker, Piece, is_taker}
+use Rattle.con_laws.specs.Walks.{fate_in, is_fate, records_with}
 use Rattle.con_laws.proofs.Conserved.{joined-append}
 
 -- what was done for one taker

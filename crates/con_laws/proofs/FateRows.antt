@@ -36,8 +36,9 @@ use Rattle.con_machine.specs.Terminal.{fed, quiet, resized}
 use Rattle.con_machine.specs.Painting.{painted, same_view}
 use Rattle.con_readers.specs.Pieces.{joined}
 use Rattle.con_machine.specs.State.{State, opening}
-use Rattle.con_laws.specs.Answers.{was_interrupted, was_cut_off}
-use Rattle.con_laws.specs.Fates.{Taker, Begun, Flushed, arrived, pieces, fate, fated, step_arrivals, keys_arrivals, all_bytes_arrivals, fed_arrivals, size_arrivals, step_pieces, served_pieces, taken_by, interrupted, cut_off, closing_pieces, keys_pieces, all_bytes_pieces, fed_pieces}
+use Rattle.con_laws.specs.AnswerWalks.{was_interrupted, was_cut_off}
+use Rattle.con_laws.specs.Fates.{Taker, Begun, Flushed}
+use Rattle.con_laws.specs.Walks.{arrived, pieces, fate, fated, step_arrivals, keys_arrivals, all_bytes_arrivals, fed_arrivals, size_arrivals, step_pieces, served_pieces, taken_by, interrupted, cut_off, closing_pieces, keys_pieces, all_bytes_pieces, fed_pieces}
 
 abbrev script : ℕ → Script
 script group = record { program = codes "p"; group = group; steps = [] }

@@ -29,8 +29,10 @@ use Rattle.con_machine.specs.Client.{is_fail}
 use Rattle.con_machine.specs.History.{run}
 use Rattle.con_machine.specs.Reads.{collected, answer_told}
 use Rattle.con_machine.specs.Step.{effect, step, is_outside, client_of, finished}
-use Rattle.con_laws.specs.Fates.{Taker, Begun, How, Served, Emptied, Interrupted, CutOff, Piece, Begin, Begins, no_begins, begin_at, begins_after, begins_from, last_begin, read_of, wants_records, is_taker, done_for, end_pieces, step_pieces, pieces_from, pieces, fate, fated, records_with, AnswersRecords}
-use Rattle.con_laws.specs.Answers.{opens, console_before, by_how, read_after}
+use Rattle.con_laws.specs.Fates.{Taker, Begun, How, Served, Emptied, Interrupted, CutOff, Piece, is_taker, done_for}
+use Rattle.con_laws.specs.Walks.{Begin, Begins, no_begins, begin_at, begins_after, begins_from, last_begin, read_of, wants_records, end_pieces, step_pieces, pieces_from, pieces, fate, fated, records_with, AnswersRecords}
+use Rattle.con_laws.specs.Answers.{opens}
+use Rattle.con_laws.specs.AnswerWalks.{console_before, by_how, read_after}
 use Rattle.con_laws.proofs.FateLists.{log, log-append, log_none, taken, fated_taken}
 use Rattle.con_laws.proofs.Conserved.{WholeReads, conserved}
 use Rattle.con_laws.proofs.Served.{UnitsPiece, IsProper, TakesAll}

@@ -33,7 +33,8 @@ use Rattle.con_machine.specs.History.{run}
 use Rattle.con_machine.specs.HistoryLaws.{run-append}
 use Rattle.con_machine.specs.LineCalls.{told_alias_in}
 use Rattle.con_machine.specs.Serving.{settled_from, settled_state}
-use Rattle.con_laws.specs.Settled.{IsSettled, only_tells, peek}
+use Rattle.con_laws.specs.Settled.{IsSettled, only_tells}
+use Rattle.con_laws.specs.Once.{peek}
 use Rattle.con_machine.specs.Step.{step, effect, is_outside, client_of, finished}
 use Rattle.con_laws.proofs.Peeked.{none_left}
 

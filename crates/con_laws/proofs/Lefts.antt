@@ -36,7 +36,8 @@ use Rattle.con_machine.specs.History.{run}
 use Rattle.con_machine.specs.Reads.{began as read_began, line_cut, part_told, part_left, line_front, front_of, back_of, answered_with, with_read, rest_answered, line_begun, began_units, history_used, read_answer, records_answer, is_empty}
 use Rattle.con_machine.specs.Step.{step, is_outside, client_of}
 use Rattle.con_laws.specs.Answers.{opens}
-use Rattle.con_laws.specs.Left.{LeavesRest, LeftBy, handle_of}
+use Rattle.con_laws.specs.Left.{LeavesRest, LeftBy}
+use Rattle.con_laws.specs.Remains.{handle_of}
 use Rattle.con_screens.specs.Resize.{all_resized}
 use Rattle.con_machine.specs.EventLaws.{Core, call_walk, fed_walk, quiet_walk, hung_walk, size_core, finished_walk}
 use Rattle.con_machine.specs.declared.reads.rest.Rest.{Rest}

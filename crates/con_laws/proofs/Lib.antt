@@ -17,6 +17,8 @@ pub mod Answered
 pub mod Lefts
 pub mod Cutting
 pub mod Idling
+pub mod Fating
+pub mod Remaining
 pub mod Onces
 pub mod Rested
 pub mod Reopened

@@ -14,8 +14,9 @@ use Rattle.con_readers.specs.declared.open.Open.{Open}
 use Rattle.con_readers.specs.declared.open.OpenRead.{OpenRead}
 use Rattle.con_readers.specs.declared.open.OpenRead.TheVariants as reads
 use Rattle.con_records.specs.declared.record.Record.{Record}
-use Rattle.con_laws.specs.Fates.{How, Served, Emptied, Interrupted, CutOff, Begin, Piece, Begins, is_taker, read_of, by_read, taken_by, interrupted, cut_off}
-use Rattle.con_laws.specs.Answers.{by_how, done_to, read_after}
+use Rattle.con_laws.specs.Fates.{How, Served, Emptied, Interrupted, CutOff, Piece, is_taker}
+use Rattle.con_laws.specs.Walks.{Begin, Begins, read_of, by_read, taken_by, interrupted, cut_off}
+use Rattle.con_laws.specs.AnswerWalks.{by_how, done_to, read_after}
 use Rattle.con_laws.proofs.FateLists.{log, log-append}
 use Rattle.con_laws.proofs.Served.{UnitsPiece, IsProper, TakesAll, same_alone, takes_all, still_proper}
 

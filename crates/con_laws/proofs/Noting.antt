@@ -10,8 +10,10 @@ use Rattle.con_readers.specs.declared.open.OpenRead.{OpenRead}
 use Rattle.con_machine.specs.State.{State, noted_of}
 use Rattle.con_machine.specs.History.{run}
 use Rattle.con_machine.specs.Step.{step, client_of}
-use Rattle.con_laws.specs.Fates.{Begun, Piece, Begin, Begins, no_begins, begins_after, begins_from, step_pieces, pieces_from, pieces, last_begin}
-use Rattle.con_laws.specs.Answers.{opens, console_before, read_after}
+use Rattle.con_laws.specs.Fates.{Begun, Piece}
+use Rattle.con_laws.specs.Walks.{Begin, Begins, no_begins, begins_after, begins_from, step_pieces, pieces_from, pieces, last_begin}
+use Rattle.con_laws.specs.Answers.{opens}
+use Rattle.con_laws.specs.AnswerWalks.{console_before, read_after}
 use Rattle.con_machine.specs.declared.reads.noted.Noted.{Noted}
 use Rattle.con_laws.proofs.FateLists.{log, log-append}
 use Rattle.con_laws.proofs.Served.{UnitsPiece, IsProper}

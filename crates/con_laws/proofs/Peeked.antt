@@ -33,7 +33,8 @@ use Rattle.con_machine.specs.Closing.{closing, hung_up, all_wait}
 use Rattle.con_machine.specs.InputCalls.{peeked, peek_told}
 use Rattle.con_machine.specs.Serving.{settled_state}
 use Rattle.con_machine.specs.Step.{step, effect, is_outside, client_of}
-use Rattle.con_laws.specs.Fates.{Taker, Piece, Begins, no_begins, taken_by, served_pieces, closing_pieces, step_pieces, begins_from, begins_after, pieces_from, pieces, fate_in, fate}
+use Rattle.con_laws.specs.Fates.{Taker, Piece}
+use Rattle.con_laws.specs.Walks.{Begins, no_begins, taken_by, served_pieces, closing_pieces, step_pieces, begins_from, begins_after, pieces_from, pieces, fate_in, fate}
 use Rattle.con_laws.proofs.Conserved.{WholeReads, joined-append, served_keeps, settled_records, closing-none}
 use Rattle.con_laws.proofs.Takes.{settled_reads}
 use Rattle.con_laws.proofs.Fated.{pieces-append, place_after}

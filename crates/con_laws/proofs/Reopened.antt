@@ -27,7 +27,7 @@ use Rattle.con_machine.specs.Closing.{hung_up}
 use Rattle.con_machine.specs.EventLaws.{Core, call_walk, fed_walk, quiet_walk, hung_walk, size_core, finished_walk}
 use Rattle.con_machine.specs.History.{run}
 use Rattle.con_machine.specs.HistoryLaws.{run-append}
-use Rattle.con_laws.specs.Left.{handle_of}
+use Rattle.con_laws.specs.Remains.{handle_of}
 use Rattle.con_machine.specs.Painting.{painted}
 use Rattle.con_machine.specs.Reads.{began as read_began, began_line, began_units, collected, took_ctrl, left, answer_told, part_left, back_of, answered_with, with_read, rest_answered, line_begun, history_used, read_answer, records_answer, is_empty}
 use Rattle.con_laws.specs.Rested.{begins, begins_in, closes, closes_it}

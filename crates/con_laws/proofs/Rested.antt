@@ -27,7 +27,8 @@ use Rattle.con_machine.specs.Call.{called}
 use Rattle.con_machine.specs.Closing.{hung_up}
 use Rattle.con_machine.specs.EventLaws.{Core, call_walk, fed_walk, quiet_walk, hung_walk, size_core, finished_walk}
 use Rattle.con_machine.specs.History.{run}
-use Rattle.con_laws.specs.Left.{LineLeaves, handle_of}
+use Rattle.con_laws.specs.Left.{LineLeaves}
+use Rattle.con_laws.specs.Remains.{handle_of}
 use Rattle.con_machine.specs.Painting.{painted}
 use Rattle.con_machine.specs.Reads.{began as read_began, began_line, began_units, collected, took_ctrl, left, answer_told, line_cut, part_told, part_left, line_front, front_of, back_of, answered_with, with_read, rest_answered, line_begun, history_used, read_answer, records_answer, is_empty, line_opened, line_read, units_read}
 use Rattle.con_laws.specs.Rested.{takes, takes_in, at_once, ends, ends_in, closes, is_line_of, IsLeft}

@@ -46,8 +46,10 @@ use Rattle.con_machine.specs.Painting.{painted, same_view, view_now, differs}
 use Rattle.con_machine.specs.Turns.{turns, sent, Turn}
 use Rattle.con_machine.specs.Client.{FollowsScript, GoesOn, Gone, client_after}
 use Rattle.con_machine.specs.Follows.{Follows, session_start, FollowsLink, AreAnswered, are_of_session, steps_of, kinds_of}
-use Rattle.con_laws.specs.Whole.{IsWhole, HasLeft}
-use Rattle.con_laws.specs.Rounds.{Rounds, SideTurn, painter_turn, client_turn, client_at}
+use Rattle.con_laws.specs.Whole.{IsWhole}
+use Rattle.con_laws.specs.WholeWords.{HasLeft}
+use Rattle.con_laws.specs.RoundWords.{Rounds, SideTurn, painter_turn}
+use Rattle.con_laws.specs.Rounds.{client_turn, client_at}
 use Rattle.con_machine.specs.SameViews.{shows_same}
 
 abbrev by : ℕ → Event → Entry

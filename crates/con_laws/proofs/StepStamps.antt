@@ -57,7 +57,7 @@ use Rattle.con_machine.specs.ScreenCalls.{page_at, page_of, with_page, reported}
 use Rattle.con_machine.specs.Call.{called}
 use Rattle.con_machine.specs.Closing.{closing, hung_up, all_wait}
 use Rattle.con_machine.specs.EventLaws.{served_first}
-use Rattle.con_laws.specs.Fates.{reports_written, call_arrivals, key_arrivals, keys_arrivals, report_arrivals, bytes_arrivals, all_bytes_arrivals, fed_arrivals, size_arrivals, effect_arrivals, step_arrivals, arrived}
+use Rattle.con_laws.specs.Walks.{reports_written, call_arrivals, key_arrivals, keys_arrivals, report_arrivals, bytes_arrivals, all_bytes_arrivals, fed_arrivals, size_arrivals, effect_arrivals, step_arrivals, arrived}
 use Rattle.con_machine.specs.History.{replies_of, is_legal}
 use Rattle.con_machine.specs.Painting.{view_now, stamped, painted, next_number, differs}
 use Rattle.con_machine.specs.Reads.{began as read_began, began_line, began_units, collected, took_ctrl, left, answer_told, released_all, answered_with, with_read, line_begun, rest_answered, history_used, read_answer, records_answer, is_empty}

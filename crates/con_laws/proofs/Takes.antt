@@ -47,8 +47,9 @@ use Rattle.con_machine.specs.Step.{effect, finished}
 use Rattle.con_machine.specs.declared.reads.noted.Noted.{Noted}
 use Rattle.con_machine.specs.CallLaws.{Parts, stands}
 use Rattle.con_machine.specs.EventLaws.{settled_shows}
-use Rattle.con_laws.specs.Fates.{Begin, Earlier, is_taker, read_of, How, Served, Emptied, Interrupted, CutOff, Taker, Begun, Flushed, Piece, Begins, by_read, taken_by, interrupted, interrupted_by, cut_off, hung_pieces, closing_pieces, signal_pieces, end_pieces, served_pieces, flushed_pieces, call_pieces, key_pieces, keys_pieces, bytes_pieces, all_bytes_pieces, fed_pieces, effect_pieces}
-use Rattle.con_laws.specs.Answers.{by_how, read_after}
+use Rattle.con_laws.specs.Walks.{Begin, read_of, Begins, by_read, taken_by, interrupted, interrupted_by, cut_off, hung_pieces, closing_pieces, signal_pieces, end_pieces, served_pieces, flushed_pieces, call_pieces, key_pieces, keys_pieces, bytes_pieces, all_bytes_pieces, fed_pieces, effect_pieces}
+use Rattle.con_laws.specs.Fates.{Earlier, is_taker, How, Served, Emptied, Interrupted, CutOff, Taker, Begun, Flushed, Piece}
+use Rattle.con_laws.specs.AnswerWalks.{by_how, read_after}
 use Rattle.con_laws.proofs.Woken.{NoteTold, told_of, waked, waked_none, waked_on, woke_of, settled_note, without_other, without_own}
 use Rattle.con_laws.proofs.Acts.{wakes_one, wakes, wakes-append, wakes_none, settled_wakes}
 use Rattle.con_laws.proofs.FateLists.{log, log-append, log_none, none_or}

@@ -25,8 +25,9 @@ use Rattle.con_readers.specs.declared.open.OpenRead.{OpenRead}
 use Rattle.con_readers.specs.declared.open.OpenRead.TheVariants as reads
 use Rattle.con_records.specs.declared.record.Record.{Record}
 use Rattle.con_laws.specs.Fates.{How, Served, Emptied, Interrupted, CutOff, Piece}
-use Rattle.con_laws.specs.Answers.{by_how, read_after}
-use Rattle.con_laws.specs.Texts.{lines_at, moments, presses_of, aliases_at, aliases_after, EndsText}
+use Rattle.con_laws.specs.AnswerWalks.{by_how, read_after}
+use Rattle.con_laws.specs.Texts.{lines_at, aliases_at}
+use Rattle.con_laws.specs.TextWalks.{moments, presses_of, aliases_after, EndsText}
 use Rattle.con_laws.proofs.Served.{TakesAll}
 use Rattle.con_laws.proofs.Mine.{Fits, Right, done_rest}
 use Rattle.con_laws.proofs.Fated.{Told, records_told}

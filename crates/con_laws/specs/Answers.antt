@@ -1,5 +1,5 @@
--- What a read is after all that was done for it, from the console in which it began.
-use Rattle.std.specs.Prelude.{ℕ, Bool, true, false, List, [], fold, take, if◌then◌else◌}
+-- What a read is as it begins, and when it fails.
+use Rattle.std.specs.Prelude.{◌≡◌, ℕ, Bool, true, false, List, [], fold, take, if◌then◌else◌}
 use Rattle.std.specs.List.{list_any}
 use Rattle.con_units.specs.declared.code.Code.TheVariants as code
 use Rattle.con_events.specs.declared.entry.Entry.{Entry}
@@ -17,6 +17,8 @@ use Rattle.con_machine.specs.History.{run}
 use Rattle.con_machine.specs.Outcome.{has_bit}
 use Rattle.con_machine.specs.Reads.{line_read, units_read}
 use Rattle.con_laws.specs.Fates.{How, Served, Emptied, Interrupted, CutOff, Taker, Piece, done_for}
+use Rattle.std.specs.List.{Any}
+use Rattle.con_units.specs.declared.code.Code.{Code}
 
 -- ---- what a Begin that is not refused opens in a console
 
@@ -28,50 +30,6 @@ opens s p (wanted.Read h n) = opens_text s p h n [] 0
 opens s p (wanted.ReadWith h n initial mask) = opens_text s p h n initial mask
 opens s p (wanted.ReadInput h n) = reads.Records n
 
--- the console before the entry at this place of a history
-abbrev pub console_before : State → List Entry → ℕ → State
-console_before s h place = run s (take place h)
-
--- ---- what is done for it
-
--- it is served with the records that it takes, and no others; or it ends
-abbrev pub by_how : ℕ → OpenRead → How → List Record → OpenRead
-by_how p r (Served hs al) rs = (served p al r rs hs).read
-by_how p r Emptied rs = r
-by_how p r Interrupted rs = reads.Done (answers.Fail code.Aborted)
-by_how p r CutOff rs = reads.Done (answers.Fail code.Closed)
-
-abbrev pub done_to : ℕ → OpenRead → Piece → OpenRead
-done_to p r piece = by_how p r piece.0.how piece.1
-
--- a process's read after these pieces
-abbrev pub read_after : ℕ → OpenRead → List Piece → OpenRead
-read_after p r pieces = fold (done_to p) r pieces
-
--- ---- why a read fails
-
-abbrev pub is_interruption : How → Bool
-is_interruption Interrupted = true
-is_interruption _ = false
-
-abbrev pub is_cut : How → Bool
-is_cut CutOff = true
-is_cut _ = false
-
--- ctrl+C to all came while the read was the first line read that is not done
-abbrev pub was_interrupted : Taker → List Piece → Bool
-was_interrupted t ps = list_any (λ p. is_interruption p.0.how) (done_for t ps)
-
--- the console closed while it was not done
-abbrev pub was_cut_off : Taker → List Piece → Bool
-was_cut_off t ps = list_any (λ p. is_cut p.0.how) (done_for t ps)
-
--- ERROR_OPERATION_ABORTED (995)
-abbrev pub is_aborted : Reply → Bool
-is_aborted (replies.Fail code.Aborted) = true
-is_aborted _ = false
-
--- ERROR_BROKEN_PIPE (109)
-abbrev pub is_closed : Reply → Bool
-is_closed (replies.Fail code.Closed) = true
-is_closed _ = false
+-- a reply is this failure exactly where one of these pieces ended the read so
+abbrev pub EndsSo : How → Code → Reply → List Piece → Type 0
+EndsSo how why reply ps = (reply ≡ replies.Fail why → Any (λ p. p.0.how ≡ how) ps) × (Any (λ p. p.0.how ≡ how) ps → reply ≡ replies.Fail why)

@@ -10,7 +10,7 @@ use Rattle.con_records.specs.declared.record.Record.{Record}
 use Rattle.con_records.specs.declared.record.Record.TheVariants as kinds
 use Rattle.con_machine.specs.State.{State}
 use Rattle.con_machine.specs.EventLaws.{AreDone}
-use Rattle.con_laws.specs.Fates.{arrived}
+use Rattle.con_laws.specs.Walks.{arrived}
 use Rattle.con_machine.specs.History.{run}
 use Rattle.con_machine.specs.Outcome.{has_bit}
 use Rattle.con_machine.specs.Terminal.{fed}

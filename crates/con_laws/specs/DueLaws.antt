@@ -18,7 +18,8 @@ use Rattle.con_machine.specs.HistoryLaws.{run-append}
 use Rattle.con_machine.specs.Turns.{moved, is_paint, is_terminal}
 use Rattle.con_machine.specs.Follows.{asks}
 use Rattle.con_machine.specs.Along.{after}
-use Rattle.con_laws.specs.Whole.{is_pictured, are_pictured, ShowsAll}
+use Rattle.con_laws.specs.Whole.{is_pictured, ShowsAll}
+use Rattle.con_laws.specs.WholeWords.{are_pictured}
 
 -- an Ask is the terminal's
 pub ask_is_terminals : (s : State) (a : Actor) → is_ready s a events.Ask ≡ true → is_terminal a ≡ true

@@ -1,8 +1,11 @@
 -- What became of each record of the input: records are taken from the front alone, so who took what is a list of pieces, in order.
 -- What came in and who took it is told beside the run of a history; the console itself counts no records.
-use Rattle.std.specs.Prelude.{◌≡◌, ◌⊎◌, ℕ, suc, ◌+◌, ◌-◌, ◌==◌, ◌&&◌, Bool, true, false, nat_lt, List, [], ◌∷◌, ◌++◌, length, map, filter, Option, None, Some}
+use Rattle.std.specs.Prelude.{◌≡◌, ◌⊎◌, ℕ, suc, ◌+◌, ◌-◌, ◌==◌, ◌&&◌, not, drop, Bool, true, false, nat_lt, List, [], ◌∷◌, ◌++◌, length, map, filter, Option, None, Some}
 use Rattle.std.specs.Prelude.{Result, Ok, Err, if◌then◌else◌}
-use Rattle.std.specs.List.{find}
+use Rattle.std.specs.List.{find, zip, filter, flat_map, slice_get}
+use Rattle.std.specs.Option.{option_map_or}
+use Rattle.std.specs.Result.{is_ok}
+use Rattle.con_machine.specs.Turns.{moved}
 use Rattle.con_units.specs.Limits.{most_items, most_records}
 use Rattle.con_units.specs.Split.{split_after}
 use Rattle.con_units.specs.declared.code.Code.{Code}
@@ -47,69 +50,33 @@ use Rattle.con_machine.specs.Terminal.{is_break, records_of, mouse_records, key_
 use Rattle.con_machine.specs.Step.{effect, step, is_outside, client_of}
 use Rattle.con_machine.specs.Client.{is_fail}
 
--- ---- what came in: the records that each event puts behind the others
+-- ---- what came in
 
--- WriteConsoleInput of no more than 1,024 records
-abbrev pub records_written : Result Object Code → List Record → List Record
-records_written (Err why) records = []
-records_written (Ok o) records = if nat_lt most_records (length records) then [] else records
+-- the records that a move of the console puts behind those that were there
+abbrev pub came : State → State → List Record
+came s t = drop (length s.records) t.records
 
--- what a screen tells of itself where a text asks for it, as keys
-abbrev pub reports_in : State → ℕ → List ℕ → List Record
-reports_in s id units = map reported (told_on (buffer_at s.buffers id) nothing_told units).reports
+-- keys and sequences, each with the console that takes it
+unfoldable pub bytes_from : State → List Bytes → List (State × Bytes)
+bytes_from s [] = []
+bytes_from s (b ∷ bs) = (s, b) ∷ bytes_from (piece_taken s b) bs
 
--- WriteConsole of no more than 16,384 units
-abbrev pub reports_written : State → Result Object Code → List ℕ → List Record
-reports_written s (Err why) units = []
-reports_written s (Ok o) units = if nat_lt most_items (length units) then [] else reports_in s (buffer_of o) units
+-- those of an event
+unfoldable pub bytes_of : State → Event → List (State × Bytes)
+bytes_of s (events.Feed bytes) = let parts = split_after piece_grammar s.held bytes in bytes_from (record s { held = parts.tail }) parts.items
+bytes_of s events.Quiet = bytes_from (record s { held = [] }) (map Typed (quieted s.held))
+bytes_of s _ = []
 
-abbrev pub call_arrivals : State → ℕ → Call → List Record
-call_arrivals s p (calls.WriteInput h records) = records_written (guard s p h kind.Input 2) records
-call_arrivals s p (calls.Write h units) = reports_written s (guard s p h kind.Output 2) units
-call_arrivals s p _ = []
-
--- a key; ctrl+C, where the input is processed, is a signal and no record
-abbrev pub key_arrivals : State → Key → List Record
-key_arrivals s k = if is_break s k then [] else records_of s k
-
-unfoldable pub keys_arrivals : State → List Key → List Record
-keys_arrivals s [] = []
-keys_arrivals s (k ∷ ks) = key_arrivals s k ++ keys_arrivals (key_taken s k) ks
-
--- a report of the mouse
-abbrev pub report_arrivals : State → Option Report → List Record
-report_arrivals s None = []
-report_arrivals s (Some r) = mouse_records (page_of s s.buffers.active) (record_of s.buttons r)
-
-abbrev pub bytes_arrivals : State → Bytes → List Record
-bytes_arrivals s (Typed k) = key_arrivals s k
-bytes_arrivals s (Ended bytes) = if has_bit s.mode 0x10 then report_arrivals s (report_of bytes) else []
-
-unfoldable pub all_bytes_arrivals : State → List Bytes → List Record
-all_bytes_arrivals s [] = []
-all_bytes_arrivals s (b ∷ bs) = bytes_arrivals s b ++ all_bytes_arrivals (piece_taken s b) bs
-
-unfoldable pub fed_arrivals : State → List ℕ → List Record
-fed_arrivals s bytes = let parts = split_after piece_grammar s.held bytes in all_bytes_arrivals (record s { held = parts.tail }) parts.items
-
--- the new size of the active buffer, where such records are asked for
-unfoldable pub size_arrivals : State → Size → List Record
-size_arrivals s size = if has_bit s.mode 8 then size_record (record s { buffers = all_resized s.buffers size; resized = true }) ∷ [] else []
-
-abbrev pub effect_arrivals : State → ℕ → Event → List Record
-effect_arrivals s p (events.Call c) = call_arrivals s p c
-effect_arrivals s p (events.Feed bytes) = fed_arrivals s bytes
-effect_arrivals s p events.Quiet = keys_arrivals (record s { held = [] }) (quieted s.held)
-effect_arrivals s p (events.Resize size) = size_arrivals s size
-effect_arrivals s p _ = []
-
-unfoldable pub step_arrivals : State → Entry → List Record
-step_arrivals s x = if is_outside s x.actor x.event then [] else effect_arrivals s (client_of x.actor) x.event
+-- the records that an event puts in: bytes one by one, since ctrl+C has what stands before it served first
+unfoldable pub event_arrivals : State → ℕ → Event → List Record
+event_arrivals s p (events.Feed bytes) = flat_map (λ x. came x.0 (piece_taken x.0 x.1)) (bytes_of s (events.Feed bytes))
+event_arrivals s p events.Quiet = flat_map (λ x. came x.0 (piece_taken x.0 x.1)) (bytes_of s events.Quiet)
+event_arrivals s p e = came s (effect s p e).after
 
 -- all records that a history puts in, in order
-abbrev pub arrived : State → List Entry → List Record
+unfoldable pub arrived : State → List Entry → List Record
 arrived s [] = []
-arrived s (x ∷ xs) = step_arrivals s x ++ arrived (step s x.actor x.event).after xs
+arrived s (x ∷ xs) = (if is_outside s x.actor x.event then [] else event_arrivals s (client_of x.actor) x.event) ++ arrived (moved s x) xs
 
 -- ---- who took records
 
@@ -135,161 +102,83 @@ pub record Deed : Type 0 where
 abbrev pub Piece : Type 0
 Piece = Deed × List Record
 
--- a Begin that was not refused: its place in the history, and what it waits for
-pub record Begin : Type 0 where
-  pub place : ℕ
-  pub wanted : Wanted
+-- a Begin that was not refused
+abbrev pub is_begun : Event → Reply → Bool
+is_begun (events.Begin w) reply = not (is_fail reply)
+is_begun _ reply = false
 
-abbrev pub begin_at : ℕ → Event → Option Begin
-begin_at place (events.Begin w) = Some (record { place = place; wanted = w })
-begin_at place _ = None
+-- the read of each process behind an entry at this place of a history: of its last Begin that was not refused
+abbrev pub reader_after : (ℕ → Taker) → ℕ → State → Entry → ℕ → Taker
+reader_after who place s x p = if (p == client_of x.actor) && is_begun x.event (step s x.actor x.event).reply then Begun place else who p
 
--- the last Begin of each process that was not refused, if there is one
-abbrev pub Begins : Type 0
-Begins = ℕ → Option Begin
-
-abbrev pub no_begins : Begins
-no_begins p = None
-
-abbrev pub begin_or : Option Begin → Option Begin → Option Begin
-begin_or None last = last
-begin_or (Some b) last = Some b
-
--- an entry at this place of the history, with this reply
-abbrev pub begun_by : ℕ → Entry → Reply → Option Begin
-begun_by place x reply = if is_fail reply then None else begin_at place x.event
-
-abbrev pub begins_after : Begins → ℕ → State → Entry → Begins
-begins_after begins place s x p = if p == client_of x.actor then begin_or (begun_by place x (step s x.actor x.event).reply) (begins p) else begins p
-
--- a process's read, by its last Begin
-abbrev pub read_of : ℕ → Option Begin → Taker
-read_of p None = Earlier p
-read_of p (Some b) = Begun b.place
+unfoldable pub readers_from : (ℕ → Taker) → ℕ → State → List Entry → ℕ → Taker
+readers_from who place s [] = who
+readers_from who place s (x ∷ xs) = readers_from (reader_after who place s x) (place + 1) (moved s x) xs
 
 -- what is done for a process's read
-abbrev pub by_read : Begins → How → ℕ → List Record → Piece
-by_read begins how p rs = (record { taker = read_of p (begins p); how = how }, rs)
+abbrev pub by_read : (ℕ → Taker) → How → ℕ → List Record → Piece
+by_read who how p rs = (record { taker = who p; how = how }, rs)
 
--- the first read that is not done takes records from the front, and once it is done the next one
-unfoldable pub taken_by : Begins → List AliasList → List Open → List Record → LineHistories → List Piece
-taken_by begins al [] rs hs = []
-taken_by begins al (o ∷ os) rs hs =
-    if is_done o.read then taken_by begins al os rs hs
-    else (let s = served o.process al o.read rs hs in
-    by_read begins (Served hs al) o.process (front rs s.records) ∷ (if is_done s.read then taken_by begins al os s.records s.histories else []))
+-- the first of these reads takes records from the front, and once it is done the next one
+unfoldable pub taken_by : (ℕ → Taker) → List AliasList → List Open → List Record → LineHistories → List Piece
+taken_by who al [] rs hs = []
+taken_by who al (o ∷ os) rs hs = let s = served o.process al o.read rs hs in
+    by_read who (Served hs al) o.process (front rs s.records) ∷ (if is_done s.read then taken_by who al os s.records s.histories else [])
 
--- open reads are served
-unfoldable pub served_pieces : Begins → State → List Piece
-served_pieces begins s = taken_by begins s.aliases s.reads s.records s.histories
+abbrev pub undone : List Open → List Open
+undone os = filter (λ o. not (is_done o.read)) os
 
--- ctrl+C to all ends a line read
-abbrev pub interrupted_by : Begins → Option Open → List Piece
-interrupted_by begins None = []
-interrupted_by begins (Some o) = by_read begins Interrupted o.process [] ∷ []
+-- open reads that are not done are served
+abbrev pub served_pieces : (ℕ → Taker) → State → List Piece
+served_pieces who s = taken_by who s.aliases (undone s.reads) s.records s.histories
 
--- it is the first line read that is not done
-unfoldable pub interrupted : Begins → List Open → List Piece
-interrupted begins os = interrupted_by begins (find is_open_line os)
+-- ctrl+C to all ends the first line read that is not done
+abbrev pub interrupted : (ℕ → Taker) → State → List Piece
+interrupted who s = option_map_or (λ o. by_read who Interrupted o.process [] ∷ []) (find is_open_line s.reads) []
 
--- each read that is not done is cut off
-unfoldable pub cut_off : Begins → List Open → List Piece
-cut_off begins [] = []
-cut_off begins (o ∷ os) = if is_done o.read then cut_off begins os else by_read begins CutOff o.process [] ∷ cut_off begins os
-
--- the console closes, once
-abbrev pub hung_pieces : Begins → State → List Piece
-hung_pieces begins s = if s.closed then [] else cut_off begins s.reads
-
--- it closes where nothing more comes and each attached process waits
-unfoldable pub closing_pieces : Begins → State → List Piece
-closing_pieces begins s = if s.drained && all_wait s.reads (ids_of s.procs) then hung_pieces begins s else []
-
--- GenerateConsoleCtrlEvent
-abbrev pub signal_pieces : Begins → State → ℕ → ℕ → List Piece
-signal_pieces begins s event group =
-    if s.closed then []
-    else if is_no_signal s.procs event group then []
-    else if (event == 0) && (group == 0) then interrupted begins s.reads
-    else []
-
--- FlushConsoleInputBuffer
-abbrev pub flushed_pieces : ℕ → State → Result Object Code → List Piece
-flushed_pieces place s (Err why) = []
-flushed_pieces place s (Ok o) = (record { taker = Flushed place; how = Emptied }, s.records) ∷ []
-
-abbrev pub call_pieces : Begins → ℕ → State → ℕ → Call → List Piece
-call_pieces begins place s p (calls.Flush h) = flushed_pieces place s (guard s p h kind.Input 2)
-call_pieces begins place s p (calls.Signal event group) = signal_pieces begins s event group
-call_pieces begins place s p _ = []
+-- where the console closes, which it does once, each read that is not done is cut off
+abbrev pub hung_pieces : (ℕ → Taker) → State → List Piece
+hung_pieces who s = if s.closed then [] else map (λ o. by_read who CutOff o.process []) (undone s.reads)
 
 -- the reads are served before ctrl+C is signalled
-abbrev pub key_pieces : Begins → State → Key → List Piece
-key_pieces begins s k = if is_break s k then served_pieces begins s ++ interrupted begins (settled_state s).reads else []
+abbrev pub key_pieces : (ℕ → Taker) → State → Bytes → List Piece
+key_pieces who s (Typed k) = if is_break s k then served_pieces who s ++ interrupted who (settled_state s) else []
+key_pieces who s (Ended bytes) = []
 
-unfoldable pub keys_pieces : Begins → State → List Key → List Piece
-keys_pieces begins s [] = []
-keys_pieces begins s (k ∷ ks) = key_pieces begins s k ++ keys_pieces begins (key_taken s k) ks
+-- FlushConsoleInputBuffer, GenerateConsoleCtrlEvent, and what the terminal's side does
+unfoldable pub event_pieces : (ℕ → Taker) → ℕ → State → ℕ → Event → List Piece
+event_pieces who place s p (events.Call (calls.Flush h)) =
+    if is_ok (guard s p h kind.Input 2) then (let d : Deed = record { taker = Flushed place; how = Emptied } in (d, s.records)) ∷ [] else []
+event_pieces who place s p (events.Call (calls.Signal event group)) =
+    if not s.closed && ((event == 0) && (group == 0)) then interrupted who s else []
+event_pieces who place s p events.Hangup = hung_pieces who s
+event_pieces who place s p e = flat_map (λ x. key_pieces who x.0 x.1) (bytes_of s e)
 
-abbrev pub bytes_pieces : Begins → State → Bytes → List Piece
-bytes_pieces begins s (Typed k) = key_pieces begins s k
-bytes_pieces begins s (Ended bytes) = []
+-- at the end of every event the reads are served, and then the console closes, where nothing more comes and each attached process waits
+abbrev pub end_pieces : (ℕ → Taker) → State → State → List Piece
+end_pieces who t u = served_pieces who t ++ (if u.drained && all_wait u.reads (ids_of u.procs) then hung_pieces who u else [])
 
-unfoldable pub all_bytes_pieces : Begins → State → List Bytes → List Piece
-all_bytes_pieces begins s [] = []
-all_bytes_pieces begins s (b ∷ bs) = bytes_pieces begins s b ++ all_bytes_pieces begins (piece_taken s b) bs
+unfoldable pub step_pieces : (ℕ → Taker) → ℕ → State → Entry → List Piece
+step_pieces who place s x = let p = client_of x.actor in let t = (effect s p x.event).after in
+    if is_outside s x.actor x.event then [] else event_pieces who place s p x.event ++ end_pieces who t (settled_state t)
 
-unfoldable pub fed_pieces : Begins → State → List ℕ → List Piece
-fed_pieces begins s bytes = let parts = split_after piece_grammar s.held bytes in all_bytes_pieces begins (record s { held = parts.tail }) parts.items
-
-abbrev pub effect_pieces : Begins → ℕ → State → ℕ → Event → List Piece
-effect_pieces begins place s p (events.Call c) = call_pieces begins place s p c
-effect_pieces begins place s p (events.Feed bytes) = fed_pieces begins s bytes
-effect_pieces begins place s p events.Quiet = keys_pieces begins (record s { held = [] }) (quieted s.held)
-effect_pieces begins place s p events.Hangup = hung_pieces begins s
-effect_pieces begins place s p _ = []
-
--- at the end of every event the reads are served, and then the console may close
-abbrev pub end_pieces : Begins → State → List Piece
-end_pieces begins s = served_pieces begins s ++ closing_pieces begins (settled_state s)
-
-unfoldable pub step_pieces : Begins → ℕ → State → Entry → List Piece
-step_pieces begins place s x =
-    if is_outside s x.actor x.event then []
-    else effect_pieces begins place s (client_of x.actor) x.event ++ end_pieces begins (effect s (client_of x.actor) x.event).after
-
-abbrev pub pieces_from : Begins → ℕ → State → List Entry → List Piece
-pieces_from begins place s [] = []
-pieces_from begins place s (x ∷ xs) =
-    step_pieces (begins_after begins place s x) place s x ++ pieces_from (begins_after begins place s x) (place + 1) (step s x.actor x.event).after xs
+unfoldable pub pieces_from : (ℕ → Taker) → ℕ → State → List Entry → List Piece
+pieces_from who place s [] = []
+pieces_from who place s (x ∷ xs) = let now = reader_after who place s x in step_pieces now place s x ++ pieces_from now (place + 1) (moved s x) xs
 
 -- all that is done for reads and by flushes in a history, in order
 abbrev pub pieces : State → List Entry → List Piece
-pieces s h = pieces_from no_begins 0 s h
-
-abbrev pub begins_from : Begins → ℕ → State → List Entry → Begins
-begins_from begins place s [] = begins
-begins_from begins place s (x ∷ xs) = begins_from (begins_after begins place s x) (place + 1) (step s x.actor x.event).after xs
-
--- the last Begin of a process in a history that was not refused
-abbrev pub last_begin : State → List Entry → ℕ → Option Begin
-last_begin s h p = begins_from no_begins 0 s h p
-
--- it waits for records
-abbrev pub wants_records : Wanted → Bool
-wants_records (wanted.ReadInput h n) = true
-wants_records _ = false
+pieces s h = pieces_from Earlier 0 s h
 
 -- ---- fates
 
--- who took record k of what the pieces are the front of, or none, where it is there
-abbrev pub fate_in : List Piece → ℕ → Option Taker
-fate_in [] k = None
-fate_in (p ∷ ps) k = if nat_lt k (length p.1) then Some p.0.taker else fate_in ps (k - length p.1)
+-- who took each record that was taken
+abbrev pub takers : State → List Entry → List Taker
+takers s h = flat_map (λ p. map (λ r. p.0.taker) p.1) (pieces s h)
 
 -- the fate of the record with number k, counted from 0 on, of those that were there at first and then arrived
 abbrev pub fate : State → List Entry → ℕ → Option Taker
-fate s h k = fate_in (pieces s h) k
+fate s h k = slice_get (takers s h) k
 
 abbrev pub is_taker : Taker → Taker → Bool
 is_taker (Begun a) (Begun b) = b == a
@@ -297,23 +186,10 @@ is_taker (Flushed a) (Flushed b) = b == a
 is_taker (Earlier a) (Earlier b) = b == a
 is_taker _ _ = false
 
-abbrev pub is_fate : Taker → Option Taker → Bool
-is_fate t None = false
-is_fate t (Some u) = is_taker t u
-
 -- what was done for one read, or by one flush, in order
 abbrev pub done_for : Taker → List Piece → List Piece
 done_for t ps = filter (λ p. is_taker t p.0.taker) ps
 
--- of records that are numbered from k on, those with a fate, in order
-abbrev pub records_with : (ℕ → Option Taker) → Taker → ℕ → List Record → List Record
-records_with f t k [] = []
-records_with f t k (r ∷ rs) = if is_fate t (f k) then r ∷ records_with f t (suc k) rs else records_with f t (suc k) rs
-
 -- the records whose fate is this one, in order of arrival
 abbrev pub fated : State → List Entry → Taker → List Record
-fated s h t = records_with (fate s h) t 0 (s.records ++ arrived s h)
-
--- A reply tells these records, or that the console closed before the read had one.
-abbrev pub AnswersRecords : Reply → List Record → Type 0
-AnswersRecords reply rs = (reply ≡ replies.Records rs) ⊎ ((reply ≡ replies.Fail code.Closed) × (rs ≡ []))
+fated s h t = map (λ x. x.0) (filter (λ x. is_taker t x.1) (zip (s.records ++ arrived s h) (takers s h)))

@@ -15,6 +15,7 @@ use Rattle.con_machine.specs.History.{run}
 use Rattle.con_machine.specs.Step.{step, client_of}
 use Rattle.con_laws.specs.Answers.{opens}
 use Rattle.con_machine.specs.declared.reads.noted.Noted.{Noted}
+use Rattle.con_laws.specs.Remains.{handle_of}
 
 -- A Collect of a line read of this handle answered the front of its text, and this followed.
 pub record LineLeaves (s : State) (p hd : ℕ) (reply : Reply) (rest : List ℕ) : Type 0 where
@@ -26,11 +27,6 @@ pub record LineLeaves (s : State) (p hd : ℕ) (reply : Reply) (rest : List ℕ)
   pub units : List ℕ
   pub told : reply ≡ replies.Units units
   pub whole : text ≡ units ++ rest
-
-abbrev pub handle_of : Wanted → ℕ
-handle_of (wanted.Read h n) = h
-handle_of (wanted.ReadWith h n initial mask) = h
-handle_of (wanted.ReadInput h n) = h
 
 -- A line read of this handle was answered at its Begin by the front of what was left, and this followed.
 pub record RestLeaves (s : State) (p hd : ℕ) (w : Wanted) (rest : List ℕ) : Type 0 where

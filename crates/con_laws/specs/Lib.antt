@@ -7,15 +7,22 @@ pub mod Presence
 pub mod Fates
 pub mod Answers
 pub mod Texts
-pub mod Left
+pub mod Remains
 pub mod Once
-pub mod Rested
 -- What a terminal shows that plays a stream, picture by picture.
 pub mod TerminalRuns
 -- However bytes are cut, and what leaves the console as it is.
 pub mod Cut
 pub mod Settled
 pub mod Unstamped
+-- The same, walked as the proofs go.
+pub mod RoundWords
+pub mod WholeWords
+pub mod Walks
+pub mod AnswerWalks
+pub mod TextWalks
+pub mod Left
+pub mod Rested
 -- Laws of these words, for the crates above.
 pub mod RoundLaws
 pub mod PictureLaws

@@ -1,4 +1,4 @@
--- What is left of a line for further reads of a handle: whose it is, and that each unit of it is answered once.
+-- What is left of a line for further reads of a handle, walked entry by entry, as the proofs go.
 use Rattle.std.specs.Prelude.{◌≡◌, ℕ, ◌==◌, ◌&&◌, ◌||◌, Bool, true, false, not, List, [], ◌∷◌, ◌++◌, Option, Some, None, if◌then◌else◌}
 use Rattle.con_events.specs.declared.actor.Actor.{Actor}
 use Rattle.con_events.specs.declared.call.Call.{Call}
@@ -16,7 +16,8 @@ use Rattle.con_machine.specs.State.{State, noted_of}
 use Rattle.con_laws.specs.Answers.{opens}
 use Rattle.con_machine.specs.Client.{is_fail}
 use Rattle.con_machine.specs.History.{run}
-use Rattle.con_laws.specs.Left.{LineLeaves, handle_of}
+use Rattle.con_laws.specs.Left.{LineLeaves}
+use Rattle.con_laws.specs.Remains.{handle_of}
 use Rattle.con_machine.specs.Step.{step, client_of}
 use Rattle.con_machine.specs.Turns.{moved}
 use Rattle.con_machine.specs.declared.reads.noted.Noted.{Noted}

@@ -1,5 +1,5 @@
 -- Turns by rounds: the terminal's side, each client by its number, the painter, and again, until nobody acts.
-use Rattle.std.specs.Prelude.{◌≡◌, ◌⊎◌, ℕ, zero, suc, ◌+◌, ◌<◌, ◌&&◌, nat_le, Bool, true, false, not, List, [], ◌∷◌, ◌++◌, length, Option, Some, None}
+use Rattle.std.specs.Prelude.{map, IsTrue, ◌≡◌, ◌⊎◌, ℕ, zero, suc, ◌+◌, ◌<◌, ◌&&◌, nat_le, Bool, true, false, not, List, [], ◌∷◌, ◌++◌, length, Option, Some, None}
 use Rattle.std.specs.Prelude.{if◌then◌else◌}
 use Rattle.con_events.specs.Session.{Clients}
 use Rattle.con_events.specs.declared.actor.Actor.{Actor}
@@ -17,6 +17,8 @@ use Rattle.con_machine.specs.History.{run}
 use Rattle.con_machine.specs.Client.{Client, Stance, GoesOn, MayLeave, MustLeave, Gone, client_after, ctrl_exit, next_event}
 use Rattle.con_machine.specs.Turns.{turns, sent, has_ended, paints, is_pending}
 use Rattle.con_machine.specs.Follows.{is_lost, steps_of, kinds_of}
+use Rattle.std.specs.List.{list_all, flat_map, range_with_len, AllByRecursion}
+use Rattle.std.specs.Option.{option_map_or, is_some, is_none}
 
 -- what a session began with, and from which Paint on the terminal counts as failed
 pub record Begun : Type 0 where
@@ -25,30 +27,21 @@ pub record Begun : Type 0 where
   pub racks : List (List ℕ)
   pub failed : Option ℕ
 
--- ---- who acts, in which order
-
--- the clients k + 1 to k + n
-abbrev pub clients_from : ℕ → ℕ → List Actor
-clients_from k zero = []
-clients_from k (suc n) = actors.Client (k + 1) ∷ clients_from (k + 1) n
-
 -- the turns of a round of n clients
 abbrev pub order : ℕ → List Actor
-order n = actors.Terminal ∷ (clients_from 0 n ++ actors.Painter ∷ [])
+order n = actors.Terminal ∷ (map (λ p. actors.Client p) (range_with_len 1 n) ++ actors.Painter ∷ [])
 
 -- ---- what an actor does in its turn: it enters an event, or nothing
 
 -- after so many Paints the terminal counts as failed
-abbrev pub is_failed : Option ℕ → ℕ → Bool
-is_failed None painted = false
-is_failed (Some k) painted = nat_le k painted
+abbrev pub has_failed : Begun → List Entry → Bool
+has_failed b h = option_map_or (λ k. nat_le k (paints h)) b.failed false
 
 -- The terminal's side enters the event of one frame; once the terminal failed, a Hangup. Behind a Hangup or Drained it does nothing.
 abbrev pub SideTurn : Bool → Bool → Option Event → Type 0
 SideTurn true failed t = t ≡ None
 SideTurn false true t = t ≡ Some events.Hangup
-SideTurn false false None = ⊥
-SideTurn false false (Some e) = Unit {0}
+SideTurn false false t = IsTrue (is_some t)
 
 -- The first of these: a control event that is pending is taken; a read that is open is collected where it is done, and
 -- else the client waits; the next step; behind the last one the exit.
@@ -58,89 +51,45 @@ client_turn s p c =
     else if is_open s.reads p then (if has_done s.reads p then Some events.Collect else None)
     else Some (next_event c.left)
 
--- before these, the exit by a control event
-abbrev pub ClientTurnBy : Stance → State → ℕ → Client → Option Event → Type 0
-ClientTurnBy GoesOn s p c t = t ≡ client_turn s p c
-ClientTurnBy MayLeave s p c t = (t ≡ Some (events.Exit ctrl_exit)) ⊎ (t ≡ client_turn s p c)
-ClientTurnBy MustLeave s p c t = t ≡ Some (events.Exit ctrl_exit)
-ClientTurnBy Gone s p c t = t ≡ None
-
--- a client that is not attached does nothing
-abbrev pub ClientTurn : Bool → State → ℕ → Client → Option Event → Type 0
-ClientTurn false s p c t = t ≡ None
-ClientTurn true s p c t = ClientTurnBy c.stance s p c t
-
--- the painter paints where a Paint is ready and the terminal has not failed
-abbrev pub painter_turn : State → Bool → Option Event
-painter_turn s failed = if not failed && is_ready s actors.Painter events.Paint then Some events.Paint else None
+-- before these, the exit by a control event; a client that is not attached, or has left, does nothing
+abbrev pub ClientTurn : Bool → Stance → Option Event → Option Event → Type 0
+ClientTurn true GoesOn first t = t ≡ first
+ClientTurn true MayLeave first t = (t ≡ Some (events.Exit ctrl_exit)) ⊎ (t ≡ first)
+ClientTurn true MustLeave first t = t ≡ Some (events.Exit ctrl_exit)
+ClientTurn _ _ first t = t ≡ None
 
 -- what client p was after a history
 abbrev pub client_at : Begun → List Entry → ℕ → Client
 client_at b h p = client_after (steps_of b.session p) (kinds_of b.racks p) (turns b.state p h)
 
--- the turn of an actor after a history
+-- the turn of an actor after a history; the painter paints where a Paint is ready and the terminal has not failed
 abbrev pub IsTurn : Begun → List Entry → Actor → Option Event → Type 0
-IsTurn b h actors.Terminal t = SideTurn (has_ended false (sent h)) (is_failed b.failed (paints h)) t
-IsTurn b h (actors.Client p) t = ClientTurn (is_attached (run b.state h).procs p) (run b.state h) p (client_at b h p) t
-IsTurn b h actors.Painter t = t ≡ painter_turn (run b.state h) (is_failed b.failed (paints h))
+IsTurn b h actors.Terminal t = SideTurn (has_ended false (sent h)) (has_failed b h) t
+IsTurn b h (actors.Client p) t = let s = run b.state h in ClientTurn (is_attached s.procs p) (client_at b h p).stance (client_turn s p (client_at b h p)) t
+IsTurn b h actors.Painter t = t ≡ (if not (has_failed b h) && is_ready (run b.state h) actors.Painter events.Paint then Some events.Paint else None)
 
 -- ---- rounds
 
-abbrev pub entry_of : Actor → Option Event → List Entry
-entry_of a None = []
-entry_of a (Some e) = (let x : Entry = record { actor = a; event = e } in x) ∷ []
-
--- what is entered in the turns of these actors
-abbrev pub round_entries : List Actor → List (Option Event) → List Entry
-round_entries (a ∷ rest) (t ∷ ts) = entry_of a t ++ round_entries rest ts
-round_entries _ _ = []
-
--- the actors have these turns one after another, from a history on; where it may break off, the last of them may have none
-abbrev pub AreTurns : Bool → Begun → List Entry → List Actor → List (Option Event) → Type 0
-AreTurns broken b h [] [] = Unit {0}
-AreTurns broken b h [] (t ∷ ts) = ⊥
-AreTurns broken b h (a ∷ rest) [] = broken ≡ true
-AreTurns broken b h (a ∷ rest) (t ∷ ts) = IsTurn b h a t × AreTurns broken b (h ++ entry_of a t) rest ts
-
-abbrev pub is_nobody : List (Option Event) → Bool
-is_nobody [] = true
-is_nobody (None ∷ ts) = is_nobody ts
-is_nobody (Some e ∷ ts) = false
-
-abbrev pub all_order : Begun → List Actor
-all_order b = order (length b.session.scripts)
-
--- whole rounds from a history on, in each of which somebody acts
-abbrev pub AreRounds : Begun → List Entry → List (List (Option Event)) → Type 0
-AreRounds b h [] = Unit {0}
-AreRounds b h (one ∷ more) = AreTurns false b h (all_order b) one × (is_nobody one ≡ false) × AreRounds b (h ++ round_entries (all_order b) one) more
-
--- what is entered in whole rounds
-abbrev pub all_entries : List Actor → List (List (Option Event)) → List Entry
-all_entries by [] = []
-all_entries by (one ∷ more) = round_entries by one ++ all_entries by more
-
--- the last round: nobody acts in it; for want of memory it may break off
-abbrev pub IsLast : Bool → Begun → List Entry → List (Option Event) → Type 0
-IsLast false b h last = AreTurns false b h (all_order b) last × (is_nobody last ≡ true)
-IsLast true b h last = AreTurns true b h (all_order b) last
+-- from a history on the actors have these turns one after another, which lead to another one; the last of them may have none
+abbrev pub AreTurns : Begun → List Entry → List Actor → List (Option Event) → List Entry → Type 0
+AreTurns b h by [] g = g ≡ h
+AreTurns b h [] (t ∷ ts) g = ⊥
+AreTurns b h (a ∷ by) (None ∷ ts) g = IsTurn b h a None × AreTurns b h by ts g
+AreTurns b h (a ∷ by) (Some e ∷ ts) g = IsTurn b h a (Some e) × AreTurns b (h ++ (let x : Entry = record { actor = a; event = e } in x) ∷ []) by ts g
 
 abbrev pub is_memory : End → Bool
 is_memory ends.Memory = true
 is_memory _ = false
 
--- the terminal may count as failed from the last of so many Paints on, where it may be lost
-abbrev pub MayFail : Bool → ℕ → Option ℕ → Type 0
-MayFail lost painted None = Unit {0}
-MayFail lost painted (Some k) = (lost ≡ true) × (0 < painted) × (k ≡ painted)
-
 -- A history, begun in a state, is a sequence of rounds of the session's clients, up to this end.
 pub record Rounds (s : State) (h : List Entry) (session : Clients) (racks : List (List ℕ)) (end : End) : Type 0 where
+  -- the terminal may count as failed from the last of so many Paints on, where it may be lost
   pub failed : Option ℕ
-  pub fails : MayFail (is_lost end) (paints h) failed
+  pub fails : (k : ℕ) → failed ≡ Some k → (is_lost end ≡ true) × (0 < paints h) × (k ≡ paints h)
+  -- whole rounds, in each of which somebody acts, and the last one, in which nobody does; for want of memory it may break off
   pub rounds : List (List (Option Event))
   pub last : List (Option Event)
-  pub parts : h ≡ all_entries (order (length session.scripts)) rounds ++ round_entries (order (length session.scripts)) last
-  pub turns_are : AreRounds (record { state = s; session = session; racks = racks; failed = failed }) [] rounds
-  pub last_is : IsLast (is_memory end) (record { state = s; session = session; racks = racks; failed = failed })
-      (all_entries (order (length session.scripts)) rounds) last
+  pub each : AllByRecursion (λ one. (length one ≡ length (order (length session.scripts))) × (list_all is_none one ≡ false)) rounds
+  pub none : is_memory end ≡ false → (length last ≡ length (order (length session.scripts))) × (list_all is_none last ≡ true)
+  pub turns_are : AreTurns (record { state = s; session = session; racks = racks; failed = failed }) []
+      (flat_map (λ one. order (length session.scripts)) rounds ++ order (length session.scripts)) (flat_map (λ one. one) rounds ++ last) h

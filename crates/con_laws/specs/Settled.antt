@@ -18,10 +18,6 @@ pub record IsSettled (s : State) : Type 0 where
 abbrev pub by_call : ℕ → Call → Entry
 by_call p c = record { actor = actors.Client p; event = events.Call c }
 
--- PeekConsoleInput
-abbrev pub peek : ℕ → ℕ → ℕ → Entry
-peek p hd n = by_call p (calls.Peek hd n)
-
 -- a call that only tells something
 abbrev pub only_tells : Call → Bool
 only_tells (calls.Mode h) = true

@@ -14,7 +14,8 @@ use Rattle.con_machine.specs.Painting.{view_now, differs, same_view}
 use Rattle.con_machine.specs.History.{run}
 use Rattle.con_machine.specs.Turns.{moved, is_paint}
 use Rattle.con_machine.specs.Follows.{session_start}
-use Rattle.con_laws.specs.Whole.{are_pictured, ShowsAll}
+use Rattle.con_laws.specs.WholeWords.{are_pictured}
+use Rattle.con_laws.specs.Whole.{ShowsAll}
 use Rattle.con_machine.specs.SameViews.{view_is}
 use Rattle.con_laws.specs.PictureLaws.{step_moves}
 

@@ -8,7 +8,7 @@ use Rattle.con_screen.specs.Screen.{Screen}
 use Rattle.con_screens.specs.Buffers.{Buffers}
 use Rattle.con_screens.specs.declared.buffer.Buffer.{Buffer}
 use Rattle.con_machine.specs.State.{State}
-use Rattle.con_laws.specs.Fates.{step_arrivals, arrived}
+use Rattle.con_laws.specs.Walks.{step_arrivals, arrived}
 use Rattle.con_machine.specs.History.{run, replies_of, is_legal}
 use Rattle.con_machine.specs.Step.{step, is_ready}
 

@@ -1,5 +1,6 @@
 -- A history is whole: all have done what they do, and the terminal shows what there is.
 use Rattle.std.specs.Prelude.{◌≡◌, ℕ, ◌<◌, ◌≤◌, ◌||◌, Bool, true, false, List, [], ◌∷◌, ◌++◌, length}
+use Rattle.std.specs.List.{list_any}
 use Rattle.con_events.specs.Session.{Clients}
 use Rattle.con_events.specs.declared.entry.Entry.{Entry}
 use Rattle.con_events.specs.declared.event.Event.{Event}
@@ -17,10 +18,6 @@ is_pictured events.Paint = true
 is_pictured (events.Resize size) = true
 is_pictured _ = false
 
-abbrev pub are_pictured : List Entry → Bool
-are_pictured [] = false
-are_pictured (x ∷ xs) = is_pictured x.event || are_pictured xs
-
 -- there is a Paint, no other one and no Resize stands behind it, and what it showed is what there is at the end
 pub record ShowsAll (s : State) (h : List Entry) : Type 0 where
   pub front : List Entry
@@ -28,17 +25,13 @@ pub record ShowsAll (s : State) (h : List Entry) : Type 0 where
   pub back : List Entry
   pub parts : h ≡ front ++ last ∷ back
   pub paint : is_paint last.event ≡ true
-  pub none : are_pictured back ≡ false
+  pub none : list_any (λ x. is_pictured x.event) back ≡ false
   pub view : view_now (run s front) ≡ view_now (run s h)
 
--- the last entry of a client is an Exit; where its entries follow its script, this is one of its steps, or stands behind
--- all of them, or was called for by a control event
-abbrev pub HasLeft : Client → Type 0
-HasLeft c = c.stance ≡ Gone
-
--- every client has left
+-- every client has left: its last entry is an Exit; where its entries follow its script, this is one of its steps, or stands behind all of them, or was called
+-- for by a control event
 abbrev pub HaveAllLeft : State → List Entry → Clients → List (List ℕ) → Type 0
-HaveAllLeft s h session racks = (p : ℕ) → 0 < p → p ≤ length session.scripts → HasLeft (client_after (steps_of session p) (kinds_of racks p) (turns s p h))
+HaveAllLeft s h session racks = (p : ℕ) → 0 < p → p ≤ length session.scripts → (client_after (steps_of session p) (kinds_of racks p) (turns s p h)).stance ≡ Gone
 
 -- every client has left, the terminal's side has ended, and the terminal shows all
 pub record IsWhole (s : State) (h : List Entry) (session : Clients) (racks : List (List ℕ)) : Type 0 where

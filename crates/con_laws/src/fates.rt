@@ -14,10 +14,13 @@ ghost use Rattle.con_readers.specs.Reads.{has_done};
 ghost use Rattle.con_machine.specs.State.{State, rest_in};
 ghost use Rattle.con_machine.specs.History.{run};
 ghost use Rattle.con_machine.specs.Step.{step};
-ghost use Rattle.con_laws.specs.Answers.{opens, console_before, was_interrupted, was_cut_off, is_aborted, is_closed};
+ghost use Rattle.con_laws.specs.Answers.{opens};
+ghost use Rattle.con_laws.specs.AnswerWalks.{console_before, was_interrupted, was_cut_off, is_aborted, is_closed};
 ghost use Rattle.con_laws.specs.Left.{LeftBy};
-ghost use Rattle.con_laws.specs.Texts.{AnswersText, asked_for};
-ghost use Rattle.con_laws.specs.Fates.{Taker, Begun, Begin, arrived, pieces, fate, fated, done_for, last_begin, wants_records, AnswersRecords};
+ghost use Rattle.con_laws.specs.TextWalks.{AnswersText};
+ghost use Rattle.con_laws.specs.Texts.{asked_for};
+ghost use Rattle.con_laws.specs.Fates.{Taker, Begun, done_for};
+ghost use Rattle.con_laws.specs.Walks.{Begin, arrived, pieces, fate, fated, last_begin, wants_records, AnswersRecords};
 
 use con_readers::laws::{
     a_line_answers_its_piece, serving_loses_nothing, units_answer_their_piece,

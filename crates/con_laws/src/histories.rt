@@ -19,7 +19,8 @@ ghost use Rattle.con_machine.specs.Along.{after};
 ghost use Rattle.con_laws.specs.AlongLaws.{all_coming};
 ghost use Rattle.con_machine.specs.Client.{May, FollowsScript, client_after};
 ghost use Rattle.con_machine.specs.Follows.{is_one_of, are_of_session, MaySend, sent_one, FollowsLink, MayAct, asks, AreAnswered};
-ghost use Rattle.con_laws.specs.Rounds.{Begun, AreTurns, IsTurn, AreRounds, entry_of, round_entries, all_entries, all_order, is_nobody};
+ghost use Rattle.con_laws.specs.Rounds.{Begun};
+ghost use Rattle.con_laws.specs.RoundWords.{AreTurns, IsTurn, AreRounds, entry_of, round_entries, all_entries, all_order, is_nobody};
 
 /// Of two histories, one behind the other: the console after them, the replies, whether each event is ready, what a client
 /// did, what the terminal's side sent, what was shown and how often.

@@ -10,7 +10,8 @@ ghost use Rattle.con_events.specs.declared.event.Event.TheVariants as events;
 ghost use Rattle.con_machine.specs.State.{State};
 ghost use Rattle.con_machine.specs.Follows.{session_start};
 ghost use Rattle.con_machine.specs.History.{run};
-ghost use Rattle.con_laws.specs.Settled.{IsSettled, only_tells, peek};
+ghost use Rattle.con_laws.specs.Settled.{IsSettled, only_tells};
+ghost use Rattle.con_laws.specs.Once.{peek};
 ghost use Rattle.con_machine.specs.Step.{step, effect, client_of};
 
 /// A session begins with nothing left to do, and every event, and so every history, leaves it so.

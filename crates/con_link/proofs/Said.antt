@@ -1,6 +1,6 @@
 -- What the reader takes, as its code goes over the bytes, is what is promised of it, and back.
-use Rattle.std.proofs.Common.{◌≡◌, ℕ, Bool, true, false, List, [], ◌∷◌, ◌++◌, length, get_or, Option, Some, Result, Ok, Err, refl, sym, ap, ◌∙◌, subst, inl, inr, arith, cond}
-use Rattle.std.specs.Prelude.{◌||◌, ◌&&◌, not, nat_eq, nat_lt, IfSome}
+use Rattle.std.proofs.Common.{◌≡◌, ℕ, Bool, true, false, List, [], ◌∷◌, length, get_or, Option, Result, Ok, Err, refl, sym, ap, ◌∙◌, inl, inr, arith, cond}
+use Rattle.std.specs.Prelude.{◌||◌, ◌&&◌, not, nat_eq, nat_lt}
 use Rattle.std.proofs.lemmas.Bool.Decides.{nat_tests}
 use Rattle.con_units.specs.declared.view.Frame.{Frame}
 use Rattle.con_units.specs.declared.view.Frame.TheVariants.{Bytes, Quiet, Resize, Ask, Hangup, End}
@@ -11,7 +11,7 @@ use Rattle.con_link.specs.declared.fault.LinkFault.{LinkFault}
 use Rattle.con_link.specs.declared.fault.LinkFault.TheVariants as faults
 use Rattle.con_link.specs.declared.mirror.MirrorFrame.{MirrorFrame}
 use Rattle.con_link.specs.declared.mirror.MirrorFrame.TheVariants.{Plain, Attach, Detach}
-use Rattle.con_link.specs.Frames.{spelling, two, is_size}
+use Rattle.con_link.specs.Frames.{spelling}
 use Rattle.con_link.specs.LinkReading.{plainly, mirrored, is_part_of_bytes, is_sized, AnswersBy, ShowsBy}
 use Rattle.con_link.specs.LinkReading as reading
 use Rattle.con_link.specs.Mirrored.{mirror_spelling}

@@ -7,7 +7,8 @@ use Rattle.con_events.specs.declared.script.Step.{Step}
 use Rattle.con_handlers.specs.Memory.{Memory}
 use Rattle.con_machine.specs.Client.{Client, Stance, GoesOn, MayLeave, MustLeave, Gone, MayBy, entered}
 use Rattle.con_machine.specs.History.{run}
-use Rattle.con_laws.specs.Rounds.{Begun, IsTurn, client_at}
+use Rattle.con_laws.specs.Rounds.{Begun, client_at}
+use Rattle.con_laws.specs.RoundWords.{IsTurn}
 use Rattle.con_machine.specs.Step.{step, is_ready}
 use Rattle.con_machine.specs.Turns.{Turn, turns, turn_of, is_pending}
 use Rattle.con_session.specs.Desk.{Enters, entry, listed}

@@ -21,7 +21,8 @@ use Rattle.con_machine.specs.Chain.{Handler, with_handler, without_handler, deli
 use Rattle.con_machine.specs.Client.{Client, GoesOn, MayBy, due, next_event, event_of, is_fail, chained, ctrl_exit}
 use Rattle.con_laws.specs.HandlerLaws.{added_first}
 use Rattle.con_machine.specs.History.{run}
-use Rattle.con_laws.specs.Rounds.{Begun, IsTurn, client_at}
+use Rattle.con_laws.specs.Rounds.{Begun, client_at}
+use Rattle.con_laws.specs.RoundWords.{IsTurn}
 use Rattle.con_machine.specs.Step.{step, is_ready}
 use Rattle.con_machine.specs.Turns.{Turn, turns, turn_of, is_pending}
 use Rattle.con_session.specs.Desk.{entry, is_refused, listed}

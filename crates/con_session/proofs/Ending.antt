@@ -17,7 +17,8 @@ use Rattle.con_events.specs.declared.script.Script.{Script}
 use Rattle.con_machine.specs.Follows.{session_start, is_cut, is_lost}
 use Rattle.con_machine.specs.History.{run}
 use Rattle.con_laws.specs.Opens.{WaitsOrGone}
-use Rattle.con_laws.specs.Rounds.{Begun, AreTurns, IsTurn, IsLast, MayFail, SideTurn, all_entries, all_order, clients_from, is_failed, is_memory, is_nobody}
+use Rattle.con_laws.specs.Rounds.{Begun, is_memory}
+use Rattle.con_laws.specs.RoundWords.{AreTurns, IsTurn, IsLast, MayFail, SideTurn, all_entries, all_order, clients_from, is_failed, is_nobody}
 use Rattle.con_machine.specs.State.{State}
 use Rattle.con_machine.specs.Step.{is_ready}
 use Rattle.con_machine.specs.Turns.{sent, has_ended, paints}

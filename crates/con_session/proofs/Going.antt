@@ -18,7 +18,8 @@ use Rattle.con_events.specs.declared.reply.Reply.{Reply}
 use Rattle.con_events.specs.declared.script.Script.{Script}
 use Rattle.con_machine.specs.Follows.{are_of_session, is_one_of}
 use Rattle.con_machine.specs.History.{run}
-use Rattle.con_laws.specs.Rounds.{Begun, AreTurns, IsTurn, clients_from, all_order, round_entries, entry_of, is_nobody, is_failed}
+use Rattle.con_laws.specs.Rounds.{Begun}
+use Rattle.con_laws.specs.RoundWords.{AreTurns, IsTurn, clients_from, all_order, round_entries, entry_of, is_nobody, is_failed}
 use Rattle.con_machine.specs.State.{State}
 use Rattle.con_machine.specs.Turns.{paints, sent, has_ended, is_terminal, is_paint}
 use Rattle.con_session.specs.Desk.{Rests, Stands, entry}

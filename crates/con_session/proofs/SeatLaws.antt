@@ -15,7 +15,8 @@ use Rattle.con_events.specs.declared.script.Step.{Step}
 use Rattle.con_handlers.specs.Memory.{Memory}
 use Rattle.con_machine.specs.Client.{Client, Stance, GoesOn, MayLeave, MustLeave, Gone, MayBy}
 use Rattle.con_laws.specs.RoundLaws.{turns_more, entries_more, broken_off}
-use Rattle.con_laws.specs.Rounds.{Begun, AreTurns, IsTurn, clients_from, client_at, entry_of, round_entries, is_nobody}
+use Rattle.con_laws.specs.Rounds.{Begun, client_at}
+use Rattle.con_laws.specs.RoundWords.{AreTurns, IsTurn, clients_from, entry_of, round_entries, is_nobody}
 use Rattle.con_machine.specs.State.{State}
 use Rattle.con_machine.specs.Turns.{is_client}
 use Rattle.con_session.specs.Desk.{Enters, Rests, Stands, entry}

@@ -17,7 +17,8 @@ use Rattle.con_events.specs.declared.script.Script.{Script}
 use Rattle.con_machine.specs.Follows.{are_of_session, is_one_of}
 use Rattle.con_machine.specs.History.{run, is_legal}
 use Rattle.con_machine.specs.HistoryLaws.{legal-append}
-use Rattle.con_laws.specs.Rounds.{Begun, clients_from, entry_of, round_entries, is_nobody, IsTurn}
+use Rattle.con_laws.specs.Rounds.{Begun}
+use Rattle.con_laws.specs.RoundWords.{clients_from, entry_of, round_entries, is_nobody, IsTurn}
 use Rattle.con_machine.specs.State.{State}
 use Rattle.con_machine.specs.Step.{is_ready}
 use Rattle.con_machine.specs.Turns.{moved, paints, is_paint, is_terminal}

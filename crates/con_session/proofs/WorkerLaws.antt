@@ -14,7 +14,8 @@ use Rattle.con_readers.specs.Reads.{is_open, has_done}
 use Rattle.con_machine.specs.Chain.{delivered_to, is_handled}
 use Rattle.con_machine.specs.Client.{Client, Stance, GoesOn, MayLeave, MustLeave, Gone, MayBy, MayGoOn, took, verdict, due, next_event, ctrl_exit}
 use Rattle.con_machine.specs.History.{run}
-use Rattle.con_laws.specs.Rounds.{Begun, IsTurn, ClientTurnBy, client_turn, client_at}
+use Rattle.con_laws.specs.Rounds.{Begun, client_turn, client_at}
+use Rattle.con_laws.specs.RoundWords.{IsTurn, ClientTurnBy}
 use Rattle.con_machine.specs.State.{State}
 use Rattle.con_machine.specs.Step.{step, is_ready, is_due}
 use Rattle.con_machine.specs.Turns.{turns, is_pending}

@@ -9,7 +9,8 @@ use Rattle.con_events.specs.declared.script.Step.{Step}
 use Rattle.con_handlers.specs.Memory.{Memory}
 use Rattle.con_machine.specs.Client.{MayBy, next_event}
 use Rattle.con_machine.specs.History.{run}
-use Rattle.con_laws.specs.Rounds.{Begun, IsTurn, client_at}
+use Rattle.con_laws.specs.Rounds.{Begun, client_at}
+use Rattle.con_laws.specs.RoundWords.{IsTurn}
 use Rattle.con_machine.specs.Step.{is_ready}
 use Rattle.con_session.specs.Desk.{entry}
 use Rattle.con_session.specs.Door.{Saw}

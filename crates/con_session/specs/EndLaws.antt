@@ -32,7 +32,8 @@ use Rattle.con_machine.specs.Client.{Client, Stance, GoesOn, MayLeave, MustLeave
 use Rattle.con_machine.specs.Follows.{are_of_session, FollowsLink, MayAct, asks, session_start, is_cut, is_lost, sent_by}
 use Rattle.con_machine.specs.History.{run, is_legal, replies_of}
 use Rattle.con_laws.specs.Opens.{WaitsOrGone}
-use Rattle.con_laws.specs.Rounds.{Begun, ClientTurn, ClientTurnBy, IsTurn, client_at}
+use Rattle.con_laws.specs.Rounds.{Begun, client_at}
+use Rattle.con_laws.specs.RoundWords.{ClientTurn, ClientTurnBy, IsTurn}
 use Rattle.con_laws.specs.ShowingLaws.{painted_shows}
 use Rattle.con_machine.specs.Sights.{sights_of}
 use Rattle.con_machine.specs.State.{State}

@@ -13,7 +13,8 @@ use Rattle.con_events.specs.declared.event.Event.TheVariants as events
 use Rattle.con_machine.specs.History.{run}
 use Rattle.con_machine.specs.Marks.{AreMarks, IsSameRow}
 use Rattle.con_machine.specs.Painting.{view_now, is_fresh}
-use Rattle.con_laws.specs.Rounds.{Begun, IsTurn, is_failed}
+use Rattle.con_laws.specs.Rounds.{Begun}
+use Rattle.con_laws.specs.RoundWords.{IsTurn, is_failed}
 use Rattle.con_machine.specs.State.{State}
 use Rattle.con_machine.specs.Step.{is_ready}
 use Rattle.con_machine.specs.Turns.{paints}

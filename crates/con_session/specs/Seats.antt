@@ -6,7 +6,8 @@ use Rattle.con_events.specs.declared.event.Event.{Event}
 use Rattle.con_events.specs.declared.reply.Reply.{Reply}
 use Rattle.con_events.specs.declared.script.Script.{Script}
 use Rattle.con_handlers.specs.Memory.{Memory}
-use Rattle.con_laws.specs.Rounds.{Begun, AreTurns, clients_from, round_entries, is_nobody}
+use Rattle.con_laws.specs.Rounds.{Begun}
+use Rattle.con_laws.specs.RoundWords.{AreTurns, clients_from, round_entries, is_nobody}
 use Rattle.con_machine.specs.State.{State}
 use Rattle.con_session.specs.Desk.{Stands}
 use Rattle.con_session.specs.Standing.{ClientStands}

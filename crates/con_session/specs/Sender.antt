@@ -17,7 +17,8 @@ use Rattle.con_events.specs.declared.event.Event.TheVariants as events
 use Rattle.con_events.specs.declared.reply.Reply.{Reply}
 use Rattle.con_machine.specs.Along.{after}
 use Rattle.con_machine.specs.Follows.{FollowsLink, sent_one, sent_by, is_cut}
-use Rattle.con_laws.specs.Rounds.{Begun, IsTurn, is_failed}
+use Rattle.con_laws.specs.Rounds.{Begun}
+use Rattle.con_laws.specs.RoundWords.{IsTurn, is_failed}
 use Rattle.con_machine.specs.State.{State}
 use Rattle.con_machine.specs.Step.{is_ready}
 use Rattle.con_machine.specs.Turns.{sent, has_ended}

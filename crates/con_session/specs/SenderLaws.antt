@@ -14,7 +14,8 @@ use Rattle.con_events.specs.declared.event.Event.TheVariants as events
 use Rattle.con_machine.specs.Along.{after, Along}
 use Rattle.con_machine.specs.Follows.{FollowsLink, Sender, MaySend, sent_one, sent_by}
 use Rattle.con_machine.specs.HistoryLaws.{after-append, along-one, sent-other, sent-own, has_ended-one}
-use Rattle.con_laws.specs.Rounds.{Begun, IsTurn, SideTurn, is_failed}
+use Rattle.con_laws.specs.Rounds.{Begun}
+use Rattle.con_laws.specs.RoundWords.{IsTurn, SideTurn, is_failed}
 use Rattle.con_machine.specs.State.{State}
 use Rattle.con_machine.specs.Step.{is_ready, is_due}
 use Rattle.con_machine.specs.Turns.{sent, is_terminal, is_last_sent, has_ended, paints}

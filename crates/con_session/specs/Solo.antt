@@ -14,7 +14,8 @@ use Rattle.con_events.specs.declared.script.Script.{Script}
 use Rattle.con_machine.specs.Along.{after}
 use Rattle.con_machine.specs.Follows.{AreAnswered, asks, are_of_session, session_start}
 use Rattle.con_machine.specs.History.{run, is_legal, replies_of}
-use Rattle.con_laws.specs.Rounds.{Begun, AreTurns, AreRounds, all_entries, all_order, round_entries, is_nobody}
+use Rattle.con_laws.specs.Rounds.{Begun}
+use Rattle.con_laws.specs.RoundWords.{AreTurns, AreRounds, all_entries, all_order, round_entries, is_nobody}
 use Rattle.con_machine.specs.State.{State}
 use Rattle.con_machine.specs.Turns.{paints}
 use Rattle.con_session.specs.Desk.{Stands, listed}

@@ -15,7 +15,8 @@ use Rattle.con_machine.specs.Added.{has_added}
 use Rattle.con_machine.specs.Chain.{Handler}
 use Rattle.con_machine.specs.Client.{Client, Stance, GoesOn, MayLeave, MustLeave, Gone, MayBy}
 use Rattle.con_machine.specs.History.{run}
-use Rattle.con_laws.specs.Rounds.{Begun, IsTurn, client_at}
+use Rattle.con_laws.specs.Rounds.{Begun, client_at}
+use Rattle.con_laws.specs.RoundWords.{IsTurn}
 use Rattle.con_machine.specs.State.{State}
 use Rattle.con_machine.specs.Step.{is_ready}
 use Rattle.con_machine.specs.Turns.{Turn, turns}

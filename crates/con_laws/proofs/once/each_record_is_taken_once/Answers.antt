@@ -3,6 +3,7 @@ use Rattle.con_laws.proofs.once.each_record_is_taken_once.Goals as goal
 
 pub returns-clause-console : goal.returns-clause-console
 returns-clause-console c = once (record {
+  serving = c.serving_loses_nothing.ensures;
   whole = c.no_record_is_lost.ensures.records;
   each = c.no_record_is_lost.ensures.fates;
   records = c.a_read_answers_the_records_of_its_fate.ensures;
@@ -15,6 +16,7 @@ returns-clause-console c = once (record {
 
 pub returns-clause-session : goal.returns-clause-session
 returns-clause-session c = session_once (record {
+  serving = c.serving_loses_nothing.ensures;
   whole = c.no_record_is_lost.ensures.records;
   each = c.no_record_is_lost.ensures.fates;
   records = c.a_read_answers_the_records_of_its_fate.ensures;
