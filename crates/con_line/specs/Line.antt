@@ -1,7 +1,7 @@
 -- The text of an edited line, and what each key does to it.
 use Rattle.std.specs.Prelude.{ℕ, zero, suc, ◌+◌, ◌-◌, ◌≤◌, Bool, not, nat_eq, nat_lt, ◌==◌, ◌&&◌, List, [], ◌++◌, length, take, drop, insert, remove, slice_set, slice_index, min, if◌then◌else◌}
 use Rattle.std.specs.List.{prefix_len, common_prefix_len}
-use Rattle.con_units.specs.Units.{is_space}
+use Rattle.con_units.specs.Units.{is_space, is_other}
 use Rattle.con_line.specs.declared.press.Press.{Press}
 use Rattle.con_line.specs.declared.press.Press.TheVariants as key
 use Rattle.con_line.specs.declared.edit.Edit.{Edit}
@@ -54,8 +54,8 @@ abbrev pub pressed : LineText → Press → List ℕ → LineText
 pressed l (key.Unit u) recalled = typed l u
 pressed l key.Left recalled = record l { caret = l.caret - 1 }
 pressed l key.Right recalled = record l { caret = min (l.caret + 1) (length l.units) }
-pressed l key.WordLeft recalled = record l { caret = back_while (λ u. not (is_space u)) l.units (back_while is_space l.units l.caret) }
-pressed l key.WordRight recalled = record l { caret = on_while is_space l.units (on_while (λ u. not (is_space u)) l.units l.caret) }
+pressed l key.WordLeft recalled = record l { caret = back_while is_other l.units (back_while is_space l.units l.caret) }
+pressed l key.WordRight recalled = record l { caret = on_while is_space l.units (on_while is_other l.units l.caret) }
 pressed l key.Home recalled = record l { caret = 0 }
 pressed l key.End recalled = record l { caret = length l.units }
 pressed l key.Back recalled = if l.caret == 0 then l else erased_at l (l.caret - 1)
