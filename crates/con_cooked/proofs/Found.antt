@@ -3,7 +3,8 @@ use Rattle.std.proofs.Common.{◌≡◌, ℕ, zero, suc, ◌+◌, ◌-◌, ◌<�
 use Rattle.std.specs.List.{starts_with}
 use Rattle.std.specs.Cmp.Lexicographic.{pointwise}
 use Rattle.std.proofs.lemmas.List.{length-take}
-use Rattle.con_history.specs.Histories.{found, last_that_begins, or_else}
+use Rattle.con_history.specs.Histories.{found, last_that_begins}
+use Rattle.std.specs.Option.{option_or}
 
 both_true : (p q : Bool) → (p && q) ≡ true → q ≡ true
 both_true true q h = h
@@ -43,7 +44,7 @@ last-found start lines low (suc n) high k fits h =
     last_step (starts_with nat_eq (get_or lines (low + n) []) start) start lines (low + n) high k (last_that_begins start lines low n) refl within
     (last-found start lines low n high k less) h
 
-or_step : (o p : Option ℕ) (k : ℕ) (P : Type 0) → (o ≡ Some k → P) → (p ≡ Some k → P) → or_else o p ≡ Some k → P
+or_step : (o p : Option ℕ) (k : ℕ) (P : Type 0) → (o ≡ Some k → P) → (p ≡ Some k → P) → option_or o p ≡ Some k → P
 or_step (Some j) p k P first second h = first h
 or_step None p k P first second h = second h
 

@@ -1,2 +1,4 @@
+pub mod Finishing
 pub mod Found
+pub mod Table
 pub mod Waking

@@ -1,5 +1,5 @@
 -- What wakes a read, and a read that nothing wakes.
-use Rattle.std.proofs.Common.{◌≡◌, ℕ, ◌+◌, ◌-◌, ◌^◌, ◌≤◌, ◌==◌, ◌&&◌, not, nat_lt, nat_eq, Bool, true, false, cond, List, [], ◌∷◌, ◌++◌, length, fold, refl, sym, ap, ◌∙◌, arith}
+use Rattle.std.proofs.Common.{◌≡◌, ℕ, ◌+◌, ◌-◌, ◌/◌, ◌%◌, ◌^◌, ◌≤◌, ◌==◌, ◌&&◌, not, nat_lt, nat_eq, Bool, true, false, cond, List, [], ◌∷◌, ◌++◌, length, fold, refl, sym, ap, ◌∙◌, arith}
 use Rattle.std.proofs.lemmas.Bool.{eq-eqb}
 use Rattle.std.proofs.lemmas.Bool.Decides.{nat_tests}
 use Rattle.std.proofs.Math.Nat.{zero-div}
@@ -9,8 +9,10 @@ use Rattle.con_units.specs.Units.{first_difference}
 use Rattle.con_line.specs.Line.{LineText}
 use Rattle.con_history.specs.Histories.{LineHistories, added_to}
 use Rattle.con_cooked.specs.Keys.{key_of}
-use Rattle.con_cooked.specs.Mask.{has_bit, is_masked, is_down, unit_of, waking_unit}
-use Rattle.con_cooked.specs.Cooked.{Edited, Moment, CookedRead, key_pressed, pressed_at, opened, woken_after, woken_by, line_of, line_after, after_press, is_return, echo_between, progress_of, lines_for, split_by}
+use Rattle.con_cooked.specs.Mask.{is_masked, typed_unit}
+use Rattle.con_cooked.specs.Parts.{waking_unit}
+use Rattle.con_cooked.specs.Cooked.{Edited, Moment, CookedRead, key_pressed, woken_by, line_of, after_press, is_return, echo_between, progress_of}
+use Rattle.con_cooked.specs.Parts.{pressed_at, opened, woken_after, line_after, lines_for, split_by}
 use Rattle.con_cooked.specs.Laws.{IsPlain, DrawsBehind, BeginsWith}
 use Rattle.con_line.specs.declared.edit.Edit.{Edit}
 use Rattle.con_cooked.specs.declared.keys.LineKey.{LineKey}
@@ -18,29 +20,28 @@ use Rattle.con_cooked.specs.declared.progress.Echo.{Echo}
 use Rattle.con_cooked.specs.declared.progress.Progress.{Progress}
 use Rattle.con_cooked.specs.declared.progress.Progress.TheVariants as progress
 
-waking_step : (d p q r : Bool) (u : ℕ) → nat_lt 0 u ≡ p → (cond (d && (p && q && r)) u 0 == 0) ≡ not (d && (p && q && r))
-waking_step false p q r u h = refl
-waking_step true false q r u h = refl
-waking_step true true false r u h = refl
-waking_step true true true false u h = refl
-waking_step true true true true u h = grind (arith, nat_tests)
+waking_step : (p q r : Bool) (u : ℕ) → nat_lt 0 u ≡ p → (cond (p && q && r) u 0 == 0) ≡ not (p && q && r)
+waking_step false q r u h = refl
+waking_step true false r u h = refl
+waking_step true true false u h = refl
+waking_step true true true u h = grind (arith, nat_tests)
 
 -- the unit is 0 exactly where the record is not masked
 pub waking-none : (mask : ℕ) (one : Record) → (waking_unit mask one == 0) ≡ not (is_masked mask one)
-waking-none mask one = waking_step (is_down one) (nat_lt 0 (unit_of one)) (nat_lt (unit_of one) 32) (has_bit mask (unit_of one)) (unit_of one) refl
+waking-none mask one = waking_step (nat_lt 0 (typed_unit one)) (nat_lt (typed_unit one) 32) ((mask / 2 ^ typed_unit one) % 2 == 1) (typed_unit one) refl
 
-no_bit : (k : ℕ) → has_bit 0 k ≡ false
+no_bit : (k : ℕ) → ((0 / 2 ^ k) % 2 == 1) ≡ false
 no_bit k = rw (zero-div (2 ^ k)) refl
 
-no_masked : (d p q r : Bool) → r ≡ false → (d && (p && q && r)) ≡ false
-no_masked false p q r h = refl
-no_masked true false q r h = refl
-no_masked true true false r h = refl
-no_masked true true true r h = h
+no_masked : (p q r : Bool) → r ≡ false → (p && q && r) ≡ false
+no_masked false q r h = refl
+no_masked true false r h = refl
+no_masked true true r h = h
 
 not_masked : (mask : ℕ) → mask ≡ 0 → (one : Record) → is_masked mask one ≡ false
 not_masked mask none one =
-    no_masked (is_down one) (nat_lt 0 (unit_of one)) (nat_lt (unit_of one) 32) (has_bit mask (unit_of one)) (ap (λ m. has_bit m (unit_of one)) none ∙ no_bit (unit_of one))
+    no_masked (nat_lt 0 (typed_unit one)) (nat_lt (typed_unit one) 32) ((mask / 2 ^ typed_unit one) % 2 == 1)
+    (ap (λ m. (m / 2 ^ typed_unit one) % 2 == 1) none ∙ no_bit (typed_unit one))
 
 abbrev by_table : Edited → Moment → Edited
 by_table e m = key_pressed e (key_of m.pressed) m.lines
@@ -51,7 +52,7 @@ plain_fold mask none e (m ∷ ms) = ap (λ b. fold (pressed_at mask) (cond b e (
 
 unwoken : (mask : ℕ) → ((one : Record) → is_masked mask one ≡ false) → (ms : List Moment) → woken_after mask ms ≡ 0
 unwoken mask none [] = refl
-unwoken mask none (m ∷ ms) = ap (λ b. fold (λ (before : ℕ) (n : Moment). waking_unit mask n.pressed) (cond b (unit_of m.pressed) 0) ms) (none m.pressed) ∙ unwoken mask none ms
+unwoken mask none (m ∷ ms) = ap (λ b. fold (λ (before : ℕ) (n : Moment). waking_unit mask n.pressed) (cond b (typed_unit m.pressed) 0) ms) (none m.pressed) ∙ unwoken mask none ms
 
 pub plain-reading : (r : CookedRead) → r.mask ≡ 0 → IsPlain r
 plain-reading r zero_mask =

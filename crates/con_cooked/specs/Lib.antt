@@ -2,5 +2,7 @@
 pub mod Keys
 pub mod Mask
 pub mod Cooked
+-- The code's own words.
+pub mod Parts
 -- What follows from them, and is the contract of the functions of `laws`.
 pub mod Laws

@@ -3,7 +3,8 @@ ghost use Rattle.std.specs.Prelude.{◌≡◌, ℕ, ◌+◌, ◌-◌, ◌≤◌,
 ghost use Rattle.con_line.specs.Line.{LineText};
 ghost use Rattle.con_history.specs.Histories.{lines_of};
 ghost use Rattle.con_alias.specs.Aliases.{has_control};
-ghost use Rattle.con_cooked.specs.Cooked.{CookedRead, Moment, line_of, is_return, after_press, progress_of, answer_of, histories_after, split_by, lines_for};
+ghost use Rattle.con_cooked.specs.Cooked.{CookedRead, Moment, line_of, is_return, after_press, progress_of, answer_of, histories_after};
+ghost use Rattle.con_cooked.specs.Parts.{split_by, lines_for};
 
 use crate::keys::{LineKey, is_return, read_key};
 use crate::mask::waking_unit;
@@ -38,7 +39,8 @@ pub struct Cooked {
 
 impl Model for Cooked {
     ghost use Rattle.std.specs.Prelude.{◌≡◌, ◌≤◌, [], vec_capacity};
-    ghost use Rattle.con_cooked.specs.Cooked.{CookedRead, opened, line_after, woken_after};
+    ghost use Rattle.con_cooked.specs.Cooked.{CookedRead};
+    ghost use Rattle.con_cooked.specs.Parts.{opened, line_after, woken_after};
 
     ghost Value = { CookedRead };
 

@@ -1,6 +1,7 @@
 //! Which record is which key.
 ghost use Rattle.std.specs.Prelude.{◌≡◌};
-ghost use Rattle.con_cooked.specs.Keys.{arrow_of, page_of, edit_of, code_of, key_of, key_in, is_typed};
+ghost use Rattle.con_cooked.specs.Keys.{key_of};
+ghost use Rattle.con_cooked.specs.Parts.{arrow_of, page_of, edit_of, code_of, key_in, is_typed};
 ghost use Rattle.con_cooked.specs.Cooked.{is_return};
 
 use con_records::{Key, Record};
@@ -119,6 +120,7 @@ fn key(pressed: &Key) -> LineKey
 }
 
 /// The key that a record is; only key-downs act.
+#[tactic(auto, using(crate::proofs::Table::key_read))]
 pub fn read_key(pressed: &Record) -> LineKey
     ensures { result ≡ key_of pressed.now }
 {

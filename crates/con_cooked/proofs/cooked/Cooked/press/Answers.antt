@@ -5,7 +5,8 @@ use Rattle.con_line.specs.declared.edit.Edit.{Edit}
 use Rattle.con_history.specs.Histories.{lines_of}
 use Rattle.con_cooked.specs.Keys.{key_of}
 use Rattle.con_cooked.specs.Mask.{is_masked}
-use Rattle.con_cooked.specs.Cooked.{Edited, Moment, CookedRead, opened, line_after, key_pressed, echo_between}
+use Rattle.con_cooked.specs.Cooked.{Edited, Moment, CookedRead, key_pressed, echo_between}
+use Rattle.con_cooked.specs.Parts.{opened, line_after}
 use Rattle.con_cooked.specs.declared.keys.LineKey.{LineKey}
 use Rattle.con_cooked.proofs.Waking.{not-masked_of, pressed-unmasked, woken-last, progress-unmasked, echo_of}
 use Rattle.con_cooked.proofs.cooked.Cooked.press.Goals as goal
