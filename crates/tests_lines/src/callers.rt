@@ -1,7 +1,8 @@
 //! Callers with variables: what a crate above does with the promises, with no proof of its own.
 ghost use Rattle.std.specs.Prelude.{◌≡◌, ◌≤◌, ◌<◌, ℕ, List, ◌∷◌, true, length, slice_get, Some, IfOk, IfSome, OnOk};
 ghost use Rattle.con_alias.specs.Aliases.{AliasList, added, add_answer, has_control};
-ghost use Rattle.con_cooked.specs.Cooked.{line_of, lines_for, answer_of, echo_between};
+ghost use Rattle.con_cooked.specs.Cooked.{line_of, answer_of, echo_between};
+ghost use Rattle.con_cooked.specs.Parts.{lines_for};
 ghost use Rattle.con_readers.specs.Act.{ended, woke};
 ghost use Rattle.con_readers.specs.Distinct.{AreDistinct};
 ghost use Rattle.con_readers.specs.Pieces.{front};
