@@ -11,7 +11,7 @@ use Rattle.con_cooked.specs.declared.progress.Progress.TheVariants as progress
 use Rattle.con_readers.specs.Wants.{units_of}
 use Rattle.con_readers.specs.Lines.{line_after, line_progress}
 use Rattle.con_readers.specs.Act.{Act, began}
-use Rattle.con_readers.specs.Serving.{Took, took, took_units, took_one, is_done, Served, served, served_line, served_on, served_at_once}
+use Rattle.con_readers.specs.Serving.{Took, took, took_units, took_one, is_done, Served, served, served_line, served_on, given_units}
 use Rattle.con_readers.specs.Reads.{Pumped, pumped, Moved, moved, Settled, settled, before, settled_after}
 use Rattle.con_readers.specs.declared.open.OpenRead.{OpenRead}
 use Rattle.con_readers.specs.declared.open.OpenRead.TheVariants as reads
@@ -31,7 +31,7 @@ line-step p al line line' rs hs (progress.Going echo) = (_, (refl, refl))
 line-step p al line line' rs hs (progress.Done echo) = (_, (refl, refl))
 line-step p al line line' rs hs progress.Woken = (_, (refl, refl))
 
-units-step : (p n : ℕ) (al : List AliasList) (rs : List Record) (hs : Histories) (us : List ℕ) → Begins p al (took_units p n rs hs us) (served_at_once (took_units p n rs hs us))
+units-step : (p n : ℕ) (al : List AliasList) (rs : List Record) (hs : Histories) (us : List ℕ) → Begins p al (took_units p n rs hs us) (given_units p n rs hs us)
 unfolding Begins served on_from
 units-step p n al rs hs [] = (_, (refl, refl))
 units-step p n al rs hs (u ∷ us) = (_, (refl, refl))

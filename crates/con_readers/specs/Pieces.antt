@@ -1,5 +1,5 @@
 -- What each read takes while the reads are served: fronts of the records that are there, one after another.
-use Rattle.std.specs.Prelude.{ℕ, ◌-◌, List, [], ◌∷◌, ◌++◌, length, take, if◌then◌else◌}
+use Rattle.std.specs.Prelude.{ℕ, ◌-◌, List, [], ◌∷◌, flat_map, length, take, if◌then◌else◌}
 use Rattle.con_records.specs.declared.record.Record.{Record}
 use Rattle.con_history.specs.declared.histories.Histories.{Histories}
 use Rattle.con_alias.specs.Aliases.{AliasList}
@@ -19,5 +19,4 @@ pieces_of al (o ∷ os) rs hs =
 
 -- all records of the pieces
 unfoldable pub joined : {A : Type 0} → List (A × List Record) → List Record
-joined [] = []
-joined (p ∷ ps) = p.1 ++ joined ps
+joined ps = flat_map (λ p. p.1) ps

@@ -1,6 +1,7 @@
 -- The list of reads, one step of it, and all steps until none is left.
 use Rattle.std.specs.Prelude.{ℕ, zero, suc, ◌+◌, ◌==◌, ◌&&◌, Bool, true, false, not, List, [], ◌∷◌, ◌++◌, length, map, slice_get, if◌then◌else◌, Option, Some, None}
 use Rattle.std.specs.List.{list_any, remove, position_or_len}
+use Rattle.std.specs.Option.{option_map_or}
 use Rattle.con_units.specs.declared.code.Code.{Code}
 use Rattle.con_units.specs.declared.code.Code.TheVariants as code
 use Rattle.con_records.specs.declared.record.Record.{Record}
@@ -15,14 +16,102 @@ use Rattle.con_readers.specs.declared.open.OpenRead.{OpenRead}
 use Rattle.con_readers.specs.declared.open.OpenRead.TheVariants as reads
 use Rattle.con_readers.specs.declared.open.Open.{Open}
 
+-- a read that has just begun
+abbrev pub begun : ℕ → OpenRead → Open
+begun process read = record { process = process; started = false; read = read }
+
+-- the reads when nothing more can be served, what is left of the records, the histories, and what happened in order
+pub record Settled : Type 0 where
+  pub reads : List Open
+  pub records : List Record
+  pub histories : Histories
+  pub acts : List Act
+
+-- the first read that is not done takes records until it is done or none is left, then the next one follows
+unfoldable pub settled : List AliasList → List Open → List Record → Histories → Settled
+settled al [] rs hs = record { reads = []; records = rs; histories = hs; acts = [] }
+settled al (o ∷ os) rs hs =
+    if is_done o.read then (let t = settled al os rs hs in record t { reads = o ∷ t.reads })
+    else (let s = served o.process al o.read rs hs in
+    let one : Open = record o { read = s.read; started = true } in
+    let acts : List Act = if o.started then s.acts else began o.process ∷ s.acts in
+    if is_done s.read
+    then (let t = settled al os s.records s.histories in record { reads = one ∷ t.reads; records = t.records; histories = t.histories; acts = acts ++ t.acts })
+    else record { reads = one ∷ os; records = s.records; histories = s.histories; acts = acts })
+
+-- where the process's read stands, or how many there are
+abbrev pub place_of : List Open → ℕ → ℕ
+place_of os p = position_or_len (λ o. o.process == p) os
+
+abbrev pub is_open : List Open → ℕ → Bool
+is_open os p = list_any (λ o. o.process == p) os
+
+-- the process's read is done
+abbrev pub has_done : List Open → ℕ → Bool
+has_done os p = option_map_or (λ o. is_done o.read) (slice_get os (place_of os p)) false
+
+-- the process has a read that is not done
+abbrev pub has_undone : List Open → ℕ → Bool
+has_undone os p = option_map_or (λ o. not (is_done o.read)) (slice_get os (place_of os p)) false
+
+abbrev pub without : List Open → ℕ → List Open
+without os p = remove os (place_of os p)
+
+abbrev pub answer_of : OpenRead → Answer
+answer_of (reads.Done a) = a
+answer_of _ = answers.Fail code.Closed
+
+abbrev pub answer_in : Option Open → Answer
+answer_in o = option_map_or (λ o. answer_of o.read) o (answers.Fail code.Closed)
+
+abbrev pub failed : Code → Open → Open
+failed why o = record o { read = reads.Done (answers.Fail why) }
+
+-- each read that is not done ends, since the console closes
+abbrev pub all_closed : List Open → List Open
+all_closed os = map (λ o. if is_done o.read then o else failed code.Closed o) os
+
+abbrev pub changed_at : (Open → Open) → List Open → ℕ → List Open
+changed_at f [] k = []
+changed_at f (o ∷ os) zero = f o ∷ os
+changed_at f (o ∷ os) (suc k) = o ∷ changed_at f os k
+
+-- the first line read that is not done ends by ctrl+C
+abbrev pub line_aborted : List Open → List Open
+line_aborted os = changed_at (failed code.Aborted) os (position_or_len (λ o. is_line o.read) os)
+
+-- The words below are the code's own and those of proofs: what the words above say of one read, and one step at a time.
+
+abbrev pub is_of : ℕ → Open → Bool
+is_of p o = o.process == p
+
+abbrev pub done_in : Option Open → Bool
+done_in o = option_map_or (λ o. is_done o.read) o false
+
+abbrev pub undone_in : Option Open → Bool
+undone_in o = option_map_or (λ o. not (is_done o.read)) o false
+
+-- the answer of a read that is done
+abbrev pub answered : OpenRead → Option Answer
+answered (reads.Done a) = Some a
+answered _ = None
+
+abbrev pub answered_in : Option Open → Option Answer
+answered_in o = option_map_or (λ o. answered o.read) o None
+
+abbrev pub first_acts : Open → List Act → List Act
+first_acts o acts = if o.started then acts else began o.process ∷ acts
+
+abbrev pub closed_one : Open → Open
+closed_one o = if is_done o.read then o else failed code.Closed o
+
+abbrev pub is_open_line : Open → Bool
+is_open_line o = is_line o.read
+
 -- the open reads in the order in which they began, and for how many more there is room
 pub record Queued : Type 0 where
   pub reads : List Open
   pub spare : ℕ
-
--- a read that has just begun
-abbrev pub begun : ℕ → OpenRead → Open
-begun process read = record { process = process; started = false; read = read }
 
 pub record Moved : Type 0 where
   pub one : Open
@@ -68,28 +157,6 @@ abbrev pub is_at_rest : List Open → List Record → Bool
 is_at_rest [] rs = true
 is_at_rest (o ∷ os) rs = if is_done o.read then is_at_rest os rs else (o.started && is_none_left rs)
 
--- the reads when nothing more can be served, what is left of the records, the histories, and what happened in order
-pub record Settled : Type 0 where
-  pub reads : List Open
-  pub records : List Record
-  pub histories : Histories
-  pub acts : List Act
-
-abbrev pub first_acts : Open → List Act → List Act
-first_acts o acts = if o.started then acts else began o.process ∷ acts
-
--- the first read that is not done takes records until it is done or none is left, then the next one follows
-unfoldable pub settled : List AliasList → List Open → List Record → Histories → Settled
-settled al [] rs hs = record { reads = []; records = rs; histories = hs; acts = [] }
-settled al (o ∷ os) rs hs =
-    if is_done o.read then (let t = settled al os rs hs in record t { reads = o ∷ t.reads })
-    else (let s = served o.process al o.read rs hs in
-    let one : Open = record o { read = s.read; started = true } in
-    if is_done s.read
-    then (let t = settled al os s.records s.histories in
-    record { reads = one ∷ t.reads; records = t.records; histories = t.histories; acts = first_acts o s.acts ++ t.acts })
-    else record { reads = one ∷ os; records = s.records; histories = s.histories; acts = first_acts o s.acts })
-
 unfoldable pub before : Act → Settled → Settled
 before a t = record t { acts = a ∷ t.acts }
 
@@ -119,74 +186,3 @@ text_in (reads.Done a) = []
 abbrev pub head_text : List Open → List ℕ
 head_text [] = []
 head_text (o ∷ os) = if is_done o.read then head_text os else text_in o.read
-
-abbrev pub is_of : ℕ → Open → Bool
-is_of p o = o.process == p
-
-abbrev pub place_of : List Open → ℕ → ℕ
-place_of os p = position_or_len (is_of p) os
-
-abbrev pub done_in : Option Open → Bool
-done_in None = false
-done_in (Some o) = is_done o.read
-
-abbrev pub undone_in : Option Open → Bool
-undone_in None = false
-undone_in (Some o) = not (is_done o.read)
-
-abbrev pub is_open : List Open → ℕ → Bool
-is_open os p = list_any (is_of p) os
-
--- the process's read is done
-abbrev pub has_done : List Open → ℕ → Bool
-has_done os p = done_in (slice_get os (place_of os p))
-
--- the process has a read that is not done
-abbrev pub has_undone : List Open → ℕ → Bool
-has_undone os p = undone_in (slice_get os (place_of os p))
-
-abbrev pub without : List Open → ℕ → List Open
-without os p = remove os (place_of os p)
-
-abbrev pub answer_of : OpenRead → Answer
-answer_of (reads.Done a) = a
-answer_of (reads.Line l) = answers.Fail code.Closed
-answer_of (reads.Units n) = answers.Fail code.Closed
-answer_of (reads.Records n) = answers.Fail code.Closed
-
-abbrev pub answer_in : Option Open → Answer
-answer_in None = answers.Fail code.Closed
-answer_in (Some o) = answer_of o.read
-
--- the answer of a read that is done
-abbrev pub answered : OpenRead → Option Answer
-answered (reads.Done a) = Some a
-answered (reads.Line l) = None
-answered (reads.Units n) = None
-answered (reads.Records n) = None
-
-abbrev pub answered_in : Option Open → Option Answer
-answered_in None = None
-answered_in (Some o) = answered o.read
-
-abbrev pub failed : Code → Open → Open
-failed why o = record o { read = reads.Done (answers.Fail why) }
-
-abbrev pub closed_one : Open → Open
-closed_one o = if is_done o.read then o else failed code.Closed o
-
--- each read that is not done ends, since the console closes
-abbrev pub all_closed : List Open → List Open
-all_closed os = map closed_one os
-
-abbrev pub changed_at : (Open → Open) → List Open → ℕ → List Open
-changed_at f [] k = []
-changed_at f (o ∷ os) zero = f o ∷ os
-changed_at f (o ∷ os) (suc k) = o ∷ changed_at f os k
-
-abbrev pub is_open_line : Open → Bool
-is_open_line o = is_line o.read
-
--- the first line read that is not done ends by ctrl+C
-abbrev pub line_aborted : List Open → List Open
-line_aborted os = changed_at (failed code.Aborted) os (position_or_len is_open_line os)

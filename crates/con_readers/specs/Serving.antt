@@ -1,8 +1,9 @@
 -- How one open read is served.
-use Rattle.std.specs.Prelude.{ℕ, Bool, true, false, List, [], ◌∷◌, length, take, drop, Option, Some, None}
+use Rattle.std.specs.Prelude.{ℕ, Bool, true, false, List, [], ◌∷◌, length, take, drop, slice_get, Option, Some, None}
 use Rattle.con_records.specs.declared.record.Record.{Record}
 use Rattle.con_history.specs.declared.histories.Histories.{Histories}
 use Rattle.con_alias.specs.Aliases.{AliasList}
+use Rattle.con_cooked.specs.Cooked.{line_of, after_press, progress_of, answer_of, histories_after}
 use Rattle.con_cooked.specs.declared.cooked.Cooked.{Cooked}
 use Rattle.con_cooked.specs.declared.progress.Progress.{Progress}
 use Rattle.con_cooked.specs.declared.progress.Progress.TheVariants as progress
@@ -15,15 +16,49 @@ use Rattle.con_readers.specs.declared.open.OpenRead.TheVariants as reads
 
 abbrev pub is_done : OpenRead → Bool
 is_done (reads.Done a) = true
-is_done (reads.Line l) = false
-is_done (reads.Units n) = false
-is_done (reads.Records n) = false
+is_done _ = false
 
 abbrev pub is_line : OpenRead → Bool
-is_line (reads.Done a) = false
 is_line (reads.Line l) = true
-is_line (reads.Units n) = false
-is_line (reads.Records n) = false
+is_line _ = false
+
+-- a read after all that the records there do to it, what is left of them, the histories, and what happened in order
+pub record Served : Type 0 where
+  pub read : OpenRead
+  pub records : List Record
+  pub histories : Histories
+  pub acts : List Act
+
+-- a read of n units, where the records have these: it goes on where there are none, and drops the records
+abbrev pub given_units : ℕ → ℕ → List Record → Histories → List ℕ → Served
+given_units p n rs hs [] = record { read = reads.Units n; records = []; histories = hs; acts = passed p ∷ [] }
+given_units p n rs hs (u ∷ us) =
+    record { read = reads.Done (answers.Units (u ∷ us)); records = rest_of n rs; histories = hs; acts = ended p (reads.Units n) 0 ∷ [] }
+
+-- a line that ended by this
+abbrev pub given_line : List AliasList → Cooked → List Record → Histories → Act → Served
+given_line al line rs hs a = record { read = reads.Done (answers.Units (answer_of line al)); records = rs; histories = histories_after line hs; acts = a ∷ [] }
+
+-- a line that took one record, with what later ones do to it where it goes on
+abbrev pub served_on : ℕ → List AliasList → Cooked → Cooked → List Record → Histories → Served → Progress → Served
+served_on p al line line' rs hs later (progress.Going echo) = record later { acts = typed p line line' echo ∷ later.acts }
+served_on p al line line' rs hs later (progress.Done echo) = given_line al line' rs hs (ended p (reads.Line line') (length (line_of line').line.units))
+served_on p al line line' rs hs later progress.Woken = given_line al line' rs hs (woke p line')
+
+-- a line takes records one by one, up to the one that ends it
+abbrev pub served_line : ℕ → List AliasList → Cooked → List Record → Histories → Served
+served_line p al line [] hs = record { read = reads.Line line; records = []; histories = hs; acts = [] }
+served_line p al line (r ∷ rs) hs = served_on p al line (after_press line r hs) rs hs (served_line p al (after_press line r hs) rs hs) (progress_of line r hs)
+
+-- the first read takes records until it is done or none is left
+unfoldable pub served : ℕ → List AliasList → OpenRead → List Record → Histories → Served
+served p al (reads.Line line) rs hs = served_line p al line rs hs
+served p al (reads.Units n) (r ∷ rs) hs = given_units p n (r ∷ rs) hs (units_of n (r ∷ rs))
+served p al (reads.Records n) (r ∷ rs) hs =
+    record { read = reads.Done (answers.Records (take n (r ∷ rs))); records = drop n (r ∷ rs); histories = hs; acts = ended p (reads.Records n) 0 ∷ [] }
+served p al read rs hs = record { read = read; records = rs; histories = hs; acts = [] }
+
+-- The words below are the code's own and those of proofs: one step at a time.
 
 -- a read after it took records, what is left of them, the histories, and what happened
 pub record Took : Type 0 where
@@ -34,9 +69,8 @@ pub record Took : Type 0 where
 
 -- a read of n units, where the records have these
 abbrev pub took_units : ℕ → ℕ → List Record → Histories → List ℕ → Took
-took_units p n rs hs [] = record { read = reads.Units n; records = []; histories = hs; act = Some (passed p) }
-took_units p n rs hs (u ∷ us) =
-    record { read = reads.Done (answers.Units (u ∷ us)); records = rest_of n rs; histories = hs; act = Some (ended p (reads.Units n) 0) }
+took_units p n rs hs us =
+    let s = given_units p n rs hs us in record { read = s.read; records = s.records; histories = s.histories; act = slice_get s.acts 0 }
 
 -- a line that took one record, by whether it goes on
 abbrev pub took_one : ℕ → List AliasList → Cooked → Cooked → List Record → Histories → Progress → Took
@@ -61,43 +95,3 @@ took p al (reads.Records n) rs hs =
 took p al (reads.Units n) rs hs = took_units p n rs hs (units_of n rs)
 took p al (reads.Line line) rs hs = took_line p al line rs hs
 took p al (reads.Done a) rs hs = record { read = reads.Done a; records = rs; histories = hs; act = None }
-
--- a read after all that the records there do to it, and what happened in order
-pub record Served : Type 0 where
-  pub read : OpenRead
-  pub records : List Record
-  pub histories : Histories
-  pub acts : List Act
-
--- a line that took one record, with what later ones do to it where it goes on
-abbrev pub served_on : ℕ → List AliasList → Cooked → Cooked → List Record → Histories → Served → Progress → Served
-served_on p al line line' rs hs later (progress.Going echo) = record later { acts = typed p line line' echo ∷ later.acts }
-served_on p al line line' rs hs later (progress.Done echo) = record {
-  read = reads.Done (answers.Units (line_answer line' al));
-  records = rs;
-  histories = with_line line' hs;
-  acts = ended p (reads.Line line') (length (line_text line')) ∷ [];
-}
-served_on p al line line' rs hs later progress.Woken =
-    record { read = reads.Done (answers.Units (line_answer line' al)); records = rs; histories = with_line line' hs; acts = woke p line' ∷ [] }
-
--- a line takes records one by one, up to the one that ends it
-abbrev pub served_line : ℕ → List AliasList → Cooked → List Record → Histories → Served
-served_line p al line [] hs = record { read = reads.Line line; records = []; histories = hs; acts = [] }
-served_line p al line (r ∷ rs) hs = served_on p al line (line_after line r hs) rs hs (served_line p al (line_after line r hs) rs hs) (line_progress line r hs)
-
-abbrev pub listed : Option Act → List Act
-listed None = []
-listed (Some a) = a ∷ []
-
-abbrev pub served_at_once : Took → Served
-served_at_once t = record { read = t.read; records = t.records; histories = t.histories; acts = listed t.act }
-
--- the first read takes records until it is done or none is left
-unfoldable pub served : ℕ → List AliasList → OpenRead → List Record → Histories → Served
-served p al (reads.Records n) [] hs = record { read = reads.Records n; records = []; histories = hs; acts = [] }
-served p al (reads.Records n) (r ∷ rs) hs = served_at_once (took p al (reads.Records n) (r ∷ rs) hs)
-served p al (reads.Units n) [] hs = record { read = reads.Units n; records = []; histories = hs; acts = [] }
-served p al (reads.Units n) (r ∷ rs) hs = served_at_once (took p al (reads.Units n) (r ∷ rs) hs)
-served p al (reads.Line line) rs hs = served_line p al line rs hs
-served p al (reads.Done a) rs hs = record { read = reads.Done a; records = rs; histories = hs; acts = [] }

@@ -1,15 +1,7 @@
 -- What a read of units takes of the records that are there.
 use Rattle.std.specs.Prelude.{ℕ, zero, suc, ◌==◌, List, [], ◌∷◌, if◌then◌else◌}
 use Rattle.con_records.specs.declared.record.Record.{Record}
-use Rattle.con_records.specs.declared.record.Record.TheVariants as kinds
-
--- the unit of a key-down, or 0
-abbrev pub typed_unit : Record → ℕ
-typed_unit (kinds.Key k) = if k.down then k.unit else 0
-typed_unit (kinds.Mouse m) = 0
-typed_unit (kinds.Size s) = 0
-typed_unit (kinds.Menu m) = 0
-typed_unit (kinds.Focus f) = 0
+pub use Rattle.con_cooked.specs.Mask.{typed_unit}
 
 -- the first n units of these records
 unfoldable pub units_of : ℕ → List Record → List ℕ
