@@ -12,7 +12,7 @@ use Rattle.con_readers.specs.Act.{Act}
 use Rattle.con_readers.specs.Lines.{line_after, line_progress}
 use Rattle.con_readers.specs.Pieces.{front}
 use Rattle.con_readers.specs.Reads.{settled, first_acts, is_open}
-use Rattle.con_readers.specs.Serving.{Served as Serving, is_done, took_units, listed, served, served_line, served_on}
+use Rattle.con_readers.specs.Serving.{Served as Serving, is_done, given_units, served, served_line, served_on}
 use Rattle.con_readers.specs.Wants.{units_of}
 use Rattle.con_readers.specs.declared.open.Open.{Open}
 use Rattle.con_readers.specs.declared.open.OpenRead.{OpenRead}
@@ -49,7 +49,7 @@ line_foreign : (p q : ℕ) (al : List AliasList) (line : Cooked) (rs : List Reco
 line_foreign p q al line [] hs other = refl
 line_foreign p q al line (r ∷ rs) hs other = on_foreign p q al line (line_after line r hs) rs hs (served_line q al (line_after line r hs) rs hs) (line_progress line r hs) other (line_foreign p q al (line_after line r hs) rs hs other)
 
-units_plain : (p q n : ℕ) (rs : List Record) (hs : LineHistories) (us : List ℕ) → list_any (woke_of p) (listed (took_units q n rs hs us).act) ≡ false
+units_plain : (p q n : ℕ) (rs : List Record) (hs : LineHistories) (us : List ℕ) → list_any (woke_of p) (given_units q n rs hs us).acts ≡ false
 unfolding woke_of
 units_plain p q n rs hs [] = refl
 units_plain p q n rs hs (u ∷ us) = refl

@@ -2,14 +2,13 @@
 use Rattle.std.specs.Prelude.{flat_map, ◌≡◌, ℕ, Bool, true, false, List, [], ◌∷◌, ◌++◌, map, fold, take, if◌then◌else◌}
 use Rattle.std.specs.List.{list_any}
 use Rattle.con_alias.specs.Aliases.{AliasList}
-use Rattle.con_cooked.specs.Cooked.{Moment}
+use Rattle.con_cooked.specs.Cooked.{Moment, answer_of}
 use Rattle.con_cooked.specs.Mask.{is_masked}
 use Rattle.con_cooked.specs.declared.cooked.Cooked.{Cooked}
 use Rattle.con_events.specs.declared.event.Wanted.{Wanted}
 use Rattle.con_events.specs.declared.event.Wanted.TheVariants as wanted
 use Rattle.con_history.specs.Histories.{lines_of}
 use Rattle.con_readers.specs.Answering.{is_line_end}
-use Rattle.con_readers.specs.Lines.{line_answer}
 use Rattle.con_readers.specs.Wants.{units_of}
 use Rattle.con_readers.specs.declared.answer.Answer.TheVariants as answers
 use Rattle.con_readers.specs.declared.open.OpenRead.{OpenRead}
@@ -41,7 +40,7 @@ pub record AnswersLine (line : Cooked) (n : ℕ) (pieces : List Piece) (records 
   pub goes : list_any (is_line_end line.mask) before ≡ false
   pub ends : is_line_end line.mask last ≡ true
   pub text : List ℕ
-  pub text' : text ≡ line_answer (record line { presses = line.presses ++ presses_of line.program pieces }) (fold (λ al x. aliases_at x.0.how) [] pieces)
+  pub text' : text ≡ answer_of (record line { presses = line.presses ++ presses_of line.program pieces }) (fold (λ al x. aliases_at x.0.how) [] pieces)
   pub told : units ≡ (if is_masked line.mask last then take n text else front_of n text)
 
 -- what a read answers that began so, and took these records in these pieces: of a line that they ended; their units; or what
