@@ -18,13 +18,17 @@ slice_is : (y w : ℕ) (cells : List Glyph) → take (y * w + w - y * w) (drop (
 slice_is y w cells = let e : y * w + w - y * w ≡ w = omega arith in rw e refl
 
 -- one more
-range_more : (f : ℕ → List ℕ) (a n : ℕ) → flat_map f (range_with_len a (n + 1)) ≡ flat_map f (range_with_len a n) ++ f (a + n)
-range_more f a zero = let e : a + 0 ≡ a = omega arith in append_none (f a) ∙ ap f (sym e)
-range_more f a (suc n) = let e : a + 1 + n ≡ a + suc n = omega arith in
-    ap (λ zs. f a ++ zs) (range_more f (a + 1) n) ∙ sym (append_assoc (f a) (flat_map f (range_with_len (a + 1) n)) (f (a + 1 + n))) ∙ ap (λ k. (f a ++ flat_map f (range_with_len (a + 1) n)) ++ f k) e
+range_more : (f : ℕ → List ℕ) (a n j : ℕ) → a + n ≡ j → flat_map f (range_with_len a (suc n)) ≡ flat_map f (range_with_len a n) ++ f j
+range_more f a zero j e = let k : a ≡ j = omega (arith, e) in append_none (f a) ∙ ap f k
+range_more f a (suc n) j e = let k : a + 1 + n ≡ j = omega (arith, e) in
+    ap (λ (zs : List ℕ). f a ++ zs) (range_more f (a + 1) n j k) ∙ sym (append_assoc (f a) (flat_map f (range_with_len (a + 1) n)) (f j))
 
 lines_more : (f : ℕ → List ℕ) (old mid new : List ℕ) (y : ℕ) → mid ≡ old ++ flat_map f (range_with_len 0 y) → new ≡ mid ++ f y → new ≡ old ++ flat_map f (range_with_len 0 (y + 1))
-lines_more f old mid new y h k = k ∙ ap (λ zs. zs ++ f y) h ∙ append_assoc old (flat_map f (range_with_len 0 y)) (f y) ∙ ap (λ zs. old ++ zs) (sym (range_more f 0 y))
+lines_more f old mid new y h k =
+    let next : suc y ≡ y + 1 = omega arith in
+    let same : 0 + y ≡ y = omega arith in
+    k ∙ ap (λ (zs : List ℕ). zs ++ f y) h ∙ append_assoc old (flat_map f (range_with_len 0 y)) (f y)
+    ∙ ap (λ (zs : List ℕ). old ++ zs) (sym (range_more f 0 y y same)) ∙ ap (λ (n : ℕ). old ++ flat_map f (range_with_len 0 n)) next
 
 pub rows_none : (old : List ℕ) (w : ℕ) (cells : List Glyph) → old ≡ old ++ rows_text w cells 0
 rows_none old w cells = sym (append_none old)

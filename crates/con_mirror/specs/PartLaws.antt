@@ -31,14 +31,13 @@ append_none [] = refl
 append_none (x ∷ xs) = ap (λ (zs : List Glyph). x ∷ zs) (append_none xs)
 
 -- one row more
-range_more : (f : ℕ → List Glyph) (a n : ℕ) → flat_map f (range_with_len a (suc n)) ≡ flat_map f (range_with_len a n) ++ f (a + n)
-range_more f a zero = let e : a + 0 ≡ a = omega arith in append_none (f a) ∙ ap f (sym e)
-range_more f a (suc n) = let e : a + 1 + n ≡ a + suc n = omega arith in
-    ap (λ (zs : List Glyph). f a ++ zs) (range_more f (a + 1) n) ∙ sym (append_assoc (f a) (flat_map f (range_with_len (a + 1) n)) (f (a + 1 + n)))
-    ∙ ap (λ (k : ℕ). (f a ++ flat_map f (range_with_len (a + 1) n)) ++ f k) e
+range_more : (f : ℕ → List Glyph) (a n j : ℕ) → a + n ≡ j → flat_map f (range_with_len a (suc n)) ≡ flat_map f (range_with_len a n) ++ f j
+range_more f a zero j e = let k : a ≡ j = omega (arith, e) in append_none (f a) ∙ ap f k
+range_more f a (suc n) j e = let k : a + 1 + n ≡ j = omega (arith, e) in
+    ap (λ (zs : List Glyph). f a ++ zs) (range_more f (a + 1) n j k) ∙ sym (append_assoc (f a) (flat_map f (range_with_len (a + 1) n)) (f j))
 
 pub part_rows-more : (v : View) (left top w n : ℕ) → part_rows v left top w (suc n) ≡ part_rows v left top w n ++ part_row v left w (top + n)
-part_rows-more v left top w n = range_more (λ y. part_row v left w (top + y)) 0 n
+part_rows-more v left top w n = let same : 0 + n ≡ n = omega arith in range_more (λ y. part_row v left w (top + y)) 0 n n same
 
 pub length-part_rows : (v : View) (left top w n : ℕ) → length (part_rows v left top w n) ≡ n * w
 length-part_rows v left top w zero = omega arith
