@@ -5,7 +5,8 @@ use Rattle.std.specs.List.{list_all}
 use Rattle.con_units.specs.declared.view.Frame.{Frame}
 use Rattle.con_units.specs.declared.view.FrameFault.{FrameFault}
 use Rattle.con_outside.specs.Outside.{Rose, then_left}
-use Rattle.con_link.specs.Frames.{spelling, is_frame, goes_on, IsLink, Answers}
+use Rattle.con_link.specs.Frames.{spelling, is_frame, goes_on}
+use Rattle.con_link.specs.Plainly.{IsLink, Answers}
 use Rattle.con_link.specs.declared.fault.LinkFault.TheVariants as faults
 use Rattle.con_audit.specs.Audit.{AreFrames}
 

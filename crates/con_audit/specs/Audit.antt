@@ -2,7 +2,8 @@
 use Rattle.std.specs.Prelude.{◌≡◌, ◌⊎◌, ℕ, ◌+◌, ◌<◌, true, List, [], ◌∷◌, ◌++◌, length, take, flat_map, fold, Some}
 use Rattle.std.specs.List.{list_all, AllByRecursion}
 use Rattle.con_units.specs.declared.view.Frame.{Frame}
-use Rattle.con_link.specs.Frames.{spelling, is_frame, goes_on, IsLink, Shows}
+use Rattle.con_link.specs.Frames.{spelling, is_frame, goes_on}
+use Rattle.con_link.specs.Plainly.{IsLink, Shows}
 use Rattle.con_units.specs.declared.view.FrameFault.{FrameFault}
 use Rattle.con_events.specs.Session.{Clients}
 use Rattle.con_events.specs.declared.end.End.TheVariants as ends

@@ -3,11 +3,12 @@ use Rattle.std.proofs.Common.{◌≡◌, sym, ap, ◌∙◌, refl, arith, length
 use Rattle.std.specs.Prelude.{Result, Ok, Err}
 use Rattle.con_units.specs.declared.view.Frame.{Frame}
 use Rattle.con_units.specs.declared.view.Frame.TheVariants as frame
-use Rattle.con_link.specs.Frames.{Answers, IsEnd, goes_on}
-use Rattle.con_link.specs.Mirrored.{MirrorAnswers, as_plain}
+use Rattle.con_link.specs.Plainly.{Answers}
+use Rattle.con_link.specs.Frames.{IsEnd, goes_on}
+use Rattle.con_link.specs.Mirrored.{as_plain}
 use Rattle.con_link.specs.MirrorOnly.{OneMirrorAnswer, OneMirrorFrame, is_mirror_told}
 use Rattle.con_link.specs.Only.{OneAnswer, OneFrame, is_told}
-use Rattle.con_link.specs.LinkReading.{LinkReading, plainly, mirrored}
+use Rattle.con_link.specs.LinkReading.{LinkReading, plainly, mirrored, AnswersBy}
 use Rattle.con_link.specs.declared.fault.LinkFault.{LinkFault}
 use Rattle.con_link.specs.declared.fault.LinkFault.TheVariants as faults
 use Rattle.con_link.specs.declared.mirror.MirrorFrame.{MirrorFrame}
@@ -24,11 +25,11 @@ IsTold (Err faults.OutOfMemory) = ⊥
 -- but for a failed source and want of memory the bytes and the place determine the answer; they begin with one frame at most; a frame is answered where its bytes
 -- stand; an answer stands within the limit, or one byte past it
 pub record Certain (R : LinkReading) : Type 0 where
-  pub answer : (a b : Result R.One LinkFault) (place : ℕ) (x y l m : List ℕ) → IsTold a → IsTold b → R.answers a place x (Some l) → R.answers b place y (Some m) → x ++ l ≡ y ++ m → a ≡ b
+  pub answer : (a b : Result R.One LinkFault) (place : ℕ) (x y l m : List ℕ) → IsTold a → IsTold b → AnswersBy R a place x (Some l) → AnswersBy R b place y (Some m) → x ++ l ≡ y ++ m → a ≡ b
   pub frame : (f g : R.One) (r s : List ℕ) → R.is_one f ≡ true → R.is_one g ≡ true → goes_on (R.plain f) ≡ true → goes_on (R.plain g) ≡ true → R.spelling f ++ r ≡ R.spelling g ++ s → (f ≡ g) × (r ≡ s)
-  pub made : (f : R.One) (place : ℕ) (left : Option (List ℕ)) → R.is_one f ≡ true → IsEnd (R.plain f) left → place + length (R.spelling f) ≤ 16777216 → R.answers (Ok f) place (R.spelling f) left
-  pub within : (a : Result R.One LinkFault) (place : ℕ) (text : List ℕ) (left : Option (List ℕ)) → IsTold a → R.answers a place text left → place ≤ 16777216
-  pub long : (place : ℕ) (text : List ℕ) (left : Option (List ℕ)) → R.answers (Err faults.TooLong) place text left → place + length text ≡ 16777217
+  pub made : (f : R.One) (place : ℕ) (left : Option (List ℕ)) → R.is_one f ≡ true → IsEnd (R.plain f) left → place + length (R.spelling f) ≤ 16777216 → AnswersBy R (Ok f) place (R.spelling f) left
+  pub within : (a : Result R.One LinkFault) (place : ℕ) (text : List ℕ) (left : Option (List ℕ)) → IsTold a → AnswersBy R a place text left → place ≤ 16777216
+  pub long : (place : ℕ) (text : List ℕ) (left : Option (List ℕ)) → AnswersBy R (Err faults.TooLong) place text left → place + length text ≡ 16777217
 
 no : false ≡ true → ⊥
 no e = absurd (cc)
@@ -76,7 +77,7 @@ mirror_told (Err faults.TooLong) s = refl
 mirror_told (Err faults.Failed) s = absurd s
 mirror_told (Err faults.OutOfMemory) s = absurd s
 
-mirror_within : (a : Result MirrorFrame LinkFault) (place : ℕ) (text : List ℕ) (left : Option (List ℕ)) → IsTold a → MirrorAnswers a place text left → place ≤ 16777216
+mirror_within : (a : Result MirrorFrame LinkFault) (place : ℕ) (text : List ℕ) (left : Option (List ℕ)) → IsTold a → AnswersBy mirrored a place text left → place ≤ 16777216
 mirror_within (Ok f) place text left s a = let few = a.3 in omega (arith, few)
 mirror_within (Err (faults.Bad at kind)) place text left s a = let few = a.2 in omega (arith, few)
 mirror_within (Err faults.TooLong) place text left s a =

@@ -11,7 +11,7 @@ use Rattle.con_units.specs.declared.view.Frame.TheVariants as frame
 use Rattle.con_units.specs.declared.view.FrameFault.{FrameFault}
 use Rattle.con_outside.specs.Outside.{then_left}
 use Rattle.con_link.specs.Frames.{goes_on, ends_link, IsEnd}
-use Rattle.con_link.specs.LinkReading.{LinkReading}
+use Rattle.con_link.specs.LinkReading.{LinkReading, AnswersBy, IsLinkBy, all_go_on}
 use Rattle.con_link.specs.declared.fault.LinkFault.{LinkFault}
 use Rattle.con_link.specs.declared.fault.LinkFault.TheVariants as faults
 use Rattle.con_events.specs.declared.end.End.{End}
@@ -21,7 +21,6 @@ use Rattle.con_events.specs.Session.{Clients}
 use Rattle.con_events.specs.declared.entry.Entry.{Entry}
 use Rattle.con_events.specs.declared.reply.Reply.{Reply}
 use Rattle.con_session.specs.Outcome.{HasSentBy, LeavesBy}
-use Rattle.con_session.specs.Sender.{IsLinkBy, all_go_on}
 use Rattle.con_lines.specs.Ending.{status_of}
 use Rattle.con_host.specs.Foretold.{ForetellsBy, HasNoFrameBy, StandsBy}
 use Rattle.con_host.specs.Sessions.{IsStatus, ending_after}
@@ -61,7 +60,7 @@ no_last frame.Ask more g = tt
 no_last frame.Hangup more g = tt
 no_last frame.End more g = absurd (no g)
 
-frame_answers : (R : LinkReading) → Certain R → (f : R.One) (place : ℕ) (more : List ℕ) → R.is_one f ≡ true → goes_on (R.plain f) ≡ true → place + length (R.spelling f) ≤ 16777216 → R.answers (Ok f) place (R.spelling f) (Some more)
+frame_answers : (R : LinkReading) → Certain R → (f : R.One) (place : ℕ) (more : List ℕ) → R.is_one f ≡ true → goes_on (R.plain f) ≡ true → place + length (R.spelling f) ≤ 16777216 → AnswersBy R (Ok f) place (R.spelling f) (Some more)
 frame_answers R laws f place more fine g few = laws.made f place (Some more) fine (no_last (R.plain f) more g) few
 
 longer : (R : LinkReading) (f : R.One) (fs : List R.One) → length (spelled R (f ∷ fs)) ≡ length (R.spelling f) + length (spelled R fs)
@@ -69,7 +68,7 @@ longer R f fs = length-append (R.spelling f) (spelled R fs)
 
 -- a frame that goes on stands where an end is said
 none_there : (R : LinkReading) → Certain R → (g : R.One) (gs : List R.One) (a b : Result R.One LinkFault) (place : ℕ) (x l y m : List ℕ) → R.is_one g ≡ true → goes_on (R.plain g) ≡ true → Says R a → Says R b
-    → R.answers a (place + 0) x (Some l) → R.answers b (place + length (spelled R (g ∷ gs))) y (Some m) → x ++ l ≡ spelled R (g ∷ gs) ++ (y ++ m) → ⊥
+    → AnswersBy R a (place + 0) x (Some l) → AnswersBy R b (place + length (spelled R (g ∷ gs))) y (Some m) → x ++ l ≡ spelled R (g ∷ gs) ++ (y ++ m) → ⊥
 none_there R laws g gs a b place x l y m fine goes s t p q e =
     let most : place + length (spelled R (g ∷ gs)) ≤ 16777216 = laws.within b (place + length (spelled R (g ∷ gs))) y (Some m) (told R b t) q in
     let few : place + 0 + length (R.spelling g) ≤ 16777216 = omega (arith, most, longer R g gs) in
@@ -78,7 +77,7 @@ none_there R laws g gs a b place x l y m fine goes s t p q e =
     apart (R.plain g) (subst (Says R) is s) goes
 
 one_end : (R : LinkReading) → Certain R → (fs gs : List R.One) (a b : Result R.One LinkFault) (place : ℕ) (x l y m : List ℕ) → list_all R.is_one fs ≡ true → all_go_on R fs ≡ true → list_all R.is_one gs ≡ true → all_go_on R gs ≡ true
-    → Says R a → Says R b → R.answers a (place + length (spelled R fs)) x (Some l) → R.answers b (place + length (spelled R gs)) y (Some m) → spelled R fs ++ (x ++ l) ≡ spelled R gs ++ (y ++ m) → a ≡ b
+    → Says R a → Says R b → AnswersBy R a (place + length (spelled R fs)) x (Some l) → AnswersBy R b (place + length (spelled R gs)) y (Some m) → spelled R fs ++ (x ++ l) ≡ spelled R gs ++ (y ++ m) → a ≡ b
 one_end R laws [] [] a b place x l y m ff fg gf gg s t p q e = laws.answer a b (place + 0) x y l m (told R a s) (told R b t) p q e
 one_end R laws [] (g ∷ gs) a b place x l y m ff fg gf gg s t p q e =
     absurd (none_there R laws g gs a b place x l y m (and_parts (R.is_one g) (list_all R.is_one gs) gf).0 (and_parts (goes_on (R.plain g)) (all_go_on R gs) gg).0 s t p q e)
@@ -95,7 +94,7 @@ one_end R laws (f ∷ fs) (g ∷ gs) a b place x l y m ff fg gf gg s t p q e =
     let size : length (R.spelling f) ≡ length (R.spelling g) = ap (λ (z : R.One). length (R.spelling z)) same.0 in
     let here : place + length (spelled R (f ∷ fs)) ≡ place + length (R.spelling f) + length (spelled R fs) = omega (arith, longer R f fs) in
     let there : place + length (spelled R (g ∷ gs)) ≡ place + length (R.spelling f) + length (spelled R gs) = omega (arith, longer R g gs, size) in
-    one_end R laws fs gs a b (place + length (R.spelling f)) x l y m f1.1 f2.1 g1.1 g2.1 s t (subst (λ n. R.answers a n x (Some l)) here p) (subst (λ n. R.answers b n y (Some m)) there q) same.1
+    one_end R laws fs gs a b (place + length (R.spelling f)) x l y m f1.1 f2.1 g1.1 g2.1 s t (subst (λ n. AnswersBy R a n x (Some l)) here p) (subst (λ n. AnswersBy R b n y (Some m)) there q) same.1
 
 -- ---- the end that an answer says
 
@@ -127,7 +126,7 @@ same_end : (R : LinkReading) → Certain R → (link : List ℕ) (c d : End) →
 same_end R laws link c d p q =
     let s = p.stands in
     let t = q.stands in
-    let answers : p.answer ≡ q.answer = one_end R laws s.frames t.frames p.answer q.answer 0 s.text s.rest t.text t.rest s.are_frames s.going t.are_frames t.going p.says q.says (subst (λ n. R.answers p.answer n s.text (Some s.rest)) (zero_more _) s.answers) (subst (λ n. R.answers q.answer n t.text (Some t.rest)) (zero_more _) t.answers) (sym s.spelled ∙ t.spelled) in
+    let answers : p.answer ≡ q.answer = one_end R laws s.frames t.frames p.answer q.answer 0 s.text s.rest t.text t.rest s.are_frames s.going t.are_frames t.going p.says q.says (subst (λ n. AnswersBy R p.answer n s.text (Some s.rest)) (zero_more _) s.answers) (subst (λ n. AnswersBy R q.answer n t.text (Some t.rest)) (zero_more _) t.answers) (sym s.spelled ∙ t.spelled) in
     sym p.is ∙ (ap end_said answers ∙ q.is)
 
 one_foretold : (R : LinkReading) → Certain R → (link : List ℕ) (c d : End) → ForetellsBy R link c → ForetellsBy R link d → c ≡ d
@@ -160,7 +159,7 @@ done_foretold R laws link frames text rest fine is l none few =
     )
 
 stopped : (R : LinkReading) (link : List ℕ) (fault : LinkFault) (frames : List R.One) (text rest : List ℕ) → list_all R.is_one frames ≡ true → all_go_on R frames ≡ true → link ≡ (spelled R frames ++ text) ++ rest
-    → R.answers (Err fault) (length (spelled R frames)) text (Some rest) → StandsBy R link (Err fault)
+    → AnswersBy R (Err fault) (length (spelled R frames)) text (Some rest) → StandsBy R link (Err fault)
 stopped R link fault frames text rest fine going is a = record {
   frames = frames;
   text = text;

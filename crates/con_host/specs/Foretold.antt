@@ -3,14 +3,13 @@ use Rattle.std.specs.Prelude.{◌≡◌, ℕ, ◌≤◌, true, List, ◌++◌, f
 use Rattle.std.specs.List.{list_all}
 use Rattle.con_units.specs.declared.view.FrameFault.{FrameFault}
 use Rattle.con_link.specs.Frames.{ends_link}
-use Rattle.con_link.specs.LinkReading.{LinkReading, plainly, mirrored}
+use Rattle.con_link.specs.LinkReading.{LinkReading, plainly, mirrored, AnswersBy, all_go_on}
 use Rattle.con_link.specs.declared.fault.LinkFault.{LinkFault}
 use Rattle.con_link.specs.declared.fault.LinkFault.TheVariants as faults
 use Rattle.con_events.specs.Session.{Clients}
 use Rattle.con_events.specs.declared.end.End.{End}
 use Rattle.con_events.specs.declared.end.End.TheVariants as ends
 use Rattle.con_document.specs.Document.{IsDocument}
-use Rattle.con_session.specs.Sender.{all_go_on}
 
 -- The link's bytes, read in this way, are frames, one after another from its first byte and none of them an X, and behind them stands what is answered so.
 pub record StandsBy (R : LinkReading) (link : List ℕ) (answer : Result R.One LinkFault) : Type 0 where
@@ -20,7 +19,7 @@ pub record StandsBy (R : LinkReading) (link : List ℕ) (answer : Result R.One L
   pub spelled : link ≡ flat_map R.spelling frames ++ (text ++ rest)
   pub are_frames : list_all R.is_one frames ≡ true
   pub going : all_go_on R frames ≡ true
-  pub answers : R.answers answer (length (flat_map R.spelling frames)) text (Some rest)
+  pub answers : AnswersBy R answer (length (flat_map R.spelling frames)) text (Some rest)
 
 -- Done: whole frames through the first X, or to the link's end, of at most 16,777,216 bytes. Bad: no frame at that place, which is the first such one. Too
 -- long: more bytes than that without an end or a fault.

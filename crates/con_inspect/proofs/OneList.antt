@@ -7,7 +7,8 @@ use Rattle.std.proofs.lemmas.Grind.{flat_map-append}
 use Rattle.con_units.specs.declared.view.Frame.{Frame}
 use Rattle.con_units.specs.declared.view.Frame.TheVariants as frame
 use Rattle.con_units.specs.declared.view.FrameFault.{FrameFault}
-use Rattle.con_link.specs.Frames.{spelling, is_frame, goes_on, ends_link, IsEnd, IsLink, Shows, Answers}
+use Rattle.con_link.specs.Frames.{spelling, is_frame, goes_on, ends_link, IsEnd}
+use Rattle.con_link.specs.Plainly.{IsLink, Shows, Answers}
 use Rattle.con_link.specs.Only.{OneAnswer, is_told}
 use Rattle.con_link.specs.declared.fault.LinkFault.{LinkFault}
 use Rattle.con_link.specs.declared.fault.LinkFault.TheVariants as faults

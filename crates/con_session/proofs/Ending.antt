@@ -18,6 +18,7 @@ use Rattle.con_machine.specs.Follows.{session_start, is_cut, is_lost}
 use Rattle.con_machine.specs.History.{run}
 use Rattle.con_laws.specs.Opens.{WaitsOrGone}
 use Rattle.con_laws.specs.Rounds.{Begun, is_memory}
+use Rattle.con_laws.specs.RoundLaws.{rounds_are}
 use Rattle.con_laws.specs.RoundWords.{AreTurns, IsTurn, IsLast, MayFail, SideTurn, all_entries, all_order, clients_from, is_failed, is_nobody}
 use Rattle.con_machine.specs.State.{State}
 use Rattle.con_machine.specs.Step.{is_ready}
@@ -95,7 +96,7 @@ whole_outcome R M Then session racks scripts before old m goes (last, are, nobod
           (λ g. unready (is_failed f n) (is_ready (run (session_start session racks) m.entries) actors.Painter events.Paint)
           (fails_false m.failed f n g (fails_now m.failed n)) (painter_rests b m.entries 0 (length session.scripts) rest.1))
           then';
-      rounds = record {
+      rounds = rounds_are (session_start session racks) m.entries session racks end (record {
         failed = f;
         fails = fails_at_end m.failed m.side.end n k.some;
         rounds = rounds;
@@ -104,7 +105,7 @@ whole_outcome R M Then session racks scripts before old m goes (last, are, nobod
             ∙ append-nil (all_entries (all_order b) rounds));
         turns_are = whole_rounds;
         last_is = last_is (is_memory end) b (all_entries (all_order b) rounds) last (subst A parts are) nobody;
-      };
+      });
     }
 
 -- nobody has anything left to do
@@ -137,8 +138,8 @@ outcome_stops R Then session racks before old left written h rs es failed all =
     let (rounds, last, whole_rounds, turns', parts) = k.rounds in
     record {
       leaves = leaves_stops_by R Then session racks f before old left written h rs es k.legal k.replies k.numbered k.clients k.link k.canvas;
-      rounds =
-          record { failed = f; fails = fails_lost failed n k.some; rounds = rounds; last = last; parts = parts; turns_are = whole_rounds; last_is = turns' };
+      rounds = rounds_are (session_start session racks) h session racks ends.Memory
+          (record { failed = f; fails = fails_lost failed n k.some; rounds = rounds; last = last; parts = parts; turns_are = whole_rounds; last_is = turns' });
     }
 
 -- there was none to begin with
@@ -146,7 +147,8 @@ pub outcome_none : (R : LinkReading) (Then : List R.One → List Entry → Type 
     → Then [] [] → IsOutcomeBy R Then session racks [] [] [] ends.Memory before before old old
 outcome_none R Then session racks before old more = record {
   leaves = leaves_none_by R Then session racks before old more;
-  rounds = record { failed = None; fails = tt; rounds = []; last = []; parts = refl; turns_are = tt; last_is = refl };
+  rounds = rounds_are (session_start session racks) [] session racks ends.Memory
+      (record { failed = None; fails = tt; rounds = []; last = []; parts = refl; turns_are = tt; last_is = refl });
 }
 
 -- ---- as it is handed out

@@ -8,7 +8,7 @@ use Rattle.con_units.specs.declared.place.Size.{Size}
 use Rattle.con_units.specs.declared.view.Frame.{Frame}
 use Rattle.con_outside.specs.Outside.{then_left}
 use Rattle.con_link.specs.Frames.{ends_link, is_frame}
-use Rattle.con_link.specs.LinkReading.{LinkReading, plainly}
+use Rattle.con_link.specs.LinkReading.{LinkReading, plainly, AnswersBy}
 use Rattle.con_link.specs.declared.fault.LinkFault.{LinkFault}
 use Rattle.con_link.specs.declared.fault.LinkFault.TheVariants as faults
 use Rattle.con_paint.specs.Painter.{Kept}
@@ -36,7 +36,7 @@ use Rattle.con_session.specs.declared.terminal.Side.{Side}
 
 -- what was read of the link, and how far the reader is then
 abbrev pub Took : (R : LinkReading) → Result R.One LinkFault → Option (List ℕ) → Option (List ℕ) → ℕ → ℕ → Type 0
-Took R read old now taken later = (text : List ℕ) × (old ≡ then_left text now) × (later ≡ taken + length text) × R.answers read taken text now
+Took R read old now taken later = (text : List ℕ) × (old ≡ then_left text now) × (later ≡ taken + length text) × AnswersBy R read taken text now
 
 as_read : (read : Result Frame LinkFault) → plain_of plainly read ≡ read
 as_read (Ok f) = refl
@@ -122,7 +122,7 @@ pub heard_few : (R : LinkReading) (read : Result R.One LinkFault) (result : Resu
     (rs qs : List Reply) (old now : Option (List ℕ)) (taken later : ℕ)
     → Hears result (plain_of R read) was side s t h g rs qs → Took R read old now taken later → IfOk result (λ _. side.ended ≡ false → later ≤ 16777216)
 heard_few R (Ok f) (Ok a) was side s t h g rs qs old now taken later hears (text, l, c, answered) = λ e.
-    let b : taken + length text ≤ 16777216 = (R.told f taken text now answered).3 in
+    let b : taken + length text ≤ 16777216 = answered.3 in
     let P : ℕ → Type 0 = λ z. z ≤ 16777216 in subst P (sym c) b
 heard_few R (Err x) (Ok a) was side s t h g rs qs old now taken later (i, enters, e) took =
     λ n. absurd (let z : true ≡ false = sym (ap (λ (y : Side). y.ended) e) ∙ n in cc)

@@ -9,7 +9,7 @@ use Rattle.con_units.specs.declared.view.Sight.{Sight}
 use Rattle.con_units.specs.declared.view.Sight.TheVariants as sights
 use Rattle.con_outside.specs.Outside.{then_written}
 use Rattle.con_outside.specs.Laws.{WroteFront-nothing, then_written-none, then_left-none}
-use Rattle.con_link.specs.LinkReading.{LinkReading, plainly}
+use Rattle.con_link.specs.LinkReading.{LinkReading, plainly, AnswersBy, all_go_on}
 use Rattle.con_link.specs.declared.fault.LinkFault.{LinkFault}
 use Rattle.con_link.specs.declared.fault.LinkFault.TheVariants as faults
 use Rattle.con_term.specs.Play.{play}
@@ -45,7 +45,7 @@ use Rattle.con_session.specs.Outcome.{Leaves, LeavesBy, IsCutBy, HasSentBy, end_
 use Rattle.con_session.specs.Painting.{CanvasEnds}
 use Rattle.con_laws.specs.TerminalRuns.{EachRun, ShowsView}
 use Rattle.con_session.specs.Runs.{EachPiece, Painted, PrintsFew, PrintsNewRows, joined, ends_from}
-use Rattle.con_session.specs.Sender.{LinkBy, LinkEnds, LinkEndsBy, NoMore, all_go_on, end_for, hung}
+use Rattle.con_session.specs.Sender.{LinkBy, LinkEnds, LinkEndsBy, NoMore, end_for, hung}
 use Rattle.con_session.specs.Solo.{Moment, Holds, HoldsBy, begins, end_by}
 use Rattle.con_session.specs.Standing.{ClientStands, is_here}
 use Rattle.con_session.specs.declared.terminal.Side.{Side}
@@ -159,8 +159,8 @@ pub sent_cut : (R : LinkReading) (frames : List R.One) (es : List Event) (cut : 
 sent_cut R frames es cut c g e = (g, e ∙ ap (λ (z : Bool). map sent_by (R.plains frames) ++ hung z) c)
 
 pub answer_of : (R : LinkReading) (f g : LinkFault) (n : ℕ) (text : List ℕ) (left : Option (List ℕ))
-    → f ≡ g → R.answers (Err f) n text left → R.answers (Err g) n text left
-answer_of R f g n text left e a = let P : LinkFault → Type 0 = λ z. R.answers (Err z) n text left in subst P e a
+    → f ≡ g → AnswersBy R (Err f) n text left → AnswersBy R (Err g) n text left
+answer_of R f g n text left e a = let P : LinkFault → Type 0 = λ z. AnswersBy R (Err z) n text left in subst P e a
 
 pub no_cut : (cut failed is : Bool) → (cut ≡ true → (failed ≡ true) ⊎ (is ≡ true)) → failed ≡ false → is ≡ false → cut ≡ false
 no_cut false failed is w f i = refl

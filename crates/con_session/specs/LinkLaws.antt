@@ -5,7 +5,8 @@ use Rattle.std.specs.Result.{IsErr}
 use Rattle.con_units.specs.declared.code.OutOfMemory.{OutOfMemory}
 use Rattle.con_units.specs.declared.view.Frame.{Frame}
 use Rattle.con_outside.specs.Outside.{then_left}
-use Rattle.con_link.specs.Frames.{Answers, ends_link}
+use Rattle.con_link.specs.Plainly.{Answers}
+use Rattle.con_link.specs.Frames.{ends_link}
 use Rattle.con_link.specs.LinkReading.{plainly}
 use Rattle.con_link.specs.declared.fault.LinkFault.{LinkFault}
 use Rattle.con_link.specs.declared.fault.LinkFault.TheVariants as faults

@@ -11,7 +11,7 @@ use Rattle.con_units.specs.declared.view.Frame.{Frame}
 use Rattle.con_outside.specs.Outside.{then_left}
 use Rattle.con_outside.specs.Laws.{then_left-more}
 use Rattle.con_link.specs.Frames.{ends_link, goes_on}
-use Rattle.con_link.specs.LinkReading.{LinkReading}
+use Rattle.con_link.specs.LinkReading.{LinkReading, AnswersBy, IsLinkBy, all_go_on}
 use Rattle.con_link.specs.declared.fault.LinkFault.{LinkFault}
 use Rattle.con_link.specs.declared.fault.LinkFault.TheVariants as faults
 use Rattle.con_events.specs.declared.actor.Actor.TheVariants as actors
@@ -21,7 +21,7 @@ use Rattle.con_events.specs.declared.event.Event.TheVariants as events
 use Rattle.con_machine.specs.Follows.{sent_by, is_cut}
 use Rattle.con_machine.specs.Turns.{is_terminal}
 use Rattle.con_session.specs.Desk.{entry}
-use Rattle.con_session.specs.Sender.{SideStands, LinkBy, LinkEndsBy, IsLinkBy, LinkTurnBy, all_go_on, end_for}
+use Rattle.con_session.specs.Sender.{SideStands, LinkBy, LinkEndsBy, LinkTurnBy, end_for}
 use Rattle.con_session.specs.SenderLaws.{side_frame, side_hung, side_other}
 use Rattle.con_session.specs.declared.terminal.Side.{Side}
 
@@ -117,11 +117,11 @@ spelled_more spell fs f = flat_map-append spell fs (f ∷ []) ∙ ap (λ (x : Li
 pub linked_frame : (R : LinkReading) (More Then : List R.One → List Entry → Type 0) (h g : List Entry) (side : Side)
     (failed : Bool) (before old now : Option (List ℕ)) (taken later : ℕ) (f : R.One) (ended : Bool)
     → side.ended ≡ false → g ≡ h ++ entry actors.Terminal (sent_by (R.plain f)) ∷ [] → ended ≡ ends_link (R.plain f)
-    → ((text : List ℕ) × (old ≡ then_left text now) × (later ≡ taken + length text) × R.answers (Ok f) taken text now)
+    → ((text : List ℕ) × (old ≡ then_left text now) × (later ≡ taken + length text) × AnswersBy R (Ok f) taken text now)
     → ((fs : List R.One) → More fs h → Then (fs ++ f ∷ []) g)
     → LinkBy R More h side failed before old taken → LinkBy R Then g (record { ended = ended; end = side.end }) failed before now later
 linked_frame R More Then h g side failed before old now taken later f ended n e d (text, l, c, was_answered) m k =
-    let a = R.told f taken text now was_answered in
+    let a = was_answered in
     let p = k.place n in
     let P : List Entry → Type 0 = λ z. SideStands z (R.plains (k.frames ++ f ∷ [])) false ended in
     let Q : Bool → Type 0 = λ x. SideStands (h ++ entry actors.Terminal (sent_by (R.plain f)) ∷ []) (R.plains (k.frames ++ f ∷ [])) false x in
@@ -168,7 +168,7 @@ cut_for faults.OutOfMemory = refl
 pub linked_fault : (R : LinkReading) (More Then : List R.One → List Entry → Type 0) (h g : List Entry) (side : Side)
     (failed : Bool) (before old now : Option (List ℕ)) (taken later : ℕ) (f : LinkFault) (end : End)
     → side.ended ≡ false → g ≡ h ++ entry actors.Terminal events.Hangup ∷ [] → end ≡ end_for f
-    → ((text : List ℕ) × (old ≡ then_left text now) × (later ≡ taken + length text) × R.answers (Err f) taken text now)
+    → ((text : List ℕ) × (old ≡ then_left text now) × (later ≡ taken + length text) × AnswersBy R (Err f) taken text now)
     → ((fs : List R.One) → More fs h → Then fs g)
     → LinkBy R More h side failed before old taken → LinkBy R Then g (record { ended = true; end = end }) failed before now later
 linked_fault R More Then h g side failed before old now taken later f end n e d (text, l, c, a) m k =
@@ -176,7 +176,7 @@ linked_fault R More Then h g side failed before old now taken later f end n e d 
     let P : List Entry → Type 0 = λ z. SideStands z (R.plains k.frames) true true in
     let spelt = flat_map R.spelling k.frames in
     let was : before ≡ then_left spelt old = k.read ∙ ap (λ (x : List ℕ). then_left x old) (ap (λ (x : List ℕ). spelt ++ x) p.0 ∙ append-nil spelt) in
-    let Q : ℕ → Type 0 = λ x. R.answers (Err f) x text now in
+    let Q : ℕ → Type 0 = λ x. AnswersBy R (Err f) x text now in
     record {
       frames = k.frames;
       extra = text;
@@ -225,13 +225,13 @@ linked_stays R More Then h side failed before now taken m k = record {
 -- what was taken behind the frames
 pub linked_stops : (R : LinkReading) (More Then : List R.One → List Entry → Type 0) (h : List Entry) (side : Side) (failed : Bool)
     (before old now : Option (List ℕ)) (taken later : ℕ) (r : Result R.One LinkFault) → side.ended ≡ false
-    → ((text : List ℕ) × (old ≡ then_left text now) × (later ≡ taken + length text) × R.answers r taken text now)
+    → ((text : List ℕ) × (old ≡ then_left text now) × (later ≡ taken + length text) × AnswersBy R r taken text now)
     → ((fs : List R.One) → More fs h → Then fs h) → LinkBy R More h side failed before old taken → LinkEndsBy R Then h before now
 linked_stops R More Then h side failed before old now taken later r n (text, l, c, a) m k =
     let spelt = flat_map R.spelling k.frames in
     let was : before ≡ then_left spelt old =
     k.read ∙ ap (λ (x : List ℕ). then_left x old) (ap (λ (x : List ℕ). spelt ++ x) (k.place n).0 ∙ append-nil spelt) in
-    let Q : ℕ → Type 0 = λ x. R.answers r x text now in
+    let Q : ℕ → Type 0 = λ x. AnswersBy R r x text now in
     record {
       frames = k.frames;
       extra = text;

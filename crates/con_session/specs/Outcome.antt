@@ -2,7 +2,7 @@
 use Rattle.std.specs.Prelude.{◌≡◌, ◌⊎◌, ℕ, ◌+◌, ◌≤◌, true, false, List, [], ◌∷◌, ◌++◌, map, flat_map, length, take, Option, Err}
 use Rattle.std.specs.List.{list_all}
 use Rattle.con_outside.specs.Outside.{then_left, then_written, WroteFront}
-use Rattle.con_link.specs.LinkReading.{LinkReading, plainly}
+use Rattle.con_link.specs.LinkReading.{LinkReading, plainly, AnswersBy, IsLinkBy, all_go_on}
 use Rattle.con_link.specs.declared.fault.LinkFault.TheVariants as faults
 use Rattle.con_events.specs.Session.{Clients}
 use Rattle.con_events.specs.declared.end.End.{End}
@@ -20,7 +20,7 @@ use Rattle.con_laws.specs.Whole.{IsWhole, HaveAllLeft}
 use Rattle.con_session.specs.Desk.{listed}
 use Rattle.con_laws.specs.TerminalRuns.{EachRun, ShowsView}
 use Rattle.con_session.specs.Runs.{PrintsFew, PrintsNewRows}
-use Rattle.con_session.specs.Sender.{IsLinkBy, NoMore, TakesBehind, all_go_on}
+use Rattle.con_session.specs.Sender.{NoMore, TakesBehind}
 
 -- ---- the link
 
@@ -34,10 +34,10 @@ IsCutBy R frames sent' = (all_go_on R frames ≡ true) × (sent' ≡ map sent_by
 abbrev pub HasSentBy : (R : LinkReading) → End → List R.One → List ℕ → Option (List ℕ) → List Event → Type 0
 HasSentBy R ends.Done frames text left sent' = IsLinkBy R frames left × (text ≡ []) × (length (flat_map R.spelling frames) ≤ 16777216)
     × (sent' ≡ map sent_by (R.plains frames))
-HasSentBy R ends.Link frames text left sent' = IsCutBy R frames sent' × R.answers (Err faults.Failed) (length (flat_map R.spelling frames)) text left
-HasSentBy R ends.TooLong frames text left sent' = IsCutBy R frames sent' × R.answers (Err faults.TooLong) (length (flat_map R.spelling frames)) text left
+HasSentBy R ends.Link frames text left sent' = IsCutBy R frames sent' × AnswersBy R (Err faults.Failed) (length (flat_map R.spelling frames)) text left
+HasSentBy R ends.TooLong frames text left sent' = IsCutBy R frames sent' × AnswersBy R (Err faults.TooLong) (length (flat_map R.spelling frames)) text left
 HasSentBy R (ends.Bad place kind) frames text left sent' =
-    IsCutBy R frames sent' × R.answers (Err (faults.Bad place kind)) (length (flat_map R.spelling frames)) text left
+    IsCutBy R frames sent' × AnswersBy R (Err (faults.Bad place kind)) (length (flat_map R.spelling frames)) text left
 HasSentBy R _ frames text left sent' = Unit {0}
 
 -- ---- the terminal

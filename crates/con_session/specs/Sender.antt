@@ -5,7 +5,7 @@ use Rattle.con_units.specs.declared.code.OutOfMemory.{OutOfMemory}
 use Rattle.con_units.specs.declared.view.Frame.{Frame}
 use Rattle.con_outside.specs.Outside.{then_left}
 use Rattle.con_link.specs.Frames.{goes_on, ends_link, IsEnd}
-use Rattle.con_link.specs.LinkReading.{LinkReading, plainly}
+use Rattle.con_link.specs.LinkReading.{LinkReading, plainly, AnswersBy, IsLinkBy, all_go_on}
 use Rattle.con_link.specs.declared.fault.LinkFault.{LinkFault}
 use Rattle.con_link.specs.declared.fault.LinkFault.TheVariants as faults
 use Rattle.con_events.specs.declared.actor.Actor.TheVariants as actors
@@ -52,19 +52,11 @@ pub record SideStands (h : List Entry) (coming : List Frame) (cut ended : Bool) 
 
 -- ---- the link, in either way of reading it
 
-abbrev pub all_go_on : (R : LinkReading) → List R.One → Bool
-all_go_on R fs = list_all (λ f. goes_on (R.plain f)) fs
-
--- frames of which the last one, and it alone, ends the link, of which this is left
-abbrev pub IsLinkBy : (R : LinkReading) → List R.One → Option (List ℕ) → Type 0
-IsLinkBy R frames left = (front : List R.One) × (last : R.One) × (frames ≡ front ++ last ∷ []) × (all_go_on R front ≡ true)
-    × (ends_link (R.plain last) ≡ true) × IsEnd (R.plain last) left
-
 -- Behind the frames nothing was taken of the link, or no more than one reading takes: a frame, of which no event came, a front of one, or the bytes to the
 -- one that shows a fault. Behind a frame that ends the link it is nothing.
 abbrev pub TakesBehind : (R : LinkReading) → List R.One → List ℕ → Option (List ℕ) → Type 0
 TakesBehind R frames text left =
-    (text ≡ []) ⊎ ((all_go_on R frames ≡ true) × (r : Result R.One LinkFault) × R.answers r (length (flat_map R.spelling frames)) text left)
+    (text ≡ []) ⊎ ((all_go_on R frames ≡ true) × (r : Result R.One LinkFault) × AnswersBy R r (length (flat_map R.spelling frames)) text left)
 
 -- what was read of the link, and why no more is; and what more is known of the frames that were read
 pub record LinkBy (R : LinkReading) (More : List R.One → List Entry → Type 0) (h : List Entry) (side : Side) (failed : Bool)
@@ -80,7 +72,7 @@ pub record LinkBy (R : LinkReading) (More : List R.One → List Entry → Type 0
   pub why : cut ≡ true → (all_go_on R frames ≡ true) × ((failed ≡ true) ⊎ (is_cut side.end ≡ true))
   -- a fault that shows behind the frames
   pub fault : is_cut side.end ≡ true
-      → (f : LinkFault) × (cut ≡ true) × (side.end ≡ end_for f) × R.answers (Err f) (length (flat_map R.spelling frames)) extra now
+      → (f : LinkFault) × (cut ≡ true) × (side.end ≡ end_for f) × AnswersBy R (Err f) (length (flat_map R.spelling frames)) extra now
   -- the last frame ends the link
   pub whole : cut ≡ false → side.ended ≡ true → IsLinkBy R frames now × (extra ≡ []) × (length (flat_map R.spelling frames) ≤ 16777216)
   pub behind : TakesBehind R frames extra now
