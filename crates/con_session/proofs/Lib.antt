@@ -22,6 +22,7 @@ pub mod Going
 pub mod Ending
 -- A second terminal.
 pub mod SecondsLaws
+pub mod SecondSame
 pub mod SecondLaws
 pub mod LastGiven
 pub mod Mirroring

@@ -2,6 +2,7 @@
 use Rattle.std.proofs.Common.{◌≡◌, ℕ, zero, suc, Result, Ok, Err, ◌+◌, ◌*◌, ◌≤◌, Bool, true, false, List, [], ◌∷◌, ◌++◌, length, append-nil}
 use Rattle.std.proofs.Common.{take, Option, Some, None, refl, sym, ap, ◌∙◌, subst, append_assoc, arith, length-append, inl, inr}
 use Rattle.std.specs.Prelude.{◌<◌, is_some, if◌then◌else◌}
+use Rattle.std.specs.List.{zip, AllByRecursion}
 use Rattle.std.specs.Result.{IsErr}
 use Rattle.std.proofs.lemmas.List.{take-append-le}
 use Rattle.con_units.specs.Glyph.{Glyph}
@@ -38,11 +39,13 @@ use Rattle.con_session.specs.Painting.{Written}
 use Rattle.con_session.specs.RunLaws.{matched_paint, piece_paint, piece_none, reach_paint, matched_resize, piece_resize, reach_resize}
 use Rattle.con_laws.specs.TerminalRuns.{EachRun, ShowsView}
 use Rattle.con_session.specs.Runs.{Painted, EachPiece, PrintsFew, joined, ends_from}
-use Rattle.con_session.specs.Seconds.{Watch, watch, watched, watched_at, seconds_at, seconds_of, painted_at}
-use Rattle.con_session.specs.Seconds.{begun_at, flags_of, attached_by, mirrored_to, begins_by, picked, Stays}
+use Rattle.con_session.specs.Watched.{Watch, watch, watched, watched_at, seconds_at, seconds_of, painted_at}
+use Rattle.con_session.specs.Watched.{begun_at, flags_of, attached_by, mirrored_to, begins_by, picked, Stays}
 use Rattle.con_session.proofs.SecondsLaws.{seconds-one, flags-one, watched-one, picked-more, picked-same, picked-past, rests-more}
 use Rattle.con_session.proofs.SecondsLaws.{rests-past, last-more, flags-count, no_flag, no_sight, frame_begins, frame_at, frame_coming}
-use Rattle.con_session.specs.Second.{Shown, PiecesStand, SecondIs, Mirrors, FrameOf, SecondTurn, Wrote, kept_by}
+use Rattle.con_session.proofs.SecondSame.{seconds_same, flags_same, picked_same, stays_so}
+use Rattle.con_session.specs.Seconds as told
+use Rattle.con_session.specs.Second.{Shown, PiecesStand, SecondIs, Mirrors, Reflects, FrameOf, SecondTurn, Wrote, kept_by}
 
 -- ---- sights and pieces
 
@@ -365,6 +368,34 @@ runs : (claim : Option View → View → List ℕ → Terminal → Type 0) → (
 runs claim f size ss zs ps es n e i k =
     let P : List Sight → Type 0 = λ z. EachRun claim size (take n (joined ps)) z es in subst P (sym e) (stream_run claim f size zs ps n es i (λ t j. k t))
 
+run_same : (claim : Option View → View → List ℕ → Terminal → Type 0) (size : Size) (stream : List ℕ) (a b : List Sight) (x y : List ℕ) → a ≡ b → x ≡ y
+    → EachRun claim size stream a x → EachRun claim size stream b y
+run_same claim size stream a b x y e f k =
+    let A : List Sight → Type 0 = λ z. EachRun claim size stream z x in
+    let X : List ℕ → Type 0 = λ z. EachRun claim size stream b z in subst X f (subst A e k)
+
+-- what is walked is what is promised
+mirrors_so : (s : State) (fs : List MirrorFrame) (size : Size) (es : List ℕ) (before now : Option (List ℕ)) (failed memory : Bool) (h : List Entry)
+    → Reflects s fs size es before now failed memory h → Mirrors s fs size es before now failed memory h
+mirrors_so s fs size es before now failed memory h k =
+    let ss : seconds_of (watch fs) s h ≡ told.seconds_of fs s h = seconds_same fs s h in
+    let bs : flags_of (watch fs) h ≡ told.flags_of fs s h = flags_same fs s h in
+    let ps : picked (flags_of (watch fs) h) es ≡ told.picked (told.flags_of fs s h) es =
+    ap (λ (z : List Bool). picked z es) bs ∙ picked_same (told.flags_of fs s h) es in
+    let A : List Bool → Type 0 = λ z. AllByRecursion (λ p. p.0 ≡ false → p.1.1 ≡ p.1.0) (zip z (zip (0 ∷ es) es)) in record {
+      built = k.built;
+      long = k.long;
+      front = k.front;
+      all' = k.all';
+      ends' = k.ends';
+      but_last = k.but_last;
+      rests = subst A bs (stays_so 0 (flags_of (watch fs) h) es k.rests);
+      shows = λ n. run_same ShowsView size (take n k.built) (seconds_of (watch fs) s h) (told.seconds_of fs s h) (picked (flags_of (watch fs) h) es)
+          (told.picked (told.flags_of fs s h) es) ss ps (k.shows n);
+      few = λ n. run_same PrintsFew size (take n k.built) (seconds_of (watch fs) s h) (told.seconds_of fs s h) (picked (flags_of (watch fs) h) es)
+          (told.picked (told.flags_of fs s h) es) ss ps (k.few n);
+    }
+
 pub second_ends : (s : State) (ended : Bool) (kept : Option Kept) (ps : List (List ℕ)) (es : List ℕ) (end : ℕ) (before now : Option (List ℕ))
     (failed failed' memory : Bool) (size : Size) (fs : List MirrorFrame) (h : List Entry) → (failed' ≡ false → memory ≡ false → failed ≡ false)
     → SecondIs s ended kept ps es end before now failed fs h → Mirrors s fs size es before now failed' memory h
@@ -373,7 +404,7 @@ second_ends s ended kept ps es end before now failed failed' memory size fs h fi
     let bs : flags_of (watch fs) h ≡ k.flags = ap (λ (z : List MirrorFrame). flags_of (watch z) h) (sym (append-nil fs)) ∙ k.flagged [] in
     let es' : picked (flags_of (watch fs) h) es ≡ ends_from 0 ps = ap (λ (z : List Bool). picked z es) bs ∙ k.ends' in
     let R : List Bool → Type 0 = λ z. Stays 0 z es in
-    record {
+    mirrors_so s fs size es before now failed' memory h (record {
       built = joined ps;
       long = sym (k.last ∙ k.end');
       front = (k.written.count, k.written.most, k.written.front);
@@ -385,7 +416,7 @@ second_ends s ended kept ps es end before now failed failed' memory size fs h fi
       shows =
           λ n. runs ShowsView (λ l v p t x. x.shows) size (seconds_of (watch fs) s h) k.sights ps (picked (flags_of (watch fs) h) es) n ss es' k.stands.each;
       few = λ n. runs PrintsFew (λ l v p t x. x.few) size (seconds_of (watch fs) s h) k.sights ps (picked (flags_of (watch fs) h) es) n ss es' k.stands.each;
-    }
+    })
 
 -- a Paint was entered that has no end, for want of memory
 pub second_past : (s : State) (ended : Bool) (kept : Option Kept) (ps : List (List ℕ)) (es : List ℕ) (end : ℕ) (before now : Option (List ℕ))
@@ -404,7 +435,7 @@ second_past s ended kept ps es end before now failed failed' size fs h g e k =
     let each : (t : Terminal) → EachPiece Painted t None (k.sights ++ mirrored_to (at_size kept) (view_now (run s h))) ps =
     λ t. past kept k.sights ps t (view_now (run s h)) k.stands in
     let R : List Bool → Type 0 = λ z. Stays 0 z es in
-    subst G (sym e) (record {
+    subst G (sym e) (mirrors_so s fs size es before now failed' true (h ++ x ∷ []) (record {
       built = joined ps;
       long = sym (k.last ∙ k.end');
       front = (k.written.count, k.written.most, k.written.front);
@@ -417,7 +448,7 @@ second_past s ended kept ps es end before now failed failed' size fs h g e k =
           (k.sights ++ mirrored_to (at_size kept) (view_now (run s h))) ps (picked (flags_of (watch fs) (h ++ x ∷ [])) es) n ss es' each;
       few = λ n. runs PrintsFew (λ l v q t y. y.few) size (seconds_of (watch fs) s (h ++ x ∷ []))
           (k.sights ++ mirrored_to (at_size kept) (view_now (run s h))) ps (picked (flags_of (watch fs) (h ++ x ∷ [])) es) n ss es' each;
-    })
+    }))
   where
     past : (o : Option Kept) (zs : List Sight) (qs : List (List ℕ)) (t : Terminal) (v : View) → PiecesStand zs o qs
         → EachPiece Painted t None (zs ++ mirrored_to (at_size o) v) qs

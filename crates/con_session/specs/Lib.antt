@@ -20,6 +20,7 @@ pub mod Outcome
 pub mod Held
 -- A second terminal: what it is to show, and what an outcome has of it.
 pub mod Seconds
+pub mod Watched
 pub mod Second
 -- Laws of these words, for the crates above: entries and runs,
 pub mod Replying

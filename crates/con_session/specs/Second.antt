@@ -1,5 +1,6 @@
 -- The second terminal behind a history.
 use Rattle.std.specs.Prelude.{◌≡◌, ◌⊎◌, ℕ, ◌+◌, Bool, true, false, List, [], ◌∷◌, ◌++◌, length, take, Option, Some, None, Result, Ok, Err}
+use Rattle.std.specs.List.{zip, AllByRecursion}
 use Rattle.con_units.specs.Attr.{plain}
 use Rattle.con_units.specs.declared.code.OutOfMemory.{OutOfMemory}
 use Rattle.con_units.specs.declared.place.Size.{Size}
@@ -24,7 +25,9 @@ use Rattle.con_machine.specs.Follows.{session_start}
 use Rattle.con_laws.specs.Rounds.{is_memory}
 use Rattle.con_machine.specs.State.{State}
 use Rattle.con_machine.specs.Turns.{paints}
-use Rattle.con_session.specs.Seconds.{watch, watched, seconds_of, flags_of, picked, Stays}
+use Rattle.con_session.specs.Seconds.{seconds_of, flags_of, picked}
+use Rattle.con_session.specs.Watched.{watch, watched, Stays}
+use Rattle.con_session.specs.Watched as walked
 use Rattle.con_session.specs.Desk.{entry}
 use Rattle.con_session.specs.Outcome.{IsOutcomeBy, last_end}
 use Rattle.con_session.specs.Painting.{IsTied, Written}
@@ -51,14 +54,14 @@ pub record SecondIs (s : State) (ended : Bool) (kept : Option Kept) (ps : List (
     (failed : Bool) (frames : List MirrorFrame) (h : List Entry) : Type 0 where
   pub sights : List Sight
   pub flags : List Bool
-  pub seconds : (more : List MirrorFrame) → seconds_of (watch (frames ++ more)) s h ≡ sights
-  pub flagged : (more : List MirrorFrame) → flags_of (watch (frames ++ more)) h ≡ flags
+  pub seconds : (more : List MirrorFrame) → walked.seconds_of (watch (frames ++ more)) s h ≡ sights
+  pub flagged : (more : List MirrorFrame) → walked.flags_of (watch (frames ++ more)) h ≡ flags
   pub at : (more : List MirrorFrame) → (after watched (watch (frames ++ more)) h).at ≡ at_size kept
   pub coming : ended ≡ false → (more : List MirrorFrame) → (after watched (watch (frames ++ more)) h).coming ≡ more
   pub stands : PiecesStand sights kept ps
   pub written : Written before now ps failed
   pub count : length flags ≡ length es
-  pub ends' : picked flags es ≡ ends_from 0 ps
+  pub ends' : walked.picked flags es ≡ ends_from 0 ps
   pub rests : Stays 0 flags es
   pub last : last_end es ≡ end
   pub end' : end ≡ length (joined ps)
@@ -90,11 +93,28 @@ pub record Mirrors (s : State) (frames : List MirrorFrame) (size : Size) (es : L
   -- each Paint has its end; for want of memory the last one may have none; at a Paint that is not mirrored the stream does not grow
   pub ends' : memory ≡ false → length es ≡ paints h
   pub but_last : (length es ≡ paints h) ⊎ (length es + 1 ≡ paints h)
-  pub rests : Stays 0 (flags_of (watch frames) h) es
+  pub rests : AllByRecursion (λ p. p.0 ≡ false → p.1.1 ≡ p.1.0) (zip (flags_of frames s h) (zip (0 ∷ es) es))
   -- in every run that begins at an A with any terminal of its size each mirrored Paint shows its part and prints no more than it has to,
   -- as far as bytes were written
-  pub shows : (n : ℕ) → EachRun ShowsView size (take n built) (seconds_of (watch frames) s h) (picked (flags_of (watch frames) h) es)
-  pub few : (n : ℕ) → EachRun PrintsFew size (take n built) (seconds_of (watch frames) s h) (picked (flags_of (watch frames) h) es)
+  pub shows : (n : ℕ) → EachRun ShowsView size (take n built) (seconds_of frames s h) (picked (flags_of frames s h) es)
+  pub few : (n : ℕ) → EachRun PrintsFew size (take n built) (seconds_of frames s h) (picked (flags_of frames s h) es)
+
+-- the same, as it is walked
+pub record Reflects (s : State) (frames : List MirrorFrame) (size : Size) (es : List ℕ) (before now : Option (List ℕ))
+    (failed memory : Bool) (h : List Entry) : Type 0 where
+  pub built : List ℕ
+  -- as many bytes as the last end says, of which a front was written, and all unless the sink failed or there was no memory
+  pub long : length built ≡ last_end es
+  pub front : WroteFront built before now
+  pub all' : failed ≡ false → memory ≡ false → now ≡ then_written before built
+  -- each Paint has its end; for want of memory the last one may have none; at a Paint that is not mirrored the stream does not grow
+  pub ends' : memory ≡ false → length es ≡ paints h
+  pub but_last : (length es ≡ paints h) ⊎ (length es + 1 ≡ paints h)
+  pub rests : Stays 0 (walked.flags_of (watch frames) h) es
+  -- in every run that begins at an A with any terminal of its size each mirrored Paint shows its part and prints no more than it has to,
+  -- as far as bytes were written
+  pub shows : (n : ℕ) → EachRun ShowsView size (take n built) (walked.seconds_of (watch frames) s h) (walked.picked (walked.flags_of (watch frames) h) es)
+  pub few : (n : ℕ) → EachRun PrintsFew size (take n built) (walked.seconds_of (watch frames) s h) (walked.picked (walked.flags_of (watch frames) h) es)
 
 -- what the frame at a Paint is: the part's, where a terminal is attached, and else nothing
 abbrev pub FrameOf : Option Kept → Option Kept → View → List ℕ → Type 0
