@@ -3,7 +3,7 @@ use Rattle.std.specs.Prelude.{◌≡◌, ◌⊎◌, ℕ, ◌+◌, ◌<◌, true,
 use Rattle.std.specs.List.{list_all, AllByRecursion}
 use Rattle.con_units.specs.declared.view.Frame.{Frame}
 use Rattle.con_link.specs.Frames.{spelling, is_frame, goes_on}
-use Rattle.con_link.specs.Plainly.{IsLink, Shows}
+use Rattle.con_link.specs.LinkReading.{plainly, IsLinkBy, ShowsBy}
 use Rattle.con_units.specs.declared.view.FrameFault.{FrameFault}
 use Rattle.con_events.specs.Session.{Clients}
 use Rattle.con_events.specs.declared.end.End.TheVariants as ends
@@ -40,8 +40,8 @@ pub record AreFrames (link : List ℕ) (frames : List Frame) : Type 0 where
   pub rest : List ℕ
   pub text : link ≡ flat_map spelling frames ++ rest
   pub frames' : list_all is_frame frames ≡ true
-  pub stop : IsLink frames (Some rest) ⊎ ((list_all goes_on frames ≡ true) × (kind : FrameFault) × (taken left : List ℕ)
-      × (rest ≡ taken ++ left) × Shows kind taken (Some left))
+  pub stop : IsLinkBy plainly frames (Some rest) ⊎ ((list_all goes_on frames ≡ true) × (kind : FrameFault) × (taken left : List ℕ)
+      × (rest ≡ taken ++ left) × ShowsBy plainly kind taken (Some left))
 
 -- ---- the parts that a front of the entries must keep
 

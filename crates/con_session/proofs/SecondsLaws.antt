@@ -17,7 +17,7 @@ use Rattle.con_link.specs.Mirrored.{as_plain}
 use Rattle.con_link.specs.declared.mirror.MirrorFrame.TheVariants.{Plain, Attach, Detach}
 use Rattle.con_units.specs.declared.view.Frame.TheVariants as frames
 use Rattle.con_machine.specs.Follows.{sent_by}
-use Rattle.con_session.specs.Outcome.{end_of}
+use Rattle.con_session.specs.Watched.{end_of}
 
 seconds-append : (w : Watch) (s : State) (h g : List Entry) → seconds_of w s (h ++ g) ≡ seconds_of w s h ++ seconds_of (after watched w h) (run s h) g
 seconds-append w s [] g = refl

@@ -41,7 +41,8 @@ use Rattle.con_machine.specs.Step.{is_ready}
 use Rattle.con_machine.specs.Turns.{sent, has_ended, is_pending, paints}
 use Rattle.con_laws.specs.Whole.{HaveAllLeft}
 use Rattle.con_session.specs.Desk.{listed}
-use Rattle.con_session.specs.Outcome.{Leaves, LeavesBy, IsCutBy, HasSentBy, end_of, last_end}
+use Rattle.con_session.specs.Outcome.{Leaves, LeavesBy, IsCutBy, HasSentBy, last_end}
+use Rattle.con_session.specs.Watched.{end_of}
 use Rattle.con_session.specs.Painting.{CanvasEnds}
 use Rattle.con_laws.specs.TerminalRuns.{EachRun, ShowsView}
 use Rattle.con_session.specs.Runs.{EachPiece, Painted, PrintsFew, PrintsNewRows, joined, ends_from}

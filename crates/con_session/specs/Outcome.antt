@@ -1,5 +1,5 @@
 -- What a session leaves behind: what is promised of its history and answers, of the bytes of its terminal, and of its link; and of one by turns, its rounds.
-use Rattle.std.specs.Prelude.{◌≡◌, ◌⊎◌, ℕ, ◌+◌, ◌≤◌, true, false, List, [], ◌∷◌, ◌++◌, map, flat_map, length, take, Option, Err}
+use Rattle.std.specs.Prelude.{◌≡◌, ◌⊎◌, ℕ, ◌+◌, ◌≤◌, true, false, List, [], ◌∷◌, ◌++◌, map, flat_map, fold, length, take, Option, Err}
 use Rattle.std.specs.List.{list_all}
 use Rattle.con_outside.specs.Outside.{then_left, then_written, WroteFront}
 use Rattle.con_link.specs.LinkReading.{LinkReading, plainly, AnswersBy, IsLinkBy, all_go_on}
@@ -20,7 +20,7 @@ use Rattle.con_laws.specs.Whole.{IsWhole, HaveAllLeft}
 use Rattle.con_session.specs.Desk.{listed}
 use Rattle.con_laws.specs.TerminalRuns.{EachRun, ShowsView}
 use Rattle.con_session.specs.Runs.{PrintsFew, PrintsNewRows}
-use Rattle.con_session.specs.Sender.{NoMore, TakesBehind}
+use Rattle.con_session.specs.Sender.{TakesBehind}
 
 -- ---- the link
 
@@ -43,12 +43,8 @@ HasSentBy R _ frames text left sent' = Unit {0}
 -- ---- the terminal
 
 -- where the last frame ends in the stream
-abbrev pub end_of : ℕ → List ℕ → ℕ
-end_of before [] = before
-end_of before (e ∷ es) = end_of e es
-
 abbrev pub last_end : List ℕ → ℕ
-last_end es = end_of 0 es
+last_end es = fold (λ before e. e) 0 es
 
 -- ---- all of it
 
@@ -92,7 +88,7 @@ pub record LeavesBy (R : LinkReading) (More : List R.One → List Entry → Type
 -- of a session with no second terminal
 abbrev pub Leaves : Clients → List (List ℕ) → List Entry → List Reply → List ℕ → End → Option (List ℕ) → Option (List ℕ)
     → Option (List ℕ) → Option (List ℕ) → Type 0
-Leaves session racks h rs es end before left old now = LeavesBy plainly NoMore session racks h rs es end before left old now
+Leaves session racks h rs es end before left old now = LeavesBy plainly (λ frames h. Unit {0}) session racks h rs es end before left old now
 
 -- of a session by turns, besides: its history is rounds of these turns
 pub record IsOutcomeBy (R : LinkReading) (More : List R.One → List Entry → Type 0) (session : Clients) (racks : List (List ℕ)) (h : List Entry)
@@ -102,4 +98,4 @@ pub record IsOutcomeBy (R : LinkReading) (More : List R.One → List Entry → T
 
 abbrev pub IsSoloOutcome : Clients → List (List ℕ) → List Entry → List Reply → List ℕ → End → Option (List ℕ) → Option (List ℕ)
     → Option (List ℕ) → Option (List ℕ) → Type 0
-IsSoloOutcome session racks h rs es end before left old now = IsOutcomeBy plainly NoMore session racks h rs es end before left old now
+IsSoloOutcome session racks h rs es end before left old now = IsOutcomeBy plainly (λ frames h. Unit {0}) session racks h rs es end before left old now

@@ -1,5 +1,5 @@
 -- What a second terminal's size and picture become in a history, walked entry by entry, as the proofs go.
-use Rattle.std.specs.Prelude.{◌≡◌, ℕ, Bool, true, false, is_some, List, [], ◌∷◌, ◌++◌, drop, slice_get, Option, Some, None, if◌then◌else◌}
+use Rattle.std.specs.Prelude.{◌≡◌, ℕ, Bool, true, false, is_some, List, [], ◌∷◌, ◌++◌, drop, fold, slice_get, Option, Some, None, if◌then◌else◌}
 use Rattle.con_units.specs.declared.place.Size.{Size}
 use Rattle.con_units.specs.declared.view.View.{View}
 use Rattle.con_units.specs.declared.view.Sight.{Sight}
@@ -13,6 +13,10 @@ use Rattle.con_events.specs.declared.event.Event.TheVariants as events
 use Rattle.con_machine.specs.Painting.{view_now}
 use Rattle.con_machine.specs.State.{State}
 use Rattle.con_machine.specs.Turns.{moved, is_terminal}
+
+-- the last of these, or else this
+abbrev pub end_of : ℕ → List ℕ → ℕ
+end_of before es = fold (λ b e. e) before es
 
 -- the frames for which the terminal's side has still to enter an event, and the size of the second terminal, if one is attached
 pub record Watch : Type 0 where

@@ -9,9 +9,6 @@ use Rattle.con_term.specs.Play.{play}
 use Rattle.con_ending.specs.Ending.{end_line, Told}
 use Rattle.con_text.specs.Link.{IsTooLong}
 
-abbrev pub is_play_status : ℕ → Bool
-is_play_status n = nat_eq n 0 || nat_eq n 4 || nat_eq n 6 || nat_eq n 9 || nat_eq n 10
-
 -- the text was read to the link's end, and is not too long
 abbrev pub IsWhole : List ℕ → Option (List ℕ) → Type 0
 IsWhole text left = (length text ≤ 16777216) × IfSome left (λ rest. rest ≡ [])
@@ -20,9 +17,9 @@ IsWhole text left = (length text ≤ 16777216) × IfSome left (λ rest. rest ≡
 abbrev pub dump_bytes : Page → List ℕ
 dump_bytes screen = flat_map unit_bytes (dump screen)
 
--- the dump of a blank terminal of this size that was played the text
+-- the dump of a blank terminal of this size that was played the text, in UTF-8
 abbrev pub dump_after : Size → List ℕ → List ℕ
-dump_after size text = dump_bytes (play (record { page = blank_page size.w size.h; bytes = []; units = [] }) text).page
+dump_after size text = flat_map unit_bytes (dump (play (record { page = blank_page size.w size.h; bytes = []; units = [] }) text).page)
 
 -- How far playing came without memory: nothing was written; or a part of the dump, the link being read whole; or a part of a
 -- last line.
@@ -33,7 +30,7 @@ PlayedPart size text left before now =
 
 -- The text that was taken from the link, what is left of it, and what the report has, for each status that comes.
 pub record Played (status : ℕ) (size : Size) (text : List ℕ) (left before now : Option (List ℕ)) (failed : Type 0) : Type 0 where
-  pub comes : IsTrue (is_play_status status)
+  pub comes : IsTrue (nat_eq status 0 || nat_eq status 4 || nat_eq status 6 || nat_eq status 9 || nat_eq status 10)
   pub done : status ≡ 0 → IsWhole text left × (now ≡ then_written before (dump_after size text))
   pub report_failed : status ≡ 6 → IsWhole text left × WroteFront (dump_after size text) before now
   pub link_failed : status ≡ 4 → (length text ≤ 16777216) × Told (end_line 4) before now failed

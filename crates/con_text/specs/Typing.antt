@@ -1,5 +1,5 @@
 -- A text that is typed, and how typing ends.
-use Rattle.std.specs.Prelude.{◌≡◌, ℕ, ◌≤◌, ◌⊎◌, ◌||◌, Bool, List, [], ◌∷◌, ◌++◌, length, Option, IsSomeAnd, IsTrue, nat_eq, flat_map}
+use Rattle.std.specs.Prelude.{◌≡◌, ℕ, ◌≤◌, ◌⊎◌, ◌||◌, Bool, List, [], ◌∷◌, ◌++◌, length, map, take, Option, IsSomeAnd, IsTrue, nat_eq, flat_map}
 use Rattle.con_outside.specs.Outside.{then_written, WroteFront, WrotePart}
 use Rattle.con_units.specs.Split.{split, split_after}
 use Rattle.con_units.specs.Utf8.{utf8}
@@ -17,12 +17,11 @@ use Rattle.con_text.specs.Playing.{IsWhole}
 
 -- one more U+FFFD for a character that is cut at the text's end
 abbrev pub cut_units : List ℕ → List ℕ
-cut_units [] = []
-cut_units (byte ∷ bytes) = 0xFFFD ∷ []
+cut_units held = take 1 (map (λ byte. 0xFFFD) held)
 
 -- the units of a text of bytes: its characters, U+FFFD for each maximal ill-formed part, and for a cut end
 abbrev pub text_units : List ℕ → List ℕ
-text_units text = flat_map units_of (split utf8 text).items ++ cut_units (split utf8 text).tail
+text_units text = flat_map units_of (split utf8 text).items ++ take 1 (map (λ byte. 0xFFFD) (split utf8 text).tail)
 
 -- one buffer of 80 by 25, where virtual terminal sequences act
 abbrev pub opening : Buffers
@@ -31,9 +30,10 @@ opening = screen_left (first_buffers 80 25) 0 (mode_set (new_screen 80 25) 7)
 abbrev pub units_typed : Buffers → List ℕ → Buffers
 units_typed buffers units = with_buffer buffers 0 (buffer_written nothing_told units)
 
--- the buffers after a text
+-- one buffer of 80 by 25, where virtual terminal sequences act, after a text
 abbrev pub text_typed : List ℕ → Buffers
-text_typed text = units_typed opening (text_units text)
+text_typed text =
+    with_buffer (screen_left (first_buffers 80 25) 0 (mode_set (new_screen 80 25) 7)) 0 (buffer_written nothing_told (text_units text))
 
 -- on any terminal of that size, the bytes, played, show the window of the active buffer, which is there
 abbrev pub ShowsBuffers : List ℕ → Buffers → Type 0
@@ -61,12 +61,11 @@ ended_with buffers (byte ∷ bytes) = units_typed buffers (0xFFFD ∷ [])
 abbrev pub ended : Typing → Buffers
 ended t = ended_with t.buffers t.held
 
-abbrev pub is_type_status : ℕ → Bool
-is_type_status n = nat_eq n 0 || nat_eq n 4 || nat_eq n 5 || nat_eq n 9 || nat_eq n 10
-
 -- a frame that shows a text, and prints or erases no more cells than the screen has
 abbrev pub IsFrame : List ℕ → List ℕ → Type 0
-IsFrame text frame = ShowsBuffers frame (text_typed text) × PrintsAtMost 2000 frame
+IsFrame text frame = let s = text_typed text in
+    IsSomeAnd (buffer_at s s.active) (λ b. (t : Terminal) → IsTerminal 80 25 t → Shows (play t frame) (view_of b.shown.page))
+    × ((t : Terminal) → IsTerminal 80 25 t → printed t frame ≤ 2000)
 
 -- a front of such a frame was written
 abbrev pub WroteFrame : List ℕ → Option (List ℕ) → Option (List ℕ) → Type 0
@@ -83,7 +82,7 @@ TypedPart text left before now before_report report =
 
 -- The text that was taken from the link, what is left of it, and what the terminal and the report have, for each status that comes.
 pub record Typed (status : ℕ) (text : List ℕ) (left before now before_report report : Option (List ℕ)) (failed : Type 0) : Type 0 where
-  pub comes : IsTrue (is_type_status status)
+  pub comes : IsTrue (nat_eq status 0 || nat_eq status 4 || nat_eq status 5 || nat_eq status 9 || nat_eq status 10)
   pub done : status ≡ 0 → IsWhole text left × (report ≡ before_report) × ((frame : List ℕ) × IsFrame text frame × (now ≡ then_written before frame))
   pub term_failed : status ≡ 5 → IsWhole text left × WroteFrame text before now × Told (end_line 5) before_report report failed
   pub link_failed : status ≡ 4 → (length text ≤ 16777216) × (now ≡ before) × Told (end_line 4) before_report report failed
