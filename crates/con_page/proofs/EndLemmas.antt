@@ -10,7 +10,7 @@ use Rattle.std.proofs.Math.Nat.{mul-le-mul_right}
 use Rattle.con_units.specs.Glyph.{Glyph}
 use Rattle.con_vtgram.specs.declared.item.Item.TheVariants as items
 use Rattle.con_grid.specs.Picture.{part_of, lifted, part_lifted}
-use Rattle.con_page.specs.Page.{Page, IsPage, blank, unlate, rows_up, down_in, down, least_shift, shown}
+use Rattle.con_page.specs.Page.{Page, IsPage, blank, rows_up, down_in, down, least_shift, shown}
 use Rattle.con_page.specs.Effect.{control_effect, act, follow, effect}
 use Rattle.con_page.specs.Ends.{is_end, act_next, all_ended, one_more, feeds_in, CanEnd, fed, goes_back, ended}
 use Rattle.con_page.proofs.RunLemmas.{still}
@@ -163,6 +163,9 @@ followed : (p : Page) (cells now : List Glyph) (x x' y y' : ℕ) → 0 < p.w →
     → follow (stood p cells x y) (gone (stood p cells x y) now x' y') ≡ stood p now x' y'
 unfolding follow shown
 followed p cells now x x' y y' wide tall column row = followed_by p cells now x x' y y' ((x' == x) && (y' == y)) refl wide tall ∙ rw (column, row) refl
+
+abbrev unlate : Page → Page
+unlate q = record q { late = false }
 
 abbrev fed_cells : Page → Bool → List Glyph
 fed_cells q b = cond b (part_lifted q.grid.cells (0 * q.grid.width) (q.grid.height * q.grid.width) (1 * q.grid.width) (blank q)) q.grid.cells

@@ -7,4 +7,3 @@ pub mod FitLemmas
 pub mod WordLemmas
 pub mod ScanLemmas
 pub mod EchoLemmas
-pub mod PenLemmas

@@ -11,9 +11,9 @@ use Rattle.con_units.specs.Glyph.{Glyph, cell_of}
 use Rattle.con_units.specs.Plain.{is_plain}
 use Rattle.con_vtgram.specs.declared.item.Item.TheVariants as items
 use Rattle.con_page.specs.Page.{Page, IsPage, place, attr, shown, least_shift}
-use Rattle.con_page.specs.Print.{drawn, line_of, printed, wrapped, put, advanced}
+use Rattle.con_page.specs.Print.{line_of, printed, wrapped, put, advanced}
 use Rattle.con_page.specs.Effect.{effect, act, follow}
-use Rattle.con_page.specs.Run.{is_printed, print_next, all_printed, CanRun, run_cells, ran, run_of}
+use Rattle.con_page.specs.Run.{drawn, is_printed, print_next, all_printed, CanRun, run_cells, ran, run_of}
 
 both : (a b : Bool) → (a && b) ≡ true → (a ≡ true) × (b ≡ true)
 both true b h = (refl, h)

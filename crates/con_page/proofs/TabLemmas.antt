@@ -3,10 +3,17 @@ use mathlib.Core.List.{reverse_aux}
 use Rattle.std.proofs.Common.{◌≡◌, ℕ, zero, suc, ◌+◌, ◌-◌, ◌<◌, ◌≤◌, Bool, true, false, cond, List, [], ◌∷◌, ◌++◌, length, get_or, take, drop, reverse, refl, sym, ap, ◌∙◌, arith}
 use Rattle.std.proofs.Math.Seq.{drop-cons, take-suc}
 use Rattle.std.proofs.Math.ListN.{drop_of_length-le}
-use Rattle.std.specs.Prelude.{Some, None, nat_lt, position}
+use Rattle.std.specs.Prelude.{Option, Some, None, nat_lt, position}
 use Rattle.std.specs.List.{position_or_len}
 use Rattle.std.proofs.lemmas.Bool.Decides.{nat_tests}
-use Rattle.con_page.specs.Effect.{times, stop_right, stop_left, tab_right, tab_left}
+use Rattle.std.specs.Option.{option_map_or}
+use Rattle.con_page.specs.Effect.{times, tab_right, tab_left}
+
+abbrev stop_right : ℕ → ℕ → Option ℕ → ℕ
+stop_right w x o = option_map_or (λ k. x + 1 + k) o (w - 1)
+
+abbrev stop_left : ℕ → Option ℕ → ℕ
+stop_left x o = option_map_or (λ k. x - 1 - k) o 0
 
 settled : (f : ℕ → ℕ) (x i k : ℕ) → f (times i f x) ≡ times i f x → times (k + i) f x ≡ times i f x
 settled f x i zero same = let e : 0 + i ≡ i = omega arith in rw e refl

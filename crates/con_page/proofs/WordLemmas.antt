@@ -5,7 +5,7 @@ use Rattle.std.proofs.lemmas.Nat.Bits.{and_high}
 use Rattle.std.proofs.lemmas.Bool.Decides.{nat_tests}
 use Rattle.con_units.specs.Attr.{masked, plain}
 use Rattle.con_units.specs.declared.shade.Shade.TheVariants as shade
-use Rattle.con_page.specs.Pen.{word_of, attr_of}
+use Rattle.con_vtgram.specs.Pen.{word_of, attr_of}
 use Rattle.con_page.specs.Setters.{pen_of_word}
 
 halves : (a r : ℕ) → r < 2 ^ 8 → bit_and (a * 2 ^ 8 + r) 0xC0FF ≡ (a / 2 ^ 6 % 2 ^ 2) * 2 ^ 6 * 2 ^ 8 + r % 2 ^ 8

@@ -24,9 +24,6 @@ row_within height (negsuc n) = negsuc n
 abbrev pub origin_in : Page → Origin → Origin
 origin_in p o = record { x = within p.grid.width o.x; y = row_within p.grid.height o.y }
 
-abbrev pub column_of : Page → Origin → ℕ → ℕ
-column_of p o k = (o.x + k) % p.grid.width
-
 -- the row of a place, and 0 where it lies above row 0
 abbrev pub row_of : Page → Origin → ℕ → ℕ
 row_of p o k = natural o.y + (o.x + k) / p.grid.width - rows_above o.y
@@ -37,16 +34,9 @@ row_of p o k = natural o.y + (o.x + k) / p.grid.width - rows_above o.y
 abbrev pub rows_past : Page → Origin → ℕ → ℕ
 rows_past p o k = row_of p o k - (p.grid.height - 1)
 
--- the whole buffer, so that a line of this length and the place behind it are in it
-abbrev pub scrolled : Page → Origin → ℕ → Page
-scrolled p o end = rows_up p 0 p.grid.height (rows_past p o end)
-
--- the origin's row falls by as many
-abbrev pub fallen : Page → Origin → ℕ → Origin
-fallen p o end = record o { y = o.y -ℤ pos (rows_past p o end) }
-
+-- the origin when the buffer has scrolled so that a line of this length, and the place behind it, are in it
 abbrev pub origin_after : Page → Origin → ℕ → Origin
-origin_after p o end = fallen p (origin_in p o) end
+origin_after p o end = let at = origin_in p o in record at { y = at.y -ℤ pos (rows_past p at end) }
 
 -- ---- the cells
 
@@ -69,6 +59,25 @@ texts_rule p old new k was =
     else if nat_lt k (length old) then blank p
     else was
 
+-- ---- the cursor
+
+-- the cursor at a place, in the buffer
+abbrev pub cursor_at : Page → Origin → ℕ → Page
+cursor_at p o k = record p { x = (o.x + k) % p.grid.width; y = within p.grid.height (row_of p o k); late = false }
+
+-- ---- the whole
+
+-- a line of this length changes by a rule, and the cursor goes to the caret's place
+unfoldable pub changed : Page → Origin → ℕ → (ℕ → Glyph → Glyph) → ℕ → Page
+changed p o end rule caret = let at = origin_after p o end in
+    shown (cursor_at (drawn_by (rows_up p 0 p.grid.height (rows_past p (origin_in p o) end)) at rule) at caret)
+
+-- the line ends: the cursor goes to the place of its length, then to column 0 and down without margins
+unfoldable pub ended : Page → Origin → ℕ → Page
+ended p o end = shown (down_in (record (cursor_at p (origin_in p o) end) { x = 0 }) None)
+
+-- ---- the same in its parts, as the code has it
+
 -- the places from `offset` on show units, those behind them are blanks, and the others stay
 abbrev pub part_rule : Page → ℕ → List ℕ → ℕ → ℕ → Glyph → Glyph
 part_rule p offset units blanks k was =
@@ -77,19 +86,10 @@ part_rule p offset units blanks k was =
     else if nat_lt k (offset + length units + blanks) then blank p
     else was
 
--- ---- the cursor
+-- the whole buffer, so that a line of this length and the place behind it are in it
+abbrev pub scrolled : Page → Origin → ℕ → Page
+scrolled p o end = rows_up p 0 p.grid.height (rows_past p o end)
 
--- the cursor at a place, in the buffer
-abbrev pub cursor_at : Page → Origin → ℕ → Page
-cursor_at p o k = record p { x = column_of p o k; y = within p.grid.height (row_of p o k); late = false }
-
--- ---- the whole
-
--- a line of this length changes by a rule, and the cursor goes to the caret's place
-unfoldable pub changed : Page → Origin → ℕ → (ℕ → Glyph → Glyph) → ℕ → Page
-changed p o end rule caret = let at = origin_after p o end in
-    shown (cursor_at (drawn_by (scrolled p (origin_in p o) end) at rule) at caret)
-
--- the line ends: the cursor goes to the place of its length, then to column 0 and down without margins
-unfoldable pub ended : Page → Origin → ℕ → Page
-ended p o end = shown (down_in (record (cursor_at p (origin_in p o) end) { x = 0 }) None)
+-- the origin's row falls by as many
+abbrev pub fallen : Page → Origin → ℕ → Origin
+fallen p o end = record o { y = o.y -ℤ pos (rows_past p o end) }

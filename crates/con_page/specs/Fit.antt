@@ -12,20 +12,45 @@ pub record Fit : Type 0 where
   pub grid : Picture
   pub tabs : List Bool
 
--- Where the height falls, as many rows go at the top as the cursor's row lies below the new last row, and the others at
--- the bottom.
+-- the window fits into the buffer, and both are within their limits
+pub record AreSizes (buffer window : Size) : Type 0 where
+  pub some : (0 < window.w) × (0 < window.h)
+  pub inside : (window.w ≤ buffer.w) × (window.h ≤ buffer.h)
+  pub few : (buffer.w ≤ 512) × (buffer.h ≤ 2048) × (window.h ≤ 256)
+
+-- a column or a row, in a side
+abbrev pub within : ℕ → ℕ → ℕ
+within side n = min n (side - 1)
+
+-- The page in a buffer and a window of these sizes. Where the height falls, as many rows go at the top as the cursor's row lies
+-- below the new last row, and the others at the bottom; new cells are spaces in the pen's attribute. The cursor and the saved
+-- position go up with the rows that go at the top, and stay in the buffer. The window's corner does likewise, and the window
+-- stays in the buffer, and shows the cursor.
+unfoldable pub refitted : Page → Size → Size → Page
+refitted p buffer window = let lost = min (p.grid.height - buffer.h) (p.y - (buffer.h - 1)) in shown (record p {
+  grid = resized p.grid buffer.w buffer.h lost (blank p);
+  x = within buffer.w p.x;
+  y = within buffer.h (p.y - lost);
+  saved_x = within buffer.w p.saved_x;
+  saved_y = within buffer.h (p.saved_y - lost);
+  left = min p.left (buffer.w - window.w);
+  top = min (p.top - lost) (buffer.h - window.h);
+  w = window.w;
+  h = window.h;
+  margins = None;
+  tabs = if buffer.w == p.grid.width then p.tabs else default_tabs buffer.w;
+  late = false;
+})
+
+-- ---- as the code makes it
+
+-- how many rows go at the top
 abbrev pub lost_rows : Page → ℕ → ℕ
 lost_rows p h = min (p.grid.height - h) (p.y - (h - 1))
 
 -- the cells that stay; new ones are spaces in the pen's attribute
 abbrev pub refitted_grid : Page → Size → Picture
 refitted_grid p buffer = resized p.grid buffer.w buffer.h (lost_rows p buffer.h) (blank p)
-
--- the window fits into the buffer, and both are within their limits
-pub record AreSizes (buffer window : Size) : Type 0 where
-  pub some : (0 < window.w) × (0 < window.h)
-  pub inside : (window.w ≤ buffer.w) × (window.h ≤ buffer.h)
-  pub few : (buffer.w ≤ 512) × (buffer.h ≤ 2048) × (window.h ≤ 256)
 
 -- it was made for this page
 pub record IsFit (p : Page) (f : Fit) : Type 0 where
@@ -35,12 +60,7 @@ pub record IsFit (p : Page) (f : Fit) : Type 0 where
   pub tabs : f.tabs ≡ default_tabs f.buffer.w
   pub stops : length f.tabs ≡ f.buffer.w
 
--- a column or a row, in a side
-abbrev pub within : ℕ → ℕ → ℕ
-within side n = min n (side - 1)
-
--- The cursor and the saved position go up with the rows that go at the top, and stay in the buffer. The window's corner
--- does likewise, and the window stays in the buffer.
+-- before the window shows the cursor
 abbrev pub moved_in : Page → Size → Size → Page
 moved_in p buffer window = let lost = lost_rows p buffer.h in record p {
   grid = refitted_grid p buffer;
@@ -56,7 +76,3 @@ moved_in p buffer window = let lost = lost_rows p buffer.h in record p {
   tabs = if buffer.w == p.grid.width then p.tabs else default_tabs buffer.w;
   late = false;
 }
-
--- the page in a buffer and a window of these sizes
-unfoldable pub refitted : Page → Size → Size → Page
-refitted p buffer window = shown (moved_in p buffer window)

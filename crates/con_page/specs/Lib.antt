@@ -1,8 +1,6 @@
 -- What a reader must believe: public contracts cite it.
 -- The table of effects, and what it speaks of.
 pub mod Mode
-pub mod Nibble
-pub mod Pen
 pub mod Page
 pub mod Print
 pub mod Effect
@@ -17,6 +15,7 @@ pub mod PageLending
 pub mod PageView
 pub mod FitView
 pub mod Applied
+pub mod Kinds
 pub mod Run
 pub mod Ends
 -- Laws of items.

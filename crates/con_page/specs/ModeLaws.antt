@@ -5,7 +5,7 @@ use Rattle.con_vtgram.specs.declared.item.Item.{Item}
 use Rattle.con_vtgram.specs.declared.item.Item.TheVariants as items
 use Rattle.con_page.specs.Page.{Page, down, down_in, shown}
 use Rattle.con_page.specs.Print.{wrapped, put, advanced, printed}
-use Rattle.con_page.specs.Effect.{effect, follow, act, sequence_effect, private_effect, plain_effect, setting, edit, motion, line_feed, control_effect, escape_effect, display_erased, line_erased}
+use Rattle.con_page.specs.Effect.{effect, follow, act, sequence_effect, plain_effect, setting, edit, control_effect, escape_effect, part_erased}
 use Rattle.con_page.specs.declared.mode.Mode.{Mode}
 use Rattle.con_page.specs.declared.margins.Margins.{Margins}
 
@@ -33,44 +33,32 @@ printed_mode : (u : ℕ) (p : Page) → (printed u p).mode ≡ p.mode
 unfolding printed put
 printed_mode u p = advanced_mode (put u (wrapped p)) ∙ wrapped_mode p
 
-line_feed_mode : (p : Page) → (line_feed p).mode ≡ p.mode
-line_feed_mode p = down_mode (cond p.mode.keeps_column p (record p { x = 0 })) ∙ search either depth 14
-
 control_mode : (p : Page) (u : ℕ) → (control_effect p u).mode ≡ p.mode
 unfolding control_effect
-control_mode p u = search (either, line_feed_mode) depth 14
-
-motion_mode : (p : Page) (c : Csi) → (motion p c).mode ≡ p.mode
-unfolding motion
-motion_mode p c = search either depth 14
-
-display_mode : (p : Page) (n : ℕ) → (display_erased p n).mode ≡ p.mode
-unfolding display_erased
-display_mode p n = search either depth 14
-
-line_mode : (p : Page) (n : ℕ) → (line_erased p n).mode ≡ p.mode
-unfolding line_erased
-line_mode p n = search either depth 14
-
-edit_mode : (p : Page) (c : Csi) → (edit p c).mode ≡ p.mode
-unfolding edit
-edit_mode p c = search (either, display_mode, line_mode) depth 14
+control_mode p u = search (either, fed) depth 14
+  where
+    fed : (down (cond p.mode.keeps_column p (record p { x = 0 }))).mode ≡ p.mode
+    fed = down_mode (cond p.mode.keeps_column p (record p { x = 0 })) ∙ search either depth 14
 
 setting_mode : (p : Page) (c : Csi) → (setting p c).mode ≡ p.mode
 unfolding setting
 setting_mode p c = search either depth 14
 
+part_mode : (p : Page) (from upto n : ℕ) → (part_erased p from upto n).mode ≡ p.mode
+unfolding part_erased
+part_mode p from upto n = search either depth 14
+
+edit_mode : (p : Page) (c : Csi) → (edit p c).mode ≡ p.mode
+unfolding edit
+edit_mode p c = search (either, part_mode, setting_mode) depth 14
+
 plain_mode : (p : Page) (c : Csi) → (plain_effect p c).mode ≡ p.mode
 unfolding plain_effect
-plain_mode p c = search (either, motion_mode, edit_mode, setting_mode) depth 14
-
-private_mode : (p : Page) (c : Csi) → (private_effect p c).mode ≡ p.mode
-unfolding private_effect
-private_mode p c = search either depth 14
+plain_mode p c = search (either, edit_mode) depth 16
 
 sequence_mode : (p : Page) (c : Csi) → (sequence_effect p c).mode ≡ p.mode
 unfolding sequence_effect
-sequence_mode p c = search (either, private_mode, plain_mode) depth 14
+sequence_mode p c = search (either, plain_mode) depth 14
 
 escape_mode : (p : Page) (u : ℕ) → (escape_effect p u).mode ≡ p.mode
 unfolding escape_effect

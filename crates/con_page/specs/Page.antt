@@ -1,10 +1,11 @@
 -- A screen without its unfinished text.
 use Rattle.std.specs.Prelude.{ℕ, ◌+◌, ◌-◌, ◌*◌, ◌<◌, ◌≡◌, ◌≤◌, Bool, false, ◌==◌, nat_lt, List, length, Option, None, Some, if◌then◌else◌}
+use Rattle.std.specs.Option.{option_map_or}
 use Rattle.con_units.specs.Attr.{Attribute}
 use Rattle.con_units.specs.Glyph.{Glyph, blank_in}
 use Rattle.con_grid.specs.Picture.{Picture, IsPicture, filled, part_lifted, part_lowered}
-use Rattle.con_page.specs.Pen.{attr_of, IsPen}
-use Rattle.con_page.specs.declared.pen.Pen.{Pen}
+use Rattle.con_vtgram.specs.Pen.{attr_of, IsPen}
+use Rattle.con_vtgram.specs.declared.pen.Pen.{Pen}
 use Rattle.con_page.specs.declared.mode.Mode.{Mode}
 use Rattle.con_page.specs.declared.margins.Margins.{Margins}
 
@@ -54,9 +55,7 @@ pub record IsPage (p : Page) : Type 0 where
 abbrev pub place : Page → ℕ
 place p = p.y * p.grid.width + p.x
 
-abbrev pub row_start : Page → ℕ
-row_start p = p.y * p.grid.width
-
+-- the place behind the cursor's row
 abbrev pub row_end : Page → ℕ
 row_end p = p.y * p.grid.width + p.grid.width
 
@@ -64,18 +63,11 @@ row_end p = p.y * p.grid.width + p.grid.width
 abbrev pub attr : Page → Attribute
 attr p = attr_of p.pen
 
--- its attribute word
-abbrev pub word : Page → ℕ
-word p = (attr p).word
-
 abbrev pub blank : Page → Glyph
 blank p = blank_in (attr p)
 
 abbrev pub with_cells : Page → List Glyph → Page
 with_cells p cells = record p { grid = record p.grid { cells = cells } }
-
-abbrev pub unlate : Page → Page
-unlate p = record p { late = false }
 
 -- the cells from one place up to another become blank
 abbrev pub erased : Page → ℕ → ℕ → Page
@@ -91,28 +83,19 @@ rows_down p first end n = with_cells p (part_lowered p.grid.cells (first * p.gri
 
 -- ---- the region
 
-abbrev pub first_of : Page → Option Margins → ℕ
-first_of p None = p.top
-first_of p (Some m) = p.top + m.top - 1
-
-abbrev pub end_of : Page → Option Margins → ℕ
-end_of p None = p.top + p.h
-end_of p (Some m) = p.top + m.bottom
-
 -- the region's first row
 abbrev pub region_first : Page → ℕ
-region_first p = first_of p p.margins
+region_first p = option_map_or (λ m. p.top + m.top - 1) p.margins p.top
 
 -- the row behind the region's last one
 abbrev pub region_end : Page → ℕ
-region_end p = end_of p p.margins
+region_end p = option_map_or (λ m. p.top + m.bottom) p.margins (p.top + p.h)
 
-abbrev pub row_down : Page → Page
-row_down p = if p.y + 1 == p.grid.height then p else record p { y = p.y + 1 }
-
+-- to the row below; on the last row of the buffer, or of the margins, its rows go up
 abbrev pub down_in : Page → Option Margins → Page
 down_in p None = if p.y + 1 == p.grid.height then rows_up p 0 p.grid.height 1 else record p { y = p.y + 1 }
-down_in p (Some m) = if p.y + 1 == p.top + m.bottom then rows_up p (p.top + m.top - 1) (p.top + m.bottom) 1 else row_down p
+down_in p (Some m) =
+    if p.y + 1 == p.top + m.bottom then rows_up p (p.top + m.top - 1) (p.top + m.bottom) 1 else if p.y + 1 == p.grid.height then p else record p { y = p.y + 1 }
 
 unfoldable pub down : Page → Page
 down p = down_in p p.margins

@@ -10,14 +10,11 @@ line_of u =
     else if u == 0x6E then 0x253C else if u == 0x71 then 0x2500 else if u == 0x74 then 0x251C else if u == 0x75 then 0x2524
     else if u == 0x76 then 0x2534 else if u == 0x77 then 0x252C else if u == 0x78 then 0x2502 else u
 
-abbrev pub drawn : Page → ℕ → ℕ
-drawn p u = if p.drawing then line_of u else u
-
 unfoldable pub wrapped : Page → Page
 wrapped p = if p.late then down (record p { x = 0; late = false }) else p
 
 unfoldable pub put : ℕ → Page → Page
-put u p = with_cells p (slice_set p.grid.cells (place p) (cell_of (drawn p u) (attr p)))
+put u p = with_cells p (slice_set p.grid.cells (place p) (cell_of (if p.drawing then line_of u else u) (attr p)))
 
 unfoldable pub advanced : Page → Page
 advanced p =

@@ -1,11 +1,11 @@
 -- Printed units in one row, which are written without reading them unit by unit.
-use Rattle.std.specs.Prelude.{ℕ, ◌≡◌, ◌+◌, ◌<◌, ◌≤◌, Bool, not, false, List, [], ◌∷◌, length, map, fold, slice_set}
+use Rattle.std.specs.Prelude.{ℕ, ◌≡◌, ◌+◌, ◌<◌, ◌≤◌, Bool, not, false, List, [], ◌∷◌, length, map, fold, slice_set, if◌then◌else◌}
 use Rattle.con_units.specs.Attr.{Attribute}
 use Rattle.con_units.specs.Glyph.{Glyph, cell_of}
 use Rattle.con_units.specs.Stored.{is_control}
 use Rattle.con_vtgram.specs.declared.item.Item.TheVariants as items
 use Rattle.con_page.specs.Page.{Page, place, attr}
-use Rattle.con_page.specs.Print.{drawn}
+use Rattle.con_page.specs.Print.{line_of}
 use Rattle.con_page.specs.Effect.{effect}
 
 -- between sequences the unit is printed, whatever the mode
@@ -18,6 +18,10 @@ print_next p u = effect p (items.Print u)
 -- the page after prints, one after another
 unfoldable pub all_printed : Page → List ℕ → Page
 all_printed p us = fold print_next p us
+
+-- what is written for a unit
+abbrev pub drawn : Page → ℕ → ℕ
+drawn p u = if p.drawing then line_of u else u
 
 -- n units end before the row's last column, and do not move the window
 pub record CanRun (p : Page) (n : ℕ) : Type 0 where

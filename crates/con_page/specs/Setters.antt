@@ -2,15 +2,13 @@
 use Rattle.std.specs.Prelude.{ℕ, zero, suc, pos, ◌≤ℤ◌, ◌+◌, ◌-◌, ◌*◌, ◌/◌, ◌%◌, ◌≤◌, ◌==◌, ◌&&◌}
 use Rattle.std.specs.Prelude.{Bool, true, false, nat_lt, List, [], ◌∷◌, ◌++◌, replicate, None}
 use Rattle.con_units.specs.Glyph.{blank_in}
-use Rattle.con_units.specs.declared.shade.Shade.TheVariants as shade
 use Rattle.con_units.specs.Natural.{natural}
 use Rattle.con_units.specs.declared.place.Coord.{Coord}
 use Rattle.con_units.specs.declared.place.Size.{Size}
-use Rattle.con_page.specs.Pen.{attr_of, starting_pen}
+use Rattle.con_vtgram.specs.Pen.{attr_of, starting_pen}
 use Rattle.con_page.specs.Mode.{mode_of, number_of}
-use Rattle.con_page.specs.Page.{Page, word, shown}
-use Rattle.con_page.specs.Effect.{clamp}
-use Rattle.con_page.specs.declared.pen.Pen.{Pen}
+use Rattle.con_page.specs.Page.{Page, attr, shown}
+use Rattle.con_vtgram.specs.declared.pen.Pen.{Pen}
 use Rattle.con_page.specs.declared.info.Info.{Info}
 
 -- a tab stops at columns 8, 16, 24 and so on
@@ -54,30 +52,15 @@ origin_set p x y = record p { left = x; top = y }
 
 -- the pen of an attribute word, with plain shades and without bold
 abbrev pub pen_of_word : ℕ → Pen
-pen_of_word n = record {
-  foreground = n % 16;
-  background = n / 16 % 16;
-  fore = shade.Plain;
-  back = shade.Plain;
-  bold = false;
-  underline = n / 0x8000 % 2 == 1;
-  negative = n / 0x4000 % 2 == 1;
-}
+pen_of_word n = record starting_pen { foreground = n % 16; background = n / 16 % 16; underline = n / 0x8000 % 2 == 1; negative = n / 0x4000 % 2 == 1 }
 
 abbrev pub info_of : Page → Info
 info_of p = record {
   buffer = record { w = p.grid.width; h = p.grid.height };
   cursor = record { x = pos p.x; y = pos p.y };
-  word = word p;
+  word = (attr p).word;
   window = record { left = pos p.left; top = pos p.top; right = pos (p.left + p.w - 1); bottom = pos (p.top + p.h - 1) };
   mode = number_of p.mode;
   cursor_size = p.cursor_size;
   visible = p.visible;
 }
-
--- the row and the column that a cursor report tells: in the window, from 1
-abbrev pub report_row : Page → ℕ
-report_row p = clamp p.top p.h p.y - p.top + 1
-
-abbrev pub report_column : Page → ℕ
-report_column p = clamp p.left p.w p.x - p.left + 1

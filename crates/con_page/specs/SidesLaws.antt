@@ -5,7 +5,7 @@ use Rattle.con_vtgram.specs.declared.item.Item.{Item}
 use Rattle.con_vtgram.specs.declared.item.Item.TheVariants as items
 use Rattle.con_page.specs.Page.{Page, down, down_in, shown}
 use Rattle.con_page.specs.Print.{wrapped, put, advanced, printed}
-use Rattle.con_page.specs.Effect.{effect, follow, act, sequence_effect, private_effect, plain_effect, setting, edit, motion, line_feed, control_effect, escape_effect, display_erased, line_erased}
+use Rattle.con_page.specs.Effect.{effect, follow, act, sequence_effect, plain_effect, setting, edit, control_effect, escape_effect, part_erased}
 use Rattle.con_page.specs.Sides.{Sides, sides}
 use Rattle.con_page.specs.declared.margins.Margins.{Margins}
 
@@ -33,44 +33,32 @@ printed_sides : (u : ℕ) (p : Page) → sides (printed u p) ≡ sides p
 unfolding printed put
 printed_sides u p = advanced_sides (put u (wrapped p)) ∙ wrapped_sides p
 
-line_feed_sides : (p : Page) → sides (line_feed p) ≡ sides p
-line_feed_sides p = down_sides (cond p.mode.keeps_column p (record p { x = 0 })) ∙ search either depth 14
-
 control_sides : (p : Page) (u : ℕ) → sides (control_effect p u) ≡ sides p
 unfolding control_effect
-control_sides p u = search (either, line_feed_sides) depth 14
-
-motion_sides : (p : Page) (c : Csi) → sides (motion p c) ≡ sides p
-unfolding motion
-motion_sides p c = search either depth 14
-
-display_sides : (p : Page) (n : ℕ) → sides (display_erased p n) ≡ sides p
-unfolding display_erased
-display_sides p n = search either depth 14
-
-line_sides : (p : Page) (n : ℕ) → sides (line_erased p n) ≡ sides p
-unfolding line_erased
-line_sides p n = search either depth 14
-
-edit_sides : (p : Page) (c : Csi) → sides (edit p c) ≡ sides p
-unfolding edit
-edit_sides p c = search (either, display_sides, line_sides) depth 14
+control_sides p u = search (either, fed) depth 14
+  where
+    fed : sides (down (cond p.mode.keeps_column p (record p { x = 0 }))) ≡ sides p
+    fed = down_sides (cond p.mode.keeps_column p (record p { x = 0 })) ∙ search either depth 14
 
 setting_sides : (p : Page) (c : Csi) → sides (setting p c) ≡ sides p
 unfolding setting
 setting_sides p c = search either depth 14
 
+part_sides : (p : Page) (from upto n : ℕ) → sides (part_erased p from upto n) ≡ sides p
+unfolding part_erased
+part_sides p from upto n = search either depth 14
+
+edit_sides : (p : Page) (c : Csi) → sides (edit p c) ≡ sides p
+unfolding edit
+edit_sides p c = search (either, part_sides, setting_sides) depth 14
+
 plain_sides : (p : Page) (c : Csi) → sides (plain_effect p c) ≡ sides p
 unfolding plain_effect
-plain_sides p c = search (either, motion_sides, edit_sides, setting_sides) depth 14
-
-private_sides : (p : Page) (c : Csi) → sides (private_effect p c) ≡ sides p
-unfolding private_effect
-private_sides p c = search either depth 14
+plain_sides p c = search (either, edit_sides) depth 16
 
 sequence_sides : (p : Page) (c : Csi) → sides (sequence_effect p c) ≡ sides p
 unfolding sequence_effect
-sequence_sides p c = search (either, private_sides, plain_sides) depth 14
+sequence_sides p c = search (either, plain_sides) depth 14
 
 escape_sides : (p : Page) (u : ℕ) → sides (escape_effect p u) ≡ sides p
 unfolding escape_effect

@@ -9,7 +9,7 @@
 //! - [`Page::echo`] and [`Page::end_line`] show a line that is edited, which begins at an [`Origin`] (`specs/Echo.antt`).
 //! - [`Page::fit`] takes the memory of a resize, and [`Page::resize`] does it (`specs/Fit.antt`).
 //! - Cells are written and erased in the pen's attribute: a word of sixteen colours, and for each of foreground and background
-//!   an index of the table of 256 where the pen has one (`specs/Pen.antt`).
+//!   an index of the table of 256 where the pen has one (con_vtgram's pen).
 //!
 //! Every call needs a page within its bounds (`IsPage`) and leaves one. Only `new` and `fit` take memory. Texts, and what
 //! they tell besides, are con_screen's.
@@ -23,7 +23,6 @@ pub mod margins;
 pub mod mode;
 pub mod origin;
 pub mod page;
-pub mod pen;
 mod tabs;
 
 pub use fit::Fit;

@@ -5,7 +5,7 @@ ghost use Rattle.con_page.specs.Page.{region_first, region_end, down, down_in, s
 ghost use Rattle.con_page.specs.Effect as now;
 ghost use Rattle.con_page.specs.Sides.{sides};
 ghost use Rattle.con_page.specs.Setters.{new_page};
-ghost use Rattle.con_page.specs.Setters.{report_row, report_column};
+ghost use Rattle.con_page.specs.Kinds.{report_row, report_column};
 
 mod alternate;
 mod apply;
@@ -15,15 +15,15 @@ mod ends;
 mod motion;
 mod print;
 mod resize;
-mod sequence;
+pub mod sequence;
 mod setters;
 
 use crate::margins::Margins;
 use crate::mode::Mode;
-use crate::pen::Pen;
 use crate::tabs::default_stops;
 use con_grid::Grid;
 use con_units::{Cell, OutOfMemory, Size};
+use con_vtgram::pen::Pen;
 use std::alloc::Global;
 use std::marker::Model;
 

@@ -1,52 +1,40 @@
 //! Sequences that erase, insert, delete and scroll.
-ghost use Rattle.std.specs.Prelude.{◌≡◌, ◌≤◌, length, true};
-ghost use Rattle.con_page.specs.Page.{IsPage, rows_up, rows_down, region_first, region_end};
+ghost use Rattle.std.specs.Prelude.{◌≡◌, ◌≤◌, length};
+ghost use Rattle.con_page.specs.Page.{IsPage, row_end, rows_down, region_first, region_end};
 ghost use Rattle.con_page.specs.Effect as now;
+ghost use Rattle.con_page.specs.Kinds as kinds;
 
 use super::Page;
 use con_vtgram::Csi;
-
-pub(crate) fn is_edit(unit: u16) -> bool
-    ensures { result ≡ now.is_edit unit }
-{
-    unit == 0x40
-        || unit == 0x4A
-        || unit == 0x4B
-        || unit == 0x4C
-        || unit == 0x4D
-        || unit == 0x50
-        || unit == 0x53
-        || unit == 0x54
-        || unit == 0x58
-}
 
 impl Page {
     // The place where the window's rows begin, and the one behind them.
     pub(crate) fn window_start(&self) -> usize
         requires { IsPage self.now }
-        ensures start { result ≡ now.window_start self.now }
-        ensures order { result ≤ now.window_end self.now }
+        ensures start { result ≡ kinds.window_start self.now }
+        ensures order { result ≤ kinds.window_end self.now }
     {
         self.top as usize * self.width()
     }
 
     pub(crate) fn window_end(&self) -> usize
         requires { IsPage self.now }
-        ensures end { result ≡ now.window_end self.now }
+        ensures end { result ≡ kinds.window_end self.now }
         ensures inside { result ≤ length self.now.grid.cells }
     {
         (self.top as usize + self.h as usize) * self.width()
     }
 
-    #[tactic(auto, unfolding(crate::specs::Effect::display_erased))]
-    pub(crate) fn erase_display(&mut self, how: u16)
+    // ED and EL: of the cells from one place up to another those from the cursor on, up to it, or all.
+    #[tactic(auto, unfolding(crate::specs::Effect::part_erased))]
+    pub(crate) fn erase_part(&mut self, start: usize, end: usize, how: u16)
         requires page { IsPage self.old }
-        ensures effect { self.new ≡ now.display_erased self.old how }
+        requires order { start ≤ end }
+        requires inside { end ≤ length self.old.grid.cells }
+        ensures effect { self.new ≡ now.part_erased self.old start end how }
         ensures page { IsPage self.new }
     {
         let at = self.place();
-        let start = self.window_start();
-        let end = self.window_end();
         match how {
             0 => self.erase(at.min(end).max(start), end),
             1 => self.erase(start, (at + 1).min(end).max(start)),
@@ -55,26 +43,29 @@ impl Page {
         }
     }
 
-    #[tactic(auto, unfolding(crate::specs::Effect::line_erased))]
-    pub(crate) fn erase_line(&mut self, how: u16)
+    pub(crate) fn erase_display(&mut self, how: u16)
         requires page { IsPage self.old }
-        ensures effect { self.new ≡ now.line_erased self.old how }
+        ensures effect { self.new ≡ now.part_erased self.old (kinds.window_start self.old) (kinds.window_end self.old) how }
         ensures page { IsPage self.new }
     {
-        let at = self.place();
-        let start = at - self.x as usize;
+        let start = self.window_start();
+        let end = self.window_end();
+        self.erase_part(start, end, how);
+    }
+
+    pub(crate) fn erase_line(&mut self, how: u16)
+        requires page { IsPage self.old }
+        ensures effect { self.new ≡ now.part_erased self.old (kinds.row_start self.old) (row_end self.old) how }
+        ensures page { IsPage self.new }
+    {
         let end = self.row_end();
-        match how {
-            0 => self.erase(at, end),
-            1 => self.erase(start, at + 1),
-            2 => self.erase(start, end),
-            _ => {}
-        }
+        let start = end - self.width();
+        self.erase_part(start, end, how);
     }
 
     pub(crate) fn erase_some(&mut self, n: u16)
         requires page { IsPage self.old }
-        ensures effect { self.new ≡ now.some_erased self.old n }
+        ensures effect { self.new ≡ kinds.some_erased self.old n }
         ensures page { IsPage self.new }
     {
         let at = self.place();
@@ -84,7 +75,7 @@ impl Page {
 
     pub(crate) fn insert_cells(&mut self, n: u16)
         requires page { IsPage self.old }
-        ensures effect { self.new ≡ now.inserted self.old n }
+        ensures effect { self.new ≡ kinds.inserted self.old n }
         ensures page { IsPage self.new }
     {
         let at = self.place();
@@ -95,7 +86,7 @@ impl Page {
 
     pub(crate) fn delete_cells(&mut self, n: u16)
         requires page { IsPage self.old }
-        ensures effect { self.new ≡ now.deleted self.old n }
+        ensures effect { self.new ≡ kinds.deleted self.old n }
         ensures page { IsPage self.new }
     {
         let at = self.place();
@@ -113,7 +104,7 @@ impl Page {
 
     pub(crate) fn insert_lines(&mut self, n: u16)
         requires page { IsPage self.old }
-        ensures effect { self.new ≡ now.lines_inserted self.old n }
+        ensures effect { self.new ≡ kinds.lines_inserted self.old n }
         ensures page { IsPage self.new }
     {
         if self.is_in_region() {
@@ -125,7 +116,7 @@ impl Page {
 
     pub(crate) fn delete_lines(&mut self, n: u16)
         requires page { IsPage self.old }
-        ensures effect { self.new ≡ now.lines_deleted self.old n }
+        ensures effect { self.new ≡ kinds.lines_deleted self.old n }
         ensures page { IsPage self.new }
     {
         if self.is_in_region() {
@@ -146,10 +137,10 @@ impl Page {
         self.rows_down(first, end, n as usize);
     }
 
+    // A sequence that changes cells, or sets something.
     #[tactic(auto, unfolding(crate::specs::Effect::edit))]
     pub(crate) fn edit(&mut self, csi: &Csi)
         requires page { IsPage self.old }
-        requires given { now.is_edit csi.now.last ≡ true }
         ensures effect { self.new ≡ now.edit self.old csi.now }
         ensures page { IsPage self.new }
     {
@@ -177,7 +168,8 @@ impl Page {
             // SD, CSI T
             0x54 => self.scroll_down(n),
             // ECH, CSI X
-            _ => self.erase_some(n),
+            0x58 => self.erase_some(n),
+            _ => self.set(csi),
         }
     }
 }

@@ -1,22 +1,17 @@
 //! Items that move the cursor.
-ghost use Rattle.std.specs.Prelude.{◌≡◌, true};
+ghost use Rattle.std.specs.Prelude.{◌≡◌};
 ghost use Rattle.con_page.specs.Page.{IsPage};
 ghost use Rattle.con_page.specs.Effect as now;
+ghost use Rattle.con_page.specs.Kinds as kinds;
 
 use super::Page;
 use crate::tabs::{stops_left, stops_right};
 use con_vtgram::Csi;
 
-pub(crate) fn is_motion(unit: u16) -> bool
-    ensures { result ≡ now.is_motion unit }
-{
-    (0x41 <= unit && unit <= 0x49) || unit == 0x5A || unit == 0x64 || unit == 0x66
-}
-
 impl Page {
     pub(crate) fn line_feed(&mut self)
         requires page { IsPage self.old }
-        ensures effect { self.new ≡ now.line_feed self.old }
+        ensures effect { self.new ≡ kinds.line_feed self.old }
         ensures page { IsPage self.new }
     {
         if !self.mode.keeps_column {
@@ -51,11 +46,11 @@ impl Page {
         }
     }
 
-    #[tactic(auto, unfolding(crate::specs::Effect::motion))]
-    pub(crate) fn move_by(&mut self, csi: &Csi)
+    // A control sequence without a ? and an intermediate.
+    #[tactic(auto, unfolding(crate::specs::Effect::plain_effect))]
+    pub(crate) fn plain(&mut self, csi: &Csi)
         requires page { IsPage self.old }
-        requires given { now.is_motion csi.now.last ≡ true }
-        ensures effect { self.new ≡ now.motion self.old csi.now }
+        ensures effect { self.new ≡ now.plain_effect self.old csi.now }
         ensures page { IsPage self.new }
     {
         let n = csi.params[0].max(1) as u32;
@@ -91,16 +86,17 @@ impl Page {
             // VPA, CSI d
             0x64 => self.row_to(top + n - 1),
             // CUP, CSI H; HVP, CSI f
-            _ => {
+            0x48 | 0x66 => {
                 self.row_to(top + n - 1);
                 self.column_to(left + csi.params[1].max(1) as u32 - 1);
             }
+            _ => self.edit(csi),
         }
     }
 
     pub(crate) fn tab_right(&mut self, n: u32)
         requires page { IsPage self.old }
-        ensures effect { self.new ≡ now.tabbed_right self.old n }
+        ensures effect { self.new ≡ kinds.tabbed_right self.old n }
         ensures page { IsPage self.new }
     {
         self.x = stops_right(self.tabs.as_slice(), self.x, n);
@@ -109,7 +105,7 @@ impl Page {
 
     pub(crate) fn tab_left(&mut self, n: u32)
         requires page { IsPage self.old }
-        ensures effect { self.new ≡ now.tabbed_left self.old n }
+        ensures effect { self.new ≡ kinds.tabbed_left self.old n }
         ensures page { IsPage self.new }
     {
         self.x = stops_left(self.tabs.as_slice(), self.x, n);
@@ -137,7 +133,7 @@ impl Page {
 
     pub(crate) fn row_up(&mut self)
         requires page { IsPage self.old }
-        ensures effect { self.new ≡ now.reversed self.old }
+        ensures effect { self.new ≡ kinds.reversed self.old }
         ensures page { IsPage self.new }
     {
         self.late = false;

@@ -1,30 +1,37 @@
-//! Sequences that set something, and the choice of what a sequence does.
+//! Sequences that set something, and all of them.
 ghost use Rattle.std.specs.Prelude.{◌≡◌, ◌<◌, ◌==◌, slice_set, if◌then◌else◌};
 ghost use Rattle.con_page.specs.Page.{IsPage};
 ghost use Rattle.con_page.specs.Effect as now;
+ghost use Rattle.con_page.specs.Kinds as kinds;
+ghost use Rattle.con_vtgram.specs.Sgr.{pen_of};
 
 use super::Page;
-use super::edit::is_edit;
-use super::motion::is_motion;
 use crate::margins::Margins;
-use crate::pen::{Pen, after_all};
 use crate::tabs::clear;
 use con_vtgram::Csi;
+use con_vtgram::pen::{Pen, after_all};
 
 fn is_region(h: u16, top: u16, bottom: u16) -> bool
-    ensures { result ≡ now.is_region h top bottom }
+    ensures { result ≡ kinds.is_region h top bottom }
 {
     (top < bottom && bottom <= h) || (h == 1 && top == 1 && bottom == 1)
 }
 
 fn margins_of(h: u16, top: u16, bottom: u16) -> Option<Margins>
-    ensures { result ≡ now.margins_of h top bottom }
+    ensures { result ≡ kinds.margins_of h top bottom }
 {
     if top == 1 && bottom == h {
         None
     } else {
         Some(Margins { top, bottom })
     }
+}
+
+/// DECSTR, CSI ! p
+pub fn is_reset(csi: &Csi) -> bool
+    ensures { result ≡ now.is_reset csi.now }
+{
+    csi.inter == 0x21 && !csi.private && csi.last == 0x70
 }
 
 impl Page {
@@ -39,7 +46,7 @@ impl Page {
 
     pub(crate) fn clear_tabs(&mut self, how: u16)
         requires page { IsPage self.old }
-        ensures effect { self.new ≡ now.tabs_cleared self.old how }
+        ensures effect { self.new ≡ kinds.tabs_cleared self.old how }
         ensures page { IsPage self.new }
     {
         match how {
@@ -65,7 +72,7 @@ impl Page {
 
     pub(crate) fn set_pen(&mut self, csi: &Csi)
         requires page { IsPage self.old }
-        ensures effect { self.new ≡ record self.old { pen = now.pen_of csi.now self.old.pen } }
+        ensures effect { self.new ≡ record self.old { pen = pen_of csi.now self.old.pen } }
         ensures page { IsPage self.new }
     {
         if csi.count == 0 {
@@ -114,24 +121,9 @@ impl Page {
         }
     }
 
-    #[tactic(auto, unfolding(crate::specs::Effect::plain_effect))]
-    pub(crate) fn plain(&mut self, csi: &Csi)
-        requires page { IsPage self.old }
-        ensures effect { self.new ≡ now.plain_effect self.old csi.now }
-        ensures page { IsPage self.new }
-    {
-        if is_motion(csi.last) {
-            self.move_by(csi);
-        } else if is_edit(csi.last) {
-            self.edit(csi);
-        } else {
-            self.set(csi);
-        }
-    }
-
     pub(crate) fn reset(&mut self)
         requires page { IsPage self.old }
-        ensures effect { self.new ≡ now.reset self.old }
+        ensures effect { self.new ≡ kinds.reset self.old }
         ensures page { IsPage self.new }
     {
         self.visible = true;
@@ -142,13 +134,16 @@ impl Page {
         self.saved_y = 0;
     }
 
-    #[tactic(auto, unfolding(crate::specs::Effect::sequence_effect, crate::specs::Effect::private_effect))]
+    #[tactic(auto, unfolding(crate::specs::Effect::sequence_effect))]
     pub(crate) fn sequence(&mut self, csi: &Csi)
         requires page { IsPage self.old }
         ensures effect { self.new ≡ now.sequence_effect self.old csi.now }
         ensures page { IsPage self.new }
     {
-        if csi.inter == 0 {
+        if is_reset(csi) {
+            // DECSTR, CSI ! p
+            self.reset();
+        } else if csi.inter == 0 {
             if !csi.private {
                 self.plain(csi);
             } else if csi.params[0] == 25 {
@@ -159,9 +154,6 @@ impl Page {
                     _ => {}
                 }
             }
-        } else if csi.inter == 0x21 && !csi.private && csi.last == 0x70 {
-            // DECSTR, CSI ! p
-            self.reset();
         }
     }
 
@@ -186,7 +178,7 @@ impl Page {
 
     pub(crate) fn set_charset(&mut self, unit: u16)
         requires page { IsPage self.old }
-        ensures effect { self.new ≡ now.charset_effect self.old unit }
+        ensures effect { self.new ≡ kinds.charset_effect self.old unit }
         ensures page { IsPage self.new }
     {
         match unit {

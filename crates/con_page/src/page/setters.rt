@@ -12,10 +12,10 @@ use super::Page;
 use crate::fit::Fit;
 use crate::info::Info;
 use crate::mode::Mode;
-use crate::pen::Pen;
 use crate::tabs::default_stops;
 use con_grid::Grid;
 use con_units::{Code, Coord, OutOfMemory, Rect, Shade, Size};
+use con_vtgram::pen::Pen;
 
 // A coordinate at which a side of this length stays below an end.
 fn index_in(coordinate: i16, side: usize, end: usize) -> Option<u16>
