@@ -1,5 +1,5 @@
 -- What a text tells is within bounds.
-use Rattle.std.proofs.Common.{ℕ, ◌+◌, ◌*◌, ◌≤◌, Bool, true, false, cond, ◌==◌, nat_lt, List, [], ◌∷◌, ◌++◌, map, length, arith, length-append}
+use Rattle.std.proofs.Common.{ℕ, ◌+◌, ◌*◌, ◌≤◌, Bool, true, false, not, cond, ◌==◌, ◌&&◌, nat_lt, List, [], ◌∷◌, ◌++◌, map, length, arith, length-append}
 use Rattle.std.specs.Prelude.{fold, ◌/◌, ◌%◌, if◌then◌else◌}
 use Rattle.std.proofs.lemmas.List.{length-map}
 use Rattle.con_vtgram.specs.declared.item.Csi.{Csi}
@@ -9,10 +9,10 @@ use Rattle.con_vtgram.specs.Few.{HaveShortTitles, AreFew}
 use Rattle.con_vtgram.specs.Spoken.{Spoken, spoken_by}
 use Rattle.con_units.specs.Split.{Split}
 use Rattle.con_page.specs.Page.{Page}
-use Rattle.con_page.specs.Effect.{first}
+use Rattle.con_page.specs.Effect.{first, is_reset}
 use Rattle.con_units.specs.Decimal.{decimal}
-use Rattle.con_page.specs.Setters.{report_row, report_column}
-use Rattle.con_screen.specs.Told.{Told, cursor_report, device_report, reported, plain_told, private_told, is_reset, csi_told, told_by, told_after, HasShortTitle}
+use Rattle.con_page.specs.Kinds.{report_row, report_column}
+use Rattle.con_screen.specs.Told.{Told, cursor_report, device_report, reported, private_told, csi_told, told_by, told_after, HasShortTitle}
 use Rattle.con_screen.specs.Parts.{has_sequences, item_alone}
 use Rattle.con_screen.specs.Written.{spoken_alone, split_in, split_on, Heard, heard, written}
 use Rattle.con_screen.specs.Laws.{IsToldWithin}
@@ -60,20 +60,17 @@ within_report t report h = record { reports = let a = length-append t.reports re
 device_short : length device_report ≤ 10
 device_short = omega arith
 
-plain_within : (p : Page) (t : Told) (c : Csi) → Within 1 t (plain_told p t c)
-plain_within p t c = within_if (c.last == 0x6E) 1 t _ _
-    (within_if (first c == 6) 1 t _ _ (within_report t _ (cursor_short (report_row p) (report_column p))) (within_none 1 t))
-    (within_if (c.last == 0x63) 1 t _ _ (within_if (first c == 0) 1 t _ _ (within_report t device_report device_short) (within_none 1 t)) (within_none 1 t))
-
 private_within : (t : Told) (c : Csi) → Within 1 t (private_told t c)
 private_within t c = within_if (first c == 1) 1 t _ _ (record { reports = omega arith; title = λ h. h })
     (within_if (first c == 1049) 1 t _ _ (record { reports = omega arith; title = λ h. h }) (within_none 1 t))
 
 csi_within : (p : Page) (t : Told) (c : Csi) → Within 1 t (csi_told p t c)
 unfolding csi_told
-csi_within p t c = within_if (c.inter == 0) 1 t _ _
-    (within_if c.private 1 t _ _ (private_within t c) (plain_within p t c))
-    (within_if (is_reset c) 1 t _ _ (record { reports = omega arith; title = λ h. h }) (within_none 1 t))
+csi_within p t c = within_if (is_reset c) 1 t _ _ (record { reports = omega arith; title = λ h. h })
+    (within_if (not (c.inter == 0)) 1 t _ _ (within_none 1 t)
+    (within_if c.private 1 t _ _ (private_within t c)
+    (within_if ((c.last == 0x6E) && (first c == 6)) 1 t _ _ (within_report t _ (cursor_short (report_row p) (report_column p)))
+    (within_if ((c.last == 0x63) && (first c == 0)) 1 t _ _ (within_report t device_report device_short) (within_none 1 t)))))
 
 item_within : (p : Page) (t : Told) (title : List ℕ) (i : Item) → length title ≤ 255 → Within 1 t (told_by p t title i)
 item_within p t title (items.Print u) h = within_none 1 t

@@ -13,6 +13,7 @@ ghost use Rattle.con_screen.specs.Completed.{told_if, switch_if};
 
 use crate::answers::Answers;
 use con_page::ends::is_end;
+use con_page::page::sequence::is_reset;
 use con_page::{Mode, Page};
 use con_vtgram::{Csi, Found, Splitter};
 
@@ -44,13 +45,6 @@ fn is_switch(csi: &Csi) -> bool
     ensures { result ≡ tells.is_switch (item.Csi csi.now) }
 {
     csi.inter == 0 && csi.private && csi.params[0] == 1049 && (csi.last == 0x68 || csi.last == 0x6C)
-}
-
-// DECSTR, CSI ! p
-fn is_reset(csi: &Csi) -> bool
-    ensures { result ≡ tells.is_reset csi.now }
-{
-    csi.inter == 0x21 && !csi.private && csi.last == 0x70
 }
 
 fn tell_private(csi: &Csi, answers: &mut Answers)
@@ -92,16 +86,14 @@ fn tell_csi(page: &Page, csi: &Csi, answers: &mut Answers)
     requires room { 0 < answers.old.room }
     ensures { answers.new ≡ record { told = tells.csi_told page.now answers.old.told csi.now; room = answers.old.room - 1 } }
 {
-    if csi.inter == 0 {
-        if csi.private {
-            tell_private(csi, answers);
-        } else {
-            tell_plain(page, csi, answers);
-        }
-    } else if is_reset(csi) {
+    if is_reset(csi) {
         answers.tell_keys(false);
-    } else {
+    } else if csi.inter != 0 {
         answers.spend(1);
+    } else if csi.private {
+        tell_private(csi, answers);
+    } else {
+        tell_plain(page, csi, answers);
     }
 }
 
