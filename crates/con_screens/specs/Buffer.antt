@@ -1,5 +1,6 @@
 -- One screen buffer: a main screen and an alternate one, of which one is shown.
 use Rattle.std.specs.Prelude.{ℕ, ◌≡◌, ◌<◌, Bool, true, false, List, [], ◌∷◌, fold, Option, None, Some, if◌then◌else◌}
+use Rattle.std.specs.Option.{option_map_or}
 use Rattle.con_units.specs.declared.place.Size.{Size}
 use Rattle.con_page.specs.Page.{IsPage}
 use Rattle.con_screen.specs.Screen.{Screen}
@@ -36,35 +37,24 @@ new_screen w h = let size : Size = record { w = w; h = h } in record { page = ne
 abbrev pub new_buffer : ℕ → ℕ → ℕ → ℕ → Buffer
 new_buffer w h handles birth = record { shown = new_screen w h; hidden = new_screen w h; alternate = false; handles = handles; birth = birth }
 
--- the alternate screen comes to be shown, unless it is
-abbrev pub alternate_on : Buffer → Buffer
-alternate_on b = if b.alternate then b else record b { shown = alternate_begun b.hidden b.shown; hidden = b.shown; alternate = true }
-
--- the main screen comes to be shown as it was left, in the mode of the alternate one, unless it is shown
-abbrev pub alternate_off : Buffer → Buffer
-alternate_off b = if b.alternate then record b { shown = mode_taken b.hidden b.shown.page; hidden = b.shown; alternate = false } else b
-
--- the screen that a switch says comes to be shown
+-- The screen that a switch says comes to be shown, unless it is: the alternate one as it begins, the main one as it was left, in
+-- the mode of the alternate one.
 abbrev pub turned : Buffer → Option Bool → Buffer
 turned b None = b
-turned b (Some on) = if on then alternate_on b else alternate_off b
+turned b (Some true) = if b.alternate then b else record b { shown = alternate_begun b.hidden b.shown; hidden = b.shown; alternate = true }
+turned b (Some false) = if b.alternate then record b { shown = mode_taken b.hidden b.shown.page; hidden = b.shown; alternate = false } else b
 
 -- a buffer, and what was told so far
 pub record BufferStage : Type 0 where
   pub buffer : Buffer
   pub told : Told
 
--- a screen that came of the shown one, in its place; and the other one shown, where the text switched
-abbrev pub carried : Buffer → Stage → Bool → BufferStage
-carried b st switch = record {
-  buffer = if switch then turned (record b { shown = st.screen }) st.told.alternate
-      else record b { shown = st.screen };
-  told = st.told;
-}
-
 -- A unit goes to the shown screen. Where it ends a sequence that switches, what follows goes to the other one.
 unfoldable pub unit_written : BufferStage → ℕ → BufferStage
-unit_written s u = carried s.buffer (written s.buffer.shown s.told (u ∷ [])) (switches s.buffer.shown (u ∷ []))
+unit_written s u =
+    let st = written s.buffer.shown s.told (u ∷ []) in
+    let now = record s.buffer { shown = st.screen } in
+    record { buffer = if switches s.buffer.shown (u ∷ []) then turned now st.told.alternate else now; told = st.told }
 
 -- the buffer after units, and what they told
 unfoldable pub written_on : Buffer → Told → List ℕ → BufferStage
@@ -75,5 +65,22 @@ buffer_written t units b = (written_on b t units).buffer
 
 -- what units tell that are written on a buffer, if there is one
 abbrev pub told_on : Option Buffer → Told → List ℕ → Told
-told_on None t units = t
-told_on (Some b) t units = (written_on b t units).told
+told_on o t units = option_map_or (λ b. (written_on b t units).told) o t
+
+-- ---- the same in its parts
+
+-- a screen that came of the shown one, in its place; and the other one shown, where the text switched
+abbrev pub carried : Buffer → Stage → Bool → BufferStage
+carried b st switch = record {
+  buffer = if switch then turned (record b { shown = st.screen }) st.told.alternate
+      else record b { shown = st.screen };
+  told = st.told;
+}
+
+-- the alternate screen comes to be shown, unless it is
+abbrev pub alternate_on : Buffer → Buffer
+alternate_on b = if b.alternate then b else record b { shown = alternate_begun b.hidden b.shown; hidden = b.shown; alternate = true }
+
+-- the main screen comes to be shown as it was left, in the mode of the alternate one, unless it is shown
+abbrev pub alternate_off : Buffer → Buffer
+alternate_off b = if b.alternate then record b { shown = mode_taken b.hidden b.shown.page; hidden = b.shown; alternate = false } else b

@@ -25,13 +25,9 @@ buffer_at s id = slice_index_or s.slots id None
 abbrev pub IsLive : Buffers → ℕ → Type 0
 IsLive s id = IsSome (buffer_at s id)
 
--- the shown screen of a place; a blank one of the window's size where it has no buffer
-abbrev pub screen_in : Buffers → Option Buffer → Screen
-screen_in s None = new_screen s.w s.h
-screen_in s (Some b) = b.shown
-
+-- the shown screen of an id; a blank one of the window's size where it has no buffer
 abbrev pub screen_at : Buffers → ℕ → Screen
-screen_at s id = screen_in s (buffer_at s id)
+screen_at s id = option_map_or (λ b. b.shown) (buffer_at s id) (new_screen s.w s.h)
 
 -- whether a buffer shows its alternate screen
 abbrev pub is_alternate : Buffers → ℕ → Bool
@@ -49,12 +45,9 @@ pub record AreBuffers (s : Buffers) : Type 0 where
 abbrev pub free_id : Buffers → Option ℕ
 free_id s = position is_none s.slots
 
-abbrev pub with_slot : Buffers → ℕ → Option Buffer → Buffers
-with_slot s id b = record s { slots = slice_set s.slots id b }
-
 -- the buffer of an id becomes another one
 abbrev pub with_buffer : Buffers → ℕ → (Buffer → Buffer) → Buffers
-with_buffer s id f = with_slot s id (option_map f (buffer_at s id))
+with_buffer s id f = record s { slots = slice_set s.slots id (option_map f (buffer_at s id)) }
 
 -- a buffer as large as the window, with one handle
 abbrev pub created : Buffers → ℕ → Buffers
@@ -63,12 +56,9 @@ created s id = record s { slots = slice_set s.slots id (Some (new_buffer s.w s.h
 abbrev pub handles_of : Buffers → ℕ → ℕ
 handles_of s id = option_map_or (λ b. b.handles) (buffer_at s id) 0
 
-abbrev pub with_handles : ℕ → Buffer → Buffer
-with_handles n b = record b { handles = n }
-
 -- one handle more; the main buffer's are not counted
 abbrev pub handle_retained : Buffers → ℕ → Buffers
-handle_retained s id = if id == 0 then s else with_buffer s id (with_handles (handles_of s id + 1))
+handle_retained s id = if id == 0 then s else with_buffer s id (λ b. record b { handles = handles_of s id + 1 })
 
 -- the buffer of an id is gone; where it was active, the main one is
 abbrev pub gone : Buffers → ℕ → Buffers
@@ -78,8 +68,7 @@ gone s id = record s { slots = slice_set s.slots id None; active = if s.active =
 abbrev pub handle_released : Buffers → ℕ → Buffers
 handle_released s id =
     if id == 0 then s
-    else if nat_le (handles_of s id) 1 then gone s id
-    else with_buffer s id (with_handles (handles_of s id - 1))
+    else if nat_le (handles_of s id) 1 then gone s id else with_buffer s id (λ b. record b { handles = handles_of s id - 1 })
 
 -- the buffers of a new console
 abbrev pub first_buffers : ℕ → ℕ → Buffers
@@ -89,3 +78,15 @@ first_buffers w h = record { slots = Some (new_buffer w h 0 0) ∷ replicate 7 N
 pub record IsRoom (s : Buffers) (b : Buffer) : Type 0 where
   pub buffer : b ≡ new_buffer s.w s.h 1 s.births
   pub births : s.births + 1 < 2 ^ 64
+
+-- ---- words of proofs
+
+-- the shown screen of a place; a blank one of the window's size where it has no buffer
+abbrev pub screen_in : Buffers → Option Buffer → Screen
+screen_in s o = option_map_or (λ b. b.shown) o (new_screen s.w s.h)
+
+abbrev pub with_slot : Buffers → ℕ → Option Buffer → Buffers
+with_slot s id b = record s { slots = slice_set s.slots id b }
+
+abbrev pub with_handles : ℕ → Buffer → Buffer
+with_handles n b = record b { handles = n }

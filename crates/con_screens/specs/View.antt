@@ -19,15 +19,17 @@ is_from first n at = nat_le first at && nat_lt at (first + n)
 abbrev pub cursor_shown : Page → Bool
 cursor_shown p = p.visible && is_from p.left p.w p.x && is_from p.top p.h p.y
 
--- where it stands, from the window's corner; (0, 0) where it is not shown
-abbrev pub cursor_in : Page → Coord
-cursor_in p = if cursor_shown p then record { x = pos (p.x - p.left); y = pos (p.y - p.top) } else record { x = pos 0; y = pos 0 }
-
--- the window of a screen, cell by cell
+-- the window of a screen, cell by cell, and where its cursor is shown, from the window's corner; (0, 0) where it is not
 abbrev pub view_of : Page → View
 view_of p = record {
   size = record { w = p.w; h = p.h };
   rows = rows_in p.grid.width p.grid.cells p.left p.top p.w p.h;
-  cursor = cursor_in p;
+  cursor = if cursor_shown p then record { x = pos (p.x - p.left); y = pos (p.y - p.top) } else record { x = pos 0; y = pos 0 };
   visible = cursor_shown p;
 }
+
+-- ---- words of proofs
+
+-- where it stands, from the window's corner; (0, 0) where it is not shown
+abbrev pub cursor_in : Page → Coord
+cursor_in p = if cursor_shown p then record { x = pos (p.x - p.left); y = pos (p.y - p.top) } else record { x = pos 0; y = pos 0 }

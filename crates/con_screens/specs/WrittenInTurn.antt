@@ -14,7 +14,7 @@ use Rattle.con_vtgram.specs.Spoken.{Spoken}
 use Rattle.con_page.specs.Page.{Page}
 use Rattle.con_screen.specs.Screen.{Screen}
 use Rattle.con_page.specs.Effect.{effect, first}
-use Rattle.con_screen.specs.Told.{Told, told_after, told_by, csi_told, private_told, plain_told, switched, is_switch}
+use Rattle.con_screen.specs.Told.{Told, told_after, told_by, csi_told, private_told, switched, is_switch}
 use Rattle.con_screen.specs.Written.{Stage, heard, written, switches, any_switch, split_on}
 use Rattle.con_screens.specs.Buffer.{BufferStage, carried, unit_written, written_on, buffer_written}
 use Rattle.con_screens.specs.Buffers.{Buffers, with_buffer}
@@ -37,12 +37,9 @@ either false x y v w h k = k
 private_keeps : (t u : Told) (c : Csi) → t.alternate ≡ u.alternate → (private_told t c).alternate ≡ (private_told u c).alternate
 private_keeps t u c h = let k : switched c t.alternate ≡ switched c u.alternate = ap (switched c) h in search (either, h, k) depth 14
 
-plain_keeps : (p : Page) (t u : Told) (c : Csi) → t.alternate ≡ u.alternate → (plain_told p t c).alternate ≡ (plain_told p u c).alternate
-plain_keeps p t u c h = search (either, h) depth 14
-
 csi_keeps : (p : Page) (t u : Told) (c : Csi) → t.alternate ≡ u.alternate → (csi_told p t c).alternate ≡ (csi_told p u c).alternate
 unfolding csi_told
-csi_keeps p t u c h = let k = private_keeps t u c h in let l = plain_keeps p t u c h in search (either, h, k, l) depth 14
+csi_keeps p t u c h = let k = private_keeps t u c h in search (either, h, k) depth 14
 
 item_keeps : (p : Page) (t u : Told) (title : List ℕ) (i : Item) → t.alternate ≡ u.alternate → (told_by p t title i).alternate ≡ (told_by p u title i).alternate
 item_keeps p t u title (items.Print n) h = h
@@ -65,7 +62,8 @@ csi_switches p t u c h =
     let d = and_parts (c.inter == 0) c.private b.0 in
     let e : (first c == 1049) ≡ true = b.1 in
     let one : (first c == 1) ≡ false = grind (arith, nat_tests) in
-    rw (d.0, d.1, one, e) (by_last (c.last == 0x68) (c.last == 0x6C) t.alternate u.alternate a.1)
+    let inter : c.inter ≡ 0 = grind (arith, nat_tests, d.0) in
+    rw (inter, d.1, one, e) (by_last (c.last == 0x68) (c.last == 0x6C) t.alternate u.alternate a.1)
 
 item_switches : (p : Page) (t u : Told) (title : List ℕ) (i : Item) → is_switch i ≡ true → (told_by p t title i).alternate ≡ (told_by p u title i).alternate
 unfolding is_switch
