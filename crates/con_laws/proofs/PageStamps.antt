@@ -1,13 +1,14 @@
 -- No effect on a page depends on the stamps of its rows.
 use Rattle.std.proofs.Common.{◌≡◌, ℕ, Bool, true, false, cond, List, [], ◌∷◌, Option, None, Some, refl, ap, ◌∙◌}
-use Rattle.std.specs.Prelude.{fold, nat_lt, ◌-◌, ◌==◌}
+use Rattle.std.specs.Prelude.{fold}
 use Rattle.con_vtgram.specs.declared.item.Csi.{Csi}
 use Rattle.con_vtgram.specs.declared.item.Item.{Item}
 use Rattle.con_vtgram.specs.declared.item.Item.TheVariants as items
 use Rattle.con_vtgram.specs.Spoken.{Spoken}
-use Rattle.con_page.specs.Page.{Page, down, down_in, shown, rows_down, region_first, region_end}
+use Rattle.con_page.specs.Page.{Page, down, down_in, shown}
 use Rattle.con_page.specs.Print.{wrapped, put, advanced, printed}
-use Rattle.con_page.specs.Effect.{effect, follow, act, reversed, sequence_effect, private_effect, plain_effect, setting, edit, motion, line_feed, control_effect, escape_effect, display_erased, line_erased}
+use Rattle.con_page.specs.Effect.{effect, follow, act, sequence_effect, plain_effect, setting, edit, control_effect, escape_effect, part_erased}
+use Rattle.con_page.specs.Kinds.{line_feed}
 use Rattle.con_screen.specs.Told.{Told, told_by, told_after, csi_told}
 use Rattle.con_screen.specs.Screen.{Screen}
 use Rattle.con_screen.specs.Written.{Heard, heard, Stage, written, split_on, switches}
@@ -55,48 +56,29 @@ control_same : (p : Page) (u : ℕ) → unstamped_page (control_effect p u) ≡ 
 unfolding control_effect
 control_same p u = search (either, line_feed_same) depth 14
 
-motion_same : (p : Page) (c : Csi) → unstamped_page (motion p c) ≡ motion (unstamped_page p) c
-unfolding motion
-motion_same p c = search either depth 14
-
-display_same : (p : Page) (n : ℕ) → unstamped_page (display_erased p n) ≡ display_erased (unstamped_page p) n
-unfolding display_erased
-display_same p n = search either depth 14
-
-line_same : (p : Page) (n : ℕ) → unstamped_page (line_erased p n) ≡ line_erased (unstamped_page p) n
-unfolding line_erased
-line_same p n = search either depth 14
-
-edit_same : (p : Page) (c : Csi) → unstamped_page (edit p c) ≡ edit (unstamped_page p) c
-unfolding edit
-edit_same p c = search (either, display_same, line_same) depth 14
-
 setting_same : (p : Page) (c : Csi) → unstamped_page (setting p c) ≡ setting (unstamped_page p) c
 unfolding setting
 setting_same p c = search either depth 14
 
+part_same : (p : Page) (from upto n : ℕ) → unstamped_page (part_erased p from upto n) ≡ part_erased (unstamped_page p) from upto n
+unfolding part_erased
+part_same p from upto n = search either depth 14
+
+edit_same : (p : Page) (c : Csi) → unstamped_page (edit p c) ≡ edit (unstamped_page p) c
+unfolding edit
+edit_same p c = search (either, part_same, setting_same) depth 14
+
 plain_same : (p : Page) (c : Csi) → unstamped_page (plain_effect p c) ≡ plain_effect (unstamped_page p) c
 unfolding plain_effect
-plain_same p c = search (either, motion_same, edit_same, setting_same) depth 14
-
-private_same : (p : Page) (c : Csi) → unstamped_page (private_effect p c) ≡ private_effect (unstamped_page p) c
-unfolding private_effect
-private_same p c = search either depth 14
+plain_same p c = search (either, edit_same) depth 16
 
 sequence_same : (p : Page) (c : Csi) → unstamped_page (sequence_effect p c) ≡ sequence_effect (unstamped_page p) c
 unfolding sequence_effect
-sequence_same p c = search (either, private_same, plain_same) depth 14
-
-reversed_same : (p : Page) → unstamped_page (reversed p) ≡ reversed (unstamped_page p)
-reversed_same p =
-    let q : Page = cond (nat_lt p.top p.y) (record p { y = p.y - 1 }) p in
-    let r : Page = rows_down p (region_first p) (region_end p) 1 in
-    ap (λ (o : Page). let n : Page = record o { late = false } in n)
-    (either (p.y == region_first p) r q _ _ refl (either (nat_lt p.top p.y) (record p { y = p.y - 1 }) p _ _ refl refl))
+sequence_same p c = search (either, plain_same) depth 14
 
 escape_same : (p : Page) (u : ℕ) → unstamped_page (escape_effect p u) ≡ escape_effect (unstamped_page p) u
 unfolding escape_effect
-escape_same p u = search (either, reversed_same) depth 14
+escape_same p u = search either depth 14
 
 act_same : (p : Page) (i : Item) → unstamped_page (act p i) ≡ act (unstamped_page p) i
 unfolding act
