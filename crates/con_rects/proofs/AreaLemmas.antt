@@ -6,7 +6,8 @@ use Rattle.std.proofs.lemmas.Bool.{and_from, and_parts, le-leb, lt-ltb, leb-true
 use Rattle.con_units.specs.Natural.{natural}
 use Rattle.con_units.specs.Rect.{IsIn}
 use Rattle.con_units.specs.declared.place.Rect.{Rect}
-use Rattle.con_rects.specs.Area.{past, is_within, area_in, rect_of, whole, covers}
+use Rattle.con_rects.specs.Area.{covers}
+use Rattle.con_rects.specs.Parts.{past, is_within, area_in, rect_of, whole}
 use Rattle.con_rects.specs.declared.area.Area.{Area}
 
 pub natural_le : (z : ℤ) (k : ℕ) → z ≤ℤ pos k → natural z ≤ k

@@ -1,4 +1,5 @@
 pub mod AreaLemmas
+pub mod UsedLemmas
 pub mod DrawLemmas
 pub mod RunLemmas
 pub mod RectLemmas

@@ -1,5 +1,5 @@
 -- Reading rows.
-use Rattle.std.proofs.Common.{◌≡◌, ℕ, suc, zero, ◌+◌, ◌-◌, ◌*◌, ◌<◌, ◌≤◌, inl, inr, nat_lt, false, Some, List, [], ◌∷◌, ◌++◌, length, take, drop, get_or, slice_get, refl, sym, ap, ◌∙◌, arith, append_assoc, length-append, length-drop, append-nil}
+use Rattle.std.proofs.Common.{◌≡◌, ℕ, suc, zero, ◌&&◌, map, ap₂, ◌+◌, ◌-◌, ◌*◌, ◌<◌, ◌≤◌, inl, inr, nat_lt, false, Some, List, [], ◌∷◌, ◌++◌, length, take, drop, get_or, slice_get, refl, sym, ap, ◌∙◌, arith, append_assoc, length-append, length-drop, append-nil}
 use Rattle.std.proofs.lemmas.List.{take_more, get_or-drop, length-take, length-take-le, length-map}
 use Rattle.std.specs.Option.{option_map}
 use Rattle.std.proofs.lemmas.Option.{get_or_from_slice_get, slice_get-map}
@@ -8,10 +8,14 @@ use Rattle.std.proofs.Math.Nat.{mul-le-mul_right}
 use Rattle.con_units.specs.Glyph.{Glyph, plain_cell}
 use Rattle.con_units.specs.View.{row_part}
 use Rattle.con_grid.specs.Picture.{Picture, IsPicture}
-use Rattle.std.proofs.lemmas.Bool.{and_cases, ltb-false}
+use Rattle.std.proofs.lemmas.Bool.{and_cases, and_parts, ltb-false, ltb-true, cond_both}
+use Rattle.std.specs.Prelude.{flat_map}
+use Rattle.std.specs.List.{range_with_len}
+use Rattle.con_units.specs.Natural.{natural}
+use Rattle.con_rects.proofs.UsedLemmas.{side_is, used_rect_is}
 use Rattle.con_units.specs.declared.place.Rect.{Rect}
-use Rattle.con_rects.specs.Area.{area_in, has_cells}
-use Rattle.con_rects.specs.Rules.{blank, rows_part, area_cells, rect_cells, as_read}
+use Rattle.con_rects.specs.Rules.{rect_cells}
+use Rattle.con_rects.specs.Parts.{wide, tall, area_in, has_cells, rect_of, blank, rows_part, area_cells, as_read}
 use Rattle.con_rects.specs.declared.area.Area.{Area}
 
 -- a grid as it is read has its size
@@ -85,6 +89,31 @@ no_cells p a none = elim (and_cases (nat_lt a.left a.right) (nat_lt a.top a.bott
       ap (λ n. rows_part p a.left a.right a.top n) no
 ]
 
+-- rows one by one, and as a list of rows
+flat_more : (f : ℕ → List Glyph) (a n : ℕ) → flat_map f (range_with_len a (suc n)) ≡ flat_map f (range_with_len a n) ++ f (a + n)
+flat_more f a zero = append-nil (f a) ∙ ap f (omega arith)
+flat_more f a (suc n) =
+    ap (λ (c : List Glyph). f a ++ c) (flat_more f (a + 1) n) ∙ sym (append_assoc (f a) (flat_map f (range_with_len (a + 1) n)) (f (a + 1 + n)))
+    ∙ ap (λ k. (f a ++ flat_map f (range_with_len (a + 1) n)) ++ f k) (omega arith)
+
+rows_flat : (p : Picture) (left right y n : ℕ) → rows_part p left right y n ≡ flat_map (λ k. row_part p.width p.cells left (right - left) k) (range_with_len y n)
+rows_flat p left right y zero = refl
+rows_flat p left right y (suc n) =
+    ap (λ (c : List Glyph). c ++ row_part p.width p.cells left (right - left) (y + n)) (rows_flat p left right y n)
+    ∙ sym (flat_more (λ k. row_part p.width p.cells left (right - left) k) y n)
+
+abbrev rows_in : Picture → Rect → List Glyph
+rows_in p u = flat_map (λ y. row_part p.width (map plain_cell p.cells) (natural u.left) (wide u) y) (range_with_len (natural u.top) (tall u))
+
+area_rows : (p : Picture) (a : Area) → area_cells (as_read p) a ≡ rows_in p (rect_of a)
+area_rows p a =
+    cond_both (nat_lt a.left a.right && nat_lt a.top a.bottom) _ _ (λ (u : Rect). area_cells (as_read p) a ≡ rows_in p u)
+    (λ e. let both = and_parts (nat_lt a.left a.right) (nat_lt a.top a.bottom) e in
+    rows_flat (as_read p) a.left a.right a.top (a.bottom - a.top)
+    ∙ ap₂ (λ w n. flat_map (λ y. row_part p.width (map plain_cell p.cells) a.left w y) (range_with_len a.top n))
+    (sym (side_is a.left a.right (ltb-true a.left a.right both.0))) (sym (side_is a.top a.bottom (ltb-true a.top a.bottom both.1))))
+    (λ e. no_cells (as_read p) a e)
+
 pub rect_cells_is : (p : Picture) (r : Rect) → area_cells (as_read p) (area_in r p.width p.height) ≡ rect_cells p r
 unfolding rect_cells
-rect_cells_is p r = refl
+rect_cells_is p r = area_rows p (area_in r p.width p.height) ∙ ap (rows_in p) (sym (used_rect_is r p.width p.height))

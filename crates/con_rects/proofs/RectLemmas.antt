@@ -8,9 +8,10 @@ use Rattle.con_units.specs.Glyph.{Glyph}
 use Rattle.con_units.specs.Natural.{natural}
 use Rattle.con_units.specs.declared.place.Rect.{Rect}
 use Rattle.con_grid.specs.Picture.{Picture, IsPicture}
-use Rattle.con_rects.specs.Area.{area_in, has_cells, covers, is_within, wide, tall, cell_count}
+use Rattle.con_rects.specs.Area.{covers, cell_count}
 use Rattle.con_units.specs.Glyph.{plain_cell}
-use Rattle.con_rects.specs.Rules.{blank, rect_rule, rect_written, redrawn}
+use Rattle.con_rects.specs.Rules.{rect_written, redrawn}
+use Rattle.con_rects.specs.Parts.{wide, tall, area_in, has_cells, is_within, blank, rect_rule}
 use Rattle.con_rects.specs.declared.area.Area.{Area}
 use Rattle.con_rects.proofs.AreaLemmas.{IsWithin, within_sides, within_from, covers_is, area_only}
 use Rattle.con_rects.proofs.DrawLemmas.{flat, place_again, column_is, row_is, ChangesIn, IsAreaOf, redrawn_from, row_below}

@@ -9,8 +9,9 @@ use Rattle.con_units.specs.Glyph.{Glyph}
 use Rattle.con_units.specs.Natural.{natural}
 use Rattle.con_units.specs.declared.place.Coord.{Coord}
 use Rattle.con_grid.specs.Picture.{Picture, IsPicture, place}
-use Rattle.con_rects.specs.Rules.{blank, redrawn}
-use Rattle.con_rects.specs.Runs.{has_place, in_run, run_rule, run_count, with_unit, with_word, units_written, words_written, unit_filled, word_filled}
+use Rattle.con_rects.specs.Rules.{redrawn}
+use Rattle.con_rects.specs.Runs.{run_count, units_written, words_written, unit_filled, word_filled}
+use Rattle.con_rects.specs.Parts.{blank, has_place, in_run, run_rule, with_unit, with_word}
 use Rattle.con_rects.proofs.DrawLemmas.{DoneBefore, flat, place_again, before_skip, before_start, before_put, redrawn_from, redrawn_same}
 
 -- a place that the grid has is in its list of cells
@@ -78,13 +79,13 @@ copies_same p from n m with_value u some le =
 
 -- what fills of runs make
 pub unit_filled_is : (p : Picture) (at : Coord) (n unit count : ℕ) → 0 < p.width → count ≡ run_count p at n → redrawn p (run_rule p (place p at) count with_unit (replicate count unit)) ≡ unit_filled p at n unit
-unfolding unit_filled
+unfolding units_written
 unit_filled_is p at n unit count some is =
     let le : count ≤ n = omega (arith, is) in
     copies_same p (place p at) count n with_unit unit some le ∙ ap (λ c. redrawn p (run_rule p (place p at) c with_unit (replicate n unit))) (is ∙ ap (λ m. run_count p at m) (sym (length-replicate n unit)))
 
 pub word_filled_is : (p : Picture) (at : Coord) (n word count : ℕ) → 0 < p.width → count ≡ run_count p at n → redrawn p (run_rule p (place p at) count with_word (replicate count word)) ≡ word_filled p at n word
-unfolding word_filled
+unfolding words_written
 word_filled_is p at n word count some is =
     let le : count ≤ n = omega (arith, is) in
     copies_same p (place p at) count n with_word word some le ∙ ap (λ c. redrawn p (run_rule p (place p at) c with_word (replicate n word))) (is ∙ ap (λ m. run_count p at m) (sym (length-replicate n word)))

@@ -1,6 +1,5 @@
 -- A scroll in natural numbers is the scroll in whole ones.
-use Rattle.std.proofs.Common.{◌≡◌, ℕ, ℤ, pos, negsuc, ◌+ℤ◌, ◌-ℤ◌, ◌≤ℤ◌, ◌+◌, ◌-◌, ◌*◌, ◌/◌, ◌%◌, ◌<◌, ◌≤◌, Bool, true, false, not, ◌&&◌, cond, Some, None, Option, refl, sym, ap, ap₂, subst, ◌∙◌, arith}
-use Rattle.std.specs.Prelude.{int_le}
+use Rattle.std.proofs.Common.{◌≡◌, ℕ, ℤ, pos, negsuc, ◌+ℤ◌, ◌-ℤ◌, ◌+◌, ◌-◌, ◌*◌, ◌/◌, ◌%◌, ◌<◌, ◌≤◌, Bool, true, false, not, ◌&&◌, cond, Some, None, Option, refl, sym, ap, ap₂, subst, ◌∙◌, arith}
 use Rattle.std.proofs.lemmas.Int.{ints}
 use Rattle.std.proofs.lemmas.Bool.{and_parts, and_from}
 use Rattle.std.proofs.lemmas.Nat.{mul-add-lt}
@@ -10,36 +9,17 @@ use Rattle.con_units.specs.Rect.{IsIn}
 use Rattle.con_units.specs.declared.place.Coord.{Coord}
 use Rattle.con_units.specs.declared.place.Rect.{Rect}
 use Rattle.con_grid.specs.Picture.{Picture, IsPicture}
-use Rattle.con_rects.specs.Area.{area_in, is_within, covers, whole}
+use Rattle.con_rects.specs.Area.{covers, used_rect}
 use Rattle.con_rects.specs.Rules.{cell_at, redrawn}
-use Rattle.con_rects.specs.Scroll.{may_change, in_source, scroll_rule, scrolled}
+use Rattle.con_rects.specs.Scroll.{scrolled}
+use Rattle.con_rects.specs.Parts.{area_in, is_within, whole, may_change, in_source, scroll_rule}
 use Rattle.con_rects.specs.Moves.{shift_to, clip_area, common, shifted, move_rule, free_rule}
 use Rattle.con_rects.specs.declared.area.Area.{Area}
 use Rattle.con_rects.specs.declared.scroll.Shift.{Shift}
 use Rattle.con_rects.proofs.AreaLemmas.{IsWithin, within_sides, within_from, covers_is, area_has, area_only, whole_has, whole_only, IsPlace}
+use Rattle.con_rects.proofs.UsedLemmas.{same_tests, covers_in, covers_from, used_covers}
 use Rattle.con_rects.proofs.DrawLemmas.{flat, redrawn_same, get_or-redrawn}
 use Rattle.con_rects.proofs.RectLemmas.{row_in, column_in, flat_at}
-
-same_tests : (a b : Bool) → (a ≡ true → b ≡ true) → (b ≡ true → a ≡ true) → a ≡ b
-same_tests true b f g = sym (f refl)
-same_tests false true f g = g refl
-same_tests false false f g = refl
-
-le_yes : (a b : ℤ) → int_le a b ≡ true → a ≤ℤ b
-le_yes a b h = grind (arith, ints)
-
-yes_le : (a b : ℤ) → a ≤ℤ b → int_le a b ≡ true
-yes_le a b h = grind (arith, ints)
-
-covers_in : (r : Rect) (x y : ℤ) → covers r x y ≡ true → IsIn r x y
-covers_in r x y h =
-    let a = and_parts (int_le r.left x && int_le x r.right && int_le r.top y) (int_le y r.bottom) h in
-    let b = and_parts (int_le r.left x && int_le x r.right) (int_le r.top y) a.0 in
-    let c = and_parts (int_le r.left x) (int_le x r.right) b.0 in
-    record { from_left = le_yes r.left x c.0; to_right = le_yes x r.right c.1; from_top = le_yes r.top y b.1; to_bottom = le_yes y r.bottom a.1 }
-
-covers_from : (r : Rect) (x y : ℤ) → IsIn r x y → covers r x y ≡ true
-covers_from r x y i = and_from _ _ (and_from _ _ (and_from _ _ (yes_le r.left x i.from_left) (yes_le x r.right i.to_right)) (yes_le r.top y i.from_top)) (yes_le y r.bottom i.to_bottom)
 
 -- a difference is how far it is up without how far it is down
 natural_both : (a b : ℤ) → pos (natural (a -ℤ b)) +ℤ b ≡ pos (natural (b -ℤ a)) +ℤ a
@@ -176,9 +156,12 @@ scroll_cell p source clip dest fill x y x_in y_in =
     let o = from_shifted source p.width p.height s x y from_x from_y back (within_sides (shifted a s) x y (and_parts (is_within limits x y) (is_within (shifted a s) x y) e).1) in
     sym (ap₂ (cell_at p) o.column o.row) in
     ap (λ g. cond (is_within (common a limits) x y && not (is_within to x y)) fill g) (moved_cell p (move_rule p to s) x y x_in y_in)
-    ∙ tests_equal (is_within limits x y) (is_within (shifted a s) x y) (is_within a x y) (may_change clip (pos x) (pos y)) (in_source p source from_x from_y) (in_source p source (pos x) (pos y))
+    ∙ tests_equal (is_within limits x y) (is_within (shifted a s) x y) (is_within a x y) (may_change clip (pos x) (pos y))
+    (covers (used_rect source p.width p.height) from_x from_y) (covers (used_rect source p.width p.height) (pos x) (pos y))
     (is_within (common a limits) x y) (is_within to x y) (cell_at p (x + s.left - s.right) (y + s.up - s.down)) (cell_at p (natural from_x) (natural from_y)) fill (cell_at p x y)
-    (common_is a limits x y) (common_is (shifted a s) limits x y) (may_is clip p.width p.height x y x_in y_in) (source_is p source s x y from_x from_y back) (here_is p source x y x_in y_in) come
+    (common_is a limits x y) (common_is (shifted a s) limits x y) (may_is clip p.width p.height x y x_in y_in)
+    (used_covers source p.width p.height from_x from_y ∙ source_is p source s x y from_x from_y back)
+    (used_covers source p.width p.height (pos x) (pos y) ∙ here_is p source x y x_in y_in) come
 
 -- cells moved first, and what they leave filled then, are a scroll
 pub scrolled_is : (p : Picture) (source : Rect) (clip : Option Rect) (dest : Coord) (fill : Glyph) → IsPicture p

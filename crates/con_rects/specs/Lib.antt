@@ -6,4 +6,5 @@ pub mod Rules
 pub mod Runs
 pub mod Scroll
 -- ---- The code's own words.
+pub mod Parts
 pub mod Moves

@@ -5,7 +5,7 @@ use Rattle.con_units.specs.Natural.{natural}
 use Rattle.con_units.specs.declared.place.Coord.{Coord}
 use Rattle.con_units.specs.declared.place.Rect.{Rect}
 use Rattle.con_grid.specs.Picture.{Picture}
-use Rattle.con_rects.specs.Area.{area_in, is_within}
+use Rattle.con_rects.specs.Parts.{area_in, is_within}
 use Rattle.con_rects.specs.Rules.{cell_at}
 use Rattle.con_rects.specs.declared.area.Area.{Area}
 use Rattle.con_rects.specs.declared.scroll.Shift.{Shift}

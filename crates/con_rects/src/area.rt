@@ -2,7 +2,8 @@
 ghost use Rattle.std.specs.Prelude.{◌≡◌, ℤ, pos, negsuc, ◌-ℤ◌, ◌<◌, ◌≤◌, ◌↔◌};
 ghost use Rattle.con_units.specs.Natural.{natural};
 ghost use Rattle.con_units.specs.Rect.{IsIn};
-ghost use Rattle.con_rects.specs.Area.{past, area_in, area_size, is_within, has_cells, used_rect, rect_of, whole, wide};
+ghost use Rattle.con_rects.specs.Area.{used_rect};
+ghost use Rattle.con_rects.specs.Parts.{wide, past, area_in, area_size, is_within, has_cells, rect_of, whole};
 
 use con_units::{Coord, Rect, Size};
 

@@ -1,8 +1,9 @@
 //! Reading the cells of a rectangle or a run.
 ghost use Rattle.std.specs.Prelude.{true, take, drop, ◌≡◌, ◌+◌, ◌-◌, ◌*◌, ◌<◌, ◌≤◌, [], min, length, vec_capacity, slice_get, Some, IfOk, IfErr};
 ghost use Rattle.con_units.specs.declared.code.Code.TheVariants.{Limit};
-ghost use Rattle.con_rects.specs.Area.{has_cells, area_size, used_size, used_rect};
-ghost use Rattle.con_rects.specs.Rules.{area_cells, rect_cells, as_read};
+ghost use Rattle.con_rects.specs.Area.{used_size, used_rect};
+ghost use Rattle.con_rects.specs.Rules.{rect_cells};
+ghost use Rattle.con_rects.specs.Parts.{has_cells, area_size, area_cells, as_read};
 ghost use Rattle.con_rects.specs.Runs.{run_count, run_cells};
 
 use crate::area::{Area, area_of};

@@ -3,8 +3,9 @@ ghost use Rattle.std.specs.Prelude.{replicate, ◌≡◌, ◌+◌, ◌-◌, ◌*
 ghost use Rattle.con_units.specs.declared.code.Code.TheVariants.{Limit};
 ghost use Rattle.con_grid.specs.Picture.{IsPicture, place as place_of};
 ghost use Rattle.con_rects.specs.Rules.{redrawn};
-ghost use Rattle.con_rects.specs.Runs.{has_place, run_length, run_count, run_rule, with_unit};
-ghost use Rattle.con_rects.specs.Runs.{with_word, units_written, words_written, unit_filled, word_filled};
+ghost use Rattle.con_rects.specs.Runs.{run_count};
+ghost use Rattle.con_rects.specs.Runs.{units_written, words_written, unit_filled, word_filled};
+ghost use Rattle.con_rects.specs.Parts.{has_place, run_length, run_rule, with_unit, with_word};
 
 use crate::area::natural_of;
 use con_grid::Grid;

@@ -2,7 +2,7 @@
 ghost use Rattle.std.specs.Prelude.{◌≡◌, ◌+◌, ◌-◌, ◌*◌, ◌<◌, ◌≤◌, true, false};
 ghost use Rattle.con_units.specs.Glyph.{plain_cell};
 ghost use Rattle.con_grid.specs.Picture.{IsPicture};
-ghost use Rattle.con_rects.specs.Area.{has_cells};
+ghost use Rattle.con_rects.specs.Parts.{has_cells};
 ghost use Rattle.con_rects.specs.Rules.{redrawn};
 ghost use Rattle.con_rects.specs.Scroll.{scrolled};
 ghost use Rattle.con_rects.specs.Moves.{shift_to, clip_area, common, shifted, move_rule, free_rule, goes_back, goes_on, ComesFrom};

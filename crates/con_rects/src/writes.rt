@@ -4,8 +4,9 @@ ghost use Rattle.con_units.specs.Natural.{natural};
 ghost use Rattle.con_units.specs.Glyph.{plain_cell};
 ghost use Rattle.con_units.specs.declared.code.Code.TheVariants.{Limit};
 ghost use Rattle.con_grid.specs.Picture.{IsPicture};
-ghost use Rattle.con_rects.specs.Area.{area_in, has_cells, used_size, used_rect, cell_count, wide};
-ghost use Rattle.con_rects.specs.Rules.{blank, rect_rule, rect_written, redrawn};
+ghost use Rattle.con_rects.specs.Area.{used_size, used_rect, cell_count};
+ghost use Rattle.con_rects.specs.Rules.{rect_written, redrawn};
+ghost use Rattle.con_rects.specs.Parts.{wide, area_in, has_cells, blank, rect_rule};
 
 use crate::area::{Area, area_of, wide_of};
 use con_grid::Grid;

@@ -2,7 +2,7 @@ use Rattle.std.proofs.Common.{arith, ◌≡◌, ◌<◌, ◌+◌, ◌*◌, nat_l
 use Rattle.std.proofs.lemmas.Bool.{and_parts, ltb-true}
 use Rattle.con_units.specs.Glyph.{Glyph}
 use Rattle.con_rects.proofs.ReadLemmas.{read_so, read_more, read_row, read_next, read_room, read_picture}
-use Rattle.con_rects.specs.Rules.{as_read}
+use Rattle.con_rects.specs.Parts.{as_read}
 use Rattle.con_rects.proofs.reads.read_area.Goals as goal
 
 pub loop-x-init : goal.loop-x-init

@@ -1,5 +1,5 @@
 use Rattle.std.proofs.Common.{◌≡◌, ◌-◌, vec_capacity}
-use Rattle.con_rects.specs.Rules.{rows_part, as_read}
+use Rattle.con_rects.specs.Parts.{rows_part, as_read}
 use Rattle.con_rects.proofs.ReadLemmas.{read_so}
 use Rattle.con_rects.proofs.reads.read_area.Given as goal
 

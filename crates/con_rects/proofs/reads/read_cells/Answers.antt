@@ -2,7 +2,7 @@ use Rattle.std.proofs.Common.{arith, ◌<◌, ◌+◌, List, ◌∷◌, [], ◌+
 use Rattle.std.proofs.lemmas.List.{take_more, get_or-drop}
 use Rattle.std.proofs.lemmas.Option.{get_or_from_slice_get, slice_get_within}
 use Rattle.con_units.specs.Glyph.{Glyph}
-use Rattle.con_rects.specs.Rules.{blank, as_read}
+use Rattle.con_rects.specs.Parts.{blank, as_read}
 use Rattle.con_rects.proofs.reads.read_cells.Goals as goal
 
 pub loop-k-preserved : goal.loop-k-preserved

@@ -1,5 +1,5 @@
 use Rattle.std.proofs.Common.{◌≡◌, take, drop, vec_capacity}
-use Rattle.con_rects.specs.Rules.{as_read}
+use Rattle.con_rects.specs.Parts.{as_read}
 use Rattle.con_rects.proofs.reads.read_cells.Given as goal
 
 abbrev pub invariant-loop-k : goal.invariant-loop-k

@@ -1,6 +1,7 @@
 use Rattle.std.proofs.Common.{rules, ◌≡◌, ◌∙◌, ap, replicate}
 use Rattle.con_rects.specs.Rules.{redrawn}
-use Rattle.con_rects.specs.Runs.{run_count, run_rule, with_word}
+use Rattle.con_rects.specs.Runs.{run_count}
+use Rattle.con_rects.specs.Parts.{run_rule, with_word}
 use Rattle.con_rects.proofs.RunLemmas.{word_filled_is}
 use Rattle.con_rects.proofs.runs.fill_attrs.Goals as goal
 

@@ -1,5 +1,5 @@
 use Rattle.std.proofs.Common.{replicate, ◌+◌}
-use Rattle.con_rects.specs.Runs.{with_unit}
+use Rattle.con_rects.specs.Parts.{with_unit}
 use Rattle.con_rects.proofs.DrawLemmas.{DoneBefore}
 use Rattle.con_rects.proofs.RunLemmas.{run_at}
 use Rattle.con_rects.proofs.runs.fill_unit.Given as goal

@@ -1,6 +1,7 @@
 use Rattle.std.proofs.Common.{rules, ◌≡◌, ◌∙◌, ap, replicate}
 use Rattle.con_rects.specs.Rules.{redrawn}
-use Rattle.con_rects.specs.Runs.{run_count, run_rule, with_unit}
+use Rattle.con_rects.specs.Runs.{run_count}
+use Rattle.con_rects.specs.Parts.{run_rule, with_unit}
 use Rattle.con_rects.proofs.RunLemmas.{unit_filled_is}
 use Rattle.con_rects.proofs.runs.fill_units.Goals as goal
 

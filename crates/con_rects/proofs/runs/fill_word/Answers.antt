@@ -1,6 +1,6 @@
 use Rattle.std.proofs.Common.{arith, replicate, ◌≡◌, ◌<◌, ◌+◌, length, subst, sym, ap, ◌∙◌, ℕ}
 use Rattle.std.proofs.lemmas.List.{get_or-replicate}
-use Rattle.con_rects.specs.Runs.{with_word}
+use Rattle.con_rects.specs.Parts.{with_word}
 use Rattle.con_rects.proofs.DrawLemmas.{DoneBefore, count_is}
 use Rattle.con_rects.proofs.RunLemmas.{run_at, run_first, run_more, run_last}
 use Rattle.con_rects.proofs.runs.fill_word.Goals as goal

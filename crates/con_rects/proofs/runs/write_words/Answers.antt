@@ -1,5 +1,5 @@
 use Rattle.std.proofs.Common.{arith, ◌≡◌, ◌<◌, ◌+◌, length, subst, ℕ}
-use Rattle.con_rects.specs.Runs.{with_word}
+use Rattle.con_rects.specs.Parts.{with_word}
 use Rattle.con_rects.proofs.DrawLemmas.{DoneBefore, count_is}
 use Rattle.con_rects.proofs.RunLemmas.{run_at, run_first, run_more, run_last}
 use Rattle.con_rects.proofs.runs.write_words.Goals as goal

@@ -1,5 +1,5 @@
 use Rattle.std.proofs.Common.{◌+◌}
-use Rattle.con_rects.specs.Runs.{with_word}
+use Rattle.con_rects.specs.Parts.{with_word}
 use Rattle.con_rects.proofs.DrawLemmas.{DoneBefore}
 use Rattle.con_rects.proofs.RunLemmas.{run_at}
 use Rattle.con_rects.proofs.runs.write_words.Given as goal

@@ -1,6 +1,6 @@
 use Rattle.std.proofs.Common.{arith, ◌≡◌, ◌<◌, ◌+◌, ◌*◌, true, false, subst, sym, ◌∙◌, ℕ, set}
 use Rattle.con_units.specs.Glyph.{Glyph}
-use Rattle.con_rects.specs.Area.{is_within}
+use Rattle.con_rects.specs.Parts.{is_within}
 use Rattle.con_rects.specs.Moves.{free_rule}
 use Rattle.con_rects.proofs.AreaLemmas.{IsWithin}
 use Rattle.con_rects.proofs.DrawLemmas.{DoneBefore, flat, IsAreaOf, first_row, row_start, row_end, last_row, area_put}

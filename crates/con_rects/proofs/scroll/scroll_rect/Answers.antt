@@ -1,6 +1,6 @@
 use Rattle.std.proofs.Common.{arith, ◌≡◌, ◌∙◌, ap, ap₂}
 use Rattle.con_grid.specs.Picture.{Picture}
-use Rattle.con_rects.specs.Area.{area_in}
+use Rattle.con_rects.specs.Parts.{area_in}
 use Rattle.con_rects.specs.Rules.{redrawn}
 use Rattle.con_rects.specs.Scroll.{scrolled}
 use Rattle.con_rects.specs.Moves.{clip_area, common, shifted, shift_to, move_rule, free_rule}

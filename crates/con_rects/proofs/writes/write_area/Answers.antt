@@ -1,7 +1,6 @@
 use Rattle.std.proofs.Common.{arith, ◌≡◌, ◌<◌, ◌+◌, ◌*◌, subst, ◌∙◌, ℕ}
 use Rattle.con_units.specs.Glyph.{Glyph}
-use Rattle.con_rects.specs.Area.{area_in}
-use Rattle.con_rects.specs.Rules.{rect_rule}
+use Rattle.con_rects.specs.Parts.{area_in, rect_rule}
 use Rattle.con_rects.specs.declared.area.Area.{Area}
 use Rattle.con_rects.proofs.AreaLemmas.{IsWithin}
 use Rattle.con_rects.proofs.DrawLemmas.{DoneBefore, flat, IsAreaOf, first_row, row_start, row_end, last_row, area_put}

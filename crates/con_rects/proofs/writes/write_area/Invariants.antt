@@ -1,5 +1,5 @@
 use Rattle.std.proofs.Common.{◌+◌, ◌*◌}
-use Rattle.con_rects.specs.Rules.{rect_rule}
+use Rattle.con_rects.specs.Parts.{rect_rule}
 use Rattle.con_rects.proofs.DrawLemmas.{DoneBefore, flat}
 use Rattle.con_rects.proofs.writes.write_area.Given as goal
 

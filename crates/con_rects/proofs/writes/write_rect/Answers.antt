@@ -1,7 +1,9 @@
 use Rattle.std.proofs.Common.{arith, ◌≡◌, ◌≤◌, ap, sym, ◌∙◌}
-use Rattle.con_rects.specs.Area.{area_in, rect_of, area_size}
+use Rattle.con_rects.specs.Parts.{area_in, rect_of, area_size}
 use Rattle.con_rects.specs.Rules.{rect_written}
+use Rattle.con_rects.specs.Area.{used_size}
 use Rattle.con_rects.proofs.AreaLemmas.{area_in_same}
+use Rattle.con_rects.proofs.UsedLemmas.{used_rect_is, used_size_is}
 use Rattle.con_rects.proofs.RectLemmas.{rect_none, rect_written_is}
 use Rattle.con_rects.proofs.writes.write_rect.Goals as goal
 use Rattle.con_rects.proofs.writes.write_rect.Goals.{then-has_cells, else-has_cells}
@@ -10,9 +12,9 @@ pub returns-clause-done : goal.returns-clause-done
 returns-clause-done c =
     let p = c.args.grid.now in
     let a : c.area_of-area.result ≡ area_in c.args.rect p.width p.height = c.area_of-area.ensures ∙ area_in_same c.args.rect c.size-size.ensures.width c.size-size.ensures.height in
-    let few : area_size (area_in c.args.rect p.width p.height) ≤ 16384 = omega (arith, sym (ap area_size a), c.count.ensures, c.if-count-gt16384.false) in
+    let few : used_size c.args.rect p.width p.height ≤ 16384 = omega (arith, used_size_is c.args.rect p.width p.height, sym (ap area_size a), c.count.ensures, c.if-count-gt16384.false) in
     let grid : c.if-has_cells.grid ≡ rect_written p c.args.rect c.args.cells.now = elim c.if-has_cells.branch [
       | then-has_cells w ↦ w.grid-is ∙ w.write_area.ensures.grid ∙ rect_written_is p c.args.rect c.args.cells.now
       | else-has_cells w ↦ w.grid-is ∙ rect_none p c.args.rect c.area_of-area.result c.args.cells.now c.size-size.ensures.picture a (sym w.if-has_cells.ensures)
     ] in
-    (few, c.rect.ensures ∙ ap rect_of a, grid)
+    (few, c.rect.ensures ∙ ap rect_of a ∙ sym (used_rect_is c.args.rect p.width p.height), grid)
