@@ -84,9 +84,9 @@ side_is l r h =
     ∙ ap (λ n. n + 1) (ahead_is l (r - 1) (omega arith)) ∙ omega arith
 
 none_size : (a : Area) → (nat_lt a.left a.right && nat_lt a.top a.bottom) ≡ false → 0 ≡ area_size a
-none_size a none = elim (and_cases (nat_lt a.left a.right) (nat_lt a.top a.bottom) none) [
-  | inl columns ↦ let no : columns_of a ≡ 0 = omega (arith, ltb-false a.left a.right columns) in ap (λ n. n * rows_of a) (sym no)
-  | inr rows ↦ let no : rows_of a ≡ 0 = omega (arith, ltb-false a.top a.bottom rows) in let zero : 0 ≡ columns_of a * 0 = omega arith in zero ∙ ap (λ n. columns_of a * n) (sym no)
+none_size a no_cell = elim (and_cases (nat_lt a.left a.right) (nat_lt a.top a.bottom) no_cell) [
+  | inl columns ↦ let no : columns_of a ≡ 0 = omega (arith, ltb-false a.left a.right columns) in let none : 0 ≡ 0 * rows_of a = omega arith in none ∙ ap (λ n. n * rows_of a) (sym no)
+  | inr rows ↦ let no : rows_of a ≡ 0 = omega (arith, ltb-false a.top a.bottom rows) in let none : 0 ≡ columns_of a * 0 = omega arith in none ∙ ap (λ n. columns_of a * n) (sym no)
 ]
 
 count_of : (a : Area) → cell_count (rect_of a) ≡ area_size a
