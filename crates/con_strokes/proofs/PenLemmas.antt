@@ -10,7 +10,9 @@ use Rattle.con_units.specs.declared.shade.Shade.{Shade}
 use Rattle.con_units.specs.declared.shade.Shade.TheVariants.{Plain, Index}
 use Rattle.con_vtgram.specs.Text.{sixteen}
 use Rattle.con_vtgram.specs.declared.item.Item.TheVariants.{Csi}
-use Rattle.con_vtgram.specs.Pen.{attr_of, indexed, pen_after, word_of, IsPen}
+use Rattle.con_vtgram.specs.Pen.{attr_of, in_shade, indexed, pen_after, word_of, IsPen}
+use Rattle.con_vtgram.specs.declared.pen.Layer.{Layer}
+use Rattle.con_vtgram.specs.declared.pen.Layer.TheVariants.{Fore, Back}
 use Rattle.con_vtgram.specs.Sgr.{pen_by}
 use Rattle.con_term.specs.Page.{Page}
 use Rattle.con_term.specs.Effect.{effect, plain_effect}
@@ -172,19 +174,20 @@ back_number p a ns = by_test (is_default a) refl
     by_test false e = back p (background a.word) ns (omega arith)
 
 -- an index of 16 to 255
-fore_shade : (p : Pen) (n : ℕ) (ns : List ℕ) → 16 ≤ n → n < 256 → pen_by p (38 ∷ 5 ∷ n ∷ ns) ≡ pen_by (record p { foreground = near n; fore = Index n }) ns
-unfolding pen_by indexed
-fore_shade p n ns low high =
+shade_in : (p : Pen) (layer : Layer) (n : ℕ) → 16 ≤ n → n < 256 → indexed p layer n ≡ in_shade p layer n
+unfolding indexed
+shade_in p layer n low high =
     let b : nat_lt n 16 ≡ false = grind (arith, nat_tests) in
     let c : nat_lt n 256 ≡ true = grind (arith, nat_tests) in
     rw (b, c) refl
 
+fore_shade : (p : Pen) (n : ℕ) (ns : List ℕ) → 16 ≤ n → n < 256 → pen_by p (38 ∷ 5 ∷ n ∷ ns) ≡ pen_by (record p { foreground = near n; fore = Index n }) ns
+unfolding pen_by
+fore_shade p n ns low high = ap (λ q. pen_by q ns) (shade_in p Fore n low high)
+
 back_shade : (p : Pen) (n : ℕ) (ns : List ℕ) → 16 ≤ n → n < 256 → pen_by p (48 ∷ 5 ∷ n ∷ ns) ≡ pen_by (record p { background = near n; back = Index n }) ns
-unfolding pen_by indexed
-back_shade p n ns low high =
-    let b : nat_lt n 16 ≡ false = grind (arith, nat_tests) in
-    let c : nat_lt n 256 ≡ true = grind (arith, nat_tests) in
-    rw (b, c) refl
+unfolding pen_by
+back_shade p n ns low high = ap (λ q. pen_by q ns) (shade_in p Back n low high)
 
 fore_numbers : (p : Pen) (s : Shade) (n c : ℕ) (ns : List ℕ) → IsNearestOrBright s c → pen_by p (n ∷ ns) ≡ pen_by (record p { foreground = c; fore = Plain }) ns → pen_by p (colour_numbers 38 s n ++ ns) ≡ pen_by (record p { foreground = fore_for s c; fore = s }) ns
 fore_numbers p Plain n c ns h one = one

@@ -39,7 +39,7 @@ fn is_same_shade(a: Shade, b: Shade) -> bool
 }
 
 /// Whether two attributes are the same.
-#[tactic(auto, unfolding(con_term::specs::Dump::same_attr))]
+#[tactic(auto, unfolding(con_term::specs::Same::same_attr))]
 pub fn is_same_attr(a: Attr, b: Attr) -> bool
     ensures value { result ≡ same_attr a b }
     ensures kept { (IsAttribute a × (a.word < 0x10000)) × (IsAttribute b × (b.word < 0x10000)) }
