@@ -32,7 +32,8 @@ shade_text letter (Index n) = 0x20 ∷ letter ∷ decimal n
 unfoldable pub run_line : ℕ → ℕ → ℕ → Attribute → List ℕ
 run_line y x n attr =
     if same_attr attr (plain 7) || (n == 0) then []
-    else 0x40 ∷ decimal y ++ 0x2C ∷ decimal x ++ 0x2B ∷ decimal n ++ 0x20 ∷ hex_word attr.word ++ shade_text 0x66 attr.fore ++ shade_text 0x62 attr.back ++ 0x0A ∷ []
+    else 0x40 ∷ [] ++ decimal y ++ 0x2C ∷ [] ++ decimal x ++ 0x2B ∷ [] ++ decimal n ++ 0x20 ∷ []
+    ++ hex_word attr.word ++ shade_text 0x66 attr.fore ++ shade_text 0x62 attr.back ++ 0x0A ∷ []
 
 -- the runs of a row's cells, where n cells before them from column x on have this attribute
 unfoldable pub run_lines : ℕ → ℕ → ℕ → Attribute → List Glyph → List ℕ
