@@ -61,7 +61,7 @@ collect_ready s p a = outside_none (is_attached s.procs p) (has_done s.reads p) 
 -- ---- the turn of a client that is there
 
 pub turn_there : (c : Client) (s : State) (p : ℕ) (a : Bool) (t : Option Event) → a ≡ true → ClientTurnBy c.stance s p c t
-    → Rattle.con_laws.specs.Rounds.ClientTurn a s p c t
+    → Rattle.con_laws.specs.RoundWords.ClientTurn a s p c t
 turn_there c s p true t e k = k
 turn_there c s p false t e k = absurd (cc)
 
