@@ -1,6 +1,6 @@
 -- What is promised of records, who took them and what came in, is what the proofs walk.
-use Rattle.std.proofs.Common.{◌≡◌, ◌⊎◌, ℕ, Bool, List, [], ◌∷◌, ◌++◌, true, false, refl, ap, ◌∙◌, sym, subst, length, map, filter, append_assoc, append-nil, Result, Ok, Err, Option, Some, None, inl, inr, suc, zero, arith, cond, drop, drop_at, length-append}
-use Rattle.std.specs.Prelude.{◌+◌, ◌-◌, ◌==◌, ◌&&◌, ◌≤◌, not, nat_lt, nat_le, fold, slice_get, option_map, if◌then◌else◌}
+use Rattle.std.proofs.Common.{◌≡◌, ◌⊎◌, ℕ, Bool, List, [], ◌∷◌, ◌++◌, true, false, refl, ap, ◌∙◌, sym, subst, length, map, filter, append_assoc, Result, Ok, Err, Option, Some, None, inl, inr, suc, zero, arith, cond, drop, drop_at, length-append}
+use Rattle.std.specs.Prelude.{◌+◌, ◌-◌, ◌==◌, ◌&&◌, ◌≤◌, not, nat_lt, slice_get, option_map, if◌then◌else◌}
 use Rattle.std.specs.List.{find, zip, flat_map}
 use Rattle.std.specs.Option.{option_map_or}
 use Rattle.std.specs.Result.{is_ok}
@@ -13,7 +13,6 @@ use Rattle.con_events.specs.declared.entry.Entry.{Entry}
 use Rattle.con_events.specs.declared.event.Event.{Event}
 use Rattle.con_events.specs.declared.event.Event.TheVariants as events
 use Rattle.con_events.specs.declared.event.Wanted.{Wanted}
-use Rattle.con_events.specs.declared.event.Wanted.TheVariants as wanted
 use Rattle.con_events.specs.declared.reply.Reply.{Reply}
 use Rattle.con_handles.specs.declared.handle.Kind.TheVariants as kind
 use Rattle.con_handles.specs.declared.handle.Object.{Object}
@@ -40,7 +39,7 @@ use Rattle.con_machine.specs.Client.{is_fail}
 use Rattle.con_laws.specs.Fates.{Taker, Begun, Flushed, Earlier, How, Served, Emptied, Interrupted, CutOff, Deed, Piece, is_taker, done_for, came, bytes_from, bytes_of, event_arrivals, is_begun, reader_after, readers_from, undone}
 use Rattle.con_laws.specs.Fates.{taken_by as takes_by, event_pieces, step_pieces as pieces_at, pieces_from as pieces_on, arrived as has_arrived}
 use Rattle.con_laws.specs.Fates as now
-use Rattle.con_laws.specs.Walks.{Begin, Begins, no_begins, begin_or, begin_at, begins_after, begins_from, read_of, by_read, taken_by, served_pieces, interrupted_by, interrupted, cut_off, hung_pieces, closing_pieces, signal_pieces, flushed_pieces, call_pieces, key_pieces, keys_pieces, bytes_pieces, all_bytes_pieces, fed_pieces, effect_pieces, end_pieces, step_pieces, pieces_from, pieces, keys_arrivals, bytes_arrivals, key_arrivals, all_bytes_arrivals, fed_arrivals, effect_arrivals, step_arrivals, arrived, call_arrivals, fate_in, fate, last_begin}
+use Rattle.con_laws.specs.Walks.{Begin, Begins, no_begins, begin_or, begin_at, begins_after, begins_from, read_of, by_read, taken_by, served_pieces, interrupted_by, interrupted, cut_off, hung_pieces, closing_pieces, signal_pieces, flushed_pieces, call_pieces, keys_pieces, bytes_pieces, all_bytes_pieces, fed_pieces, effect_pieces, end_pieces, step_pieces, pieces_from, pieces, keys_arrivals, bytes_arrivals, all_bytes_arrivals, fed_arrivals, effect_arrivals, step_arrivals, arrived, call_arrivals, fate_in, fate, last_begin}
 use Rattle.con_laws.proofs.Conserved.{WholeReads, Kept, bytes_keep, effect_keeps}
 
 -- ---- what came in

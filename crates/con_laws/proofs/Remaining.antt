@@ -1,6 +1,6 @@
 -- What is promised of what is left of a line, of a read's text, and of why it fails, is what the proofs walk.
-use Rattle.std.proofs.Common.{◌≡◌, ◌⊎◌, ℕ, Bool, List, [], ◌∷◌, ◌++◌, true, false, refl, ap, ◌∙◌, sym, subst, length, map, Option, Some, None, inl, inr, arith}
-use Rattle.std.specs.Prelude.{◌==◌, ◌&&◌, ◌||◌, ◌<◌, not, nat_lt, slice_get, option_map, if◌then◌else◌}
+use Rattle.std.proofs.Common.{◌≡◌, ℕ, Bool, List, [], ◌∷◌, ◌++◌, true, false, refl, ap, ◌∙◌, sym, map, Option, Some, None, arith}
+use Rattle.std.specs.Prelude.{◌==◌, ◌&&◌, ◌||◌, not, option_map, if◌then◌else◌}
 use Rattle.std.specs.List.{Any, list_any, flat_map}
 use Rattle.std.specs.Option.{option_map_or}
 use Rattle.std.proofs.lemmas.Bool.Decides.{nat_tests}
@@ -17,7 +17,6 @@ use Rattle.con_events.specs.declared.event.Event.TheVariants as events
 use Rattle.con_events.specs.declared.reply.Reply.{Reply}
 use Rattle.con_events.specs.declared.reply.Reply.TheVariants as replies
 use Rattle.con_readers.specs.Lines.{line_answer}
-use Rattle.con_readers.specs.declared.answer.Answer.{Answer}
 use Rattle.con_readers.specs.declared.answer.Answer.TheVariants as answers
 use Rattle.con_readers.specs.declared.open.OpenRead.{OpenRead}
 use Rattle.con_readers.specs.declared.open.OpenRead.TheVariants as reads
@@ -30,7 +29,7 @@ use Rattle.con_machine.specs.Client.{is_fail}
 use Rattle.con_machine.specs.declared.reads.noted.Noted.{Noted}
 use Rattle.con_laws.specs.Answers.{opens, EndsSo}
 use Rattle.con_laws.specs.AnswerWalks.{is_interruption, is_cut, was_interrupted, was_cut_off, is_aborted, is_closed}
-use Rattle.con_laws.specs.Fates.{Taker, How, Served, Emptied, Interrupted, CutOff, Piece, done_for}
+use Rattle.con_laws.specs.Fates.{Taker, How, Interrupted, CutOff, Piece, done_for}
 use Rattle.con_laws.specs.Left.{LineLeaves}
 use Rattle.con_laws.specs.Remains.{own, handle_of, at_once}
 use Rattle.con_laws.specs.Remains as now

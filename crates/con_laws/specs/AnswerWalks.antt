@@ -1,10 +1,8 @@
 -- What a read is after all that was done for it, piece by piece.
-use Rattle.std.specs.Prelude.{ℕ, Bool, true, false, List, [], fold, take, if◌then◌else◌}
+use Rattle.std.specs.Prelude.{ℕ, Bool, true, false, List, fold, take}
 use Rattle.std.specs.List.{list_any}
 use Rattle.con_units.specs.declared.code.Code.TheVariants as code
 use Rattle.con_events.specs.declared.entry.Entry.{Entry}
-use Rattle.con_events.specs.declared.event.Wanted.{Wanted}
-use Rattle.con_events.specs.declared.event.Wanted.TheVariants as wanted
 use Rattle.con_events.specs.declared.reply.Reply.{Reply}
 use Rattle.con_events.specs.declared.reply.Reply.TheVariants as replies
 use Rattle.con_readers.specs.Serving.{served}
@@ -12,12 +10,9 @@ use Rattle.con_readers.specs.declared.answer.Answer.TheVariants as answers
 use Rattle.con_readers.specs.declared.open.OpenRead.{OpenRead}
 use Rattle.con_readers.specs.declared.open.OpenRead.TheVariants as reads
 use Rattle.con_records.specs.declared.record.Record.{Record}
-use Rattle.con_machine.specs.State.{State, rest_in}
+use Rattle.con_machine.specs.State.{State}
 use Rattle.con_machine.specs.History.{run}
-use Rattle.con_machine.specs.Outcome.{has_bit}
-use Rattle.con_machine.specs.Reads.{line_read, units_read}
 use Rattle.con_laws.specs.Fates.{How, Served, Emptied, Interrupted, CutOff, Taker, Piece, done_for}
-use Rattle.con_laws.specs.Answers.{opens}
 
 -- ---- what a Begin that is not refused opens in a console
 

@@ -1,52 +1,33 @@
 -- What became of each record of the input: records are taken from the front alone, so who took what is a list of pieces, in order.
 -- What came in and who took it is told beside the run of a history; the console itself counts no records.
-use Rattle.std.specs.Prelude.{◌≡◌, ◌⊎◌, ℕ, suc, ◌+◌, ◌-◌, ◌==◌, ◌&&◌, not, drop, Bool, true, false, nat_lt, List, [], ◌∷◌, ◌++◌, length, map, filter, Option, None, Some}
-use Rattle.std.specs.Prelude.{Result, Ok, Err, if◌then◌else◌}
+use Rattle.std.specs.Prelude.{ℕ, ◌+◌, ◌==◌, ◌&&◌, not, drop, Bool, false, List, [], ◌∷◌, ◌++◌, length, map, filter, Option}
+use Rattle.std.specs.Prelude.{if◌then◌else◌}
 use Rattle.std.specs.List.{find, zip, filter, flat_map, slice_get}
 use Rattle.std.specs.Option.{option_map_or}
 use Rattle.std.specs.Result.{is_ok}
 use Rattle.con_machine.specs.Turns.{moved}
-use Rattle.con_units.specs.Limits.{most_items, most_records}
 use Rattle.con_units.specs.Split.{split_after}
-use Rattle.con_units.specs.declared.code.Code.{Code}
-use Rattle.con_units.specs.declared.code.Code.TheVariants as code
-use Rattle.con_units.specs.declared.place.Size.{Size}
-use Rattle.con_events.specs.declared.call.Call.{Call}
 use Rattle.con_events.specs.declared.call.Call.TheVariants as calls
 use Rattle.con_events.specs.declared.entry.Entry.{Entry}
 use Rattle.con_events.specs.declared.event.Event.{Event}
 use Rattle.con_events.specs.declared.event.Event.TheVariants as events
-use Rattle.con_events.specs.declared.event.Wanted.{Wanted}
-use Rattle.con_events.specs.declared.event.Wanted.TheVariants as wanted
 use Rattle.con_events.specs.declared.reply.Reply.{Reply}
-use Rattle.con_events.specs.declared.reply.Reply.TheVariants as replies
 use Rattle.con_alias.specs.Aliases.{AliasList}
 use Rattle.con_handles.specs.declared.handle.Kind.TheVariants as kind
-use Rattle.con_handles.specs.declared.handle.Object.{Object}
-use Rattle.con_mouse.specs.Presses.{record_of}
-use Rattle.con_mouse.specs.Reports.{report_of}
-use Rattle.con_mouse.specs.declared.report.Report.{Report}
 use Rattle.con_history.specs.Histories.{LineHistories}
 use Rattle.con_procs.specs.Procs.{ids_of}
 use Rattle.con_readers.specs.Pieces.{front}
 use Rattle.con_readers.specs.Reads.{is_open_line}
 use Rattle.con_readers.specs.Serving.{is_done, served}
 use Rattle.con_readers.specs.declared.open.Open.{Open}
-use Rattle.con_records.specs.declared.record.Key.{Key}
 use Rattle.con_records.specs.declared.record.Record.{Record}
-use Rattle.con_screen.specs.Told.{nothing_told}
-use Rattle.con_screens.specs.Buffer.{told_on}
-use Rattle.con_screens.specs.Buffers.{buffer_at}
-use Rattle.con_screens.specs.Resize.{all_resized}
 use Rattle.con_vtin.specs.Keys.{quieted}
 use Rattle.con_vtin.specs.Pieces.{Piece as Bytes, Typed, Ended, piece_grammar}
 use Rattle.con_machine.specs.State.{State}
-use Rattle.con_machine.specs.Outcome.{guard, buffer_of, has_bit}
-use Rattle.con_machine.specs.ScreenCalls.{page_of, reported}
+use Rattle.con_machine.specs.Outcome.{guard}
 use Rattle.con_machine.specs.Closing.{all_wait}
-use Rattle.con_machine.specs.ProcessCalls.{is_no_signal}
 use Rattle.con_machine.specs.Serving.{settled_state}
-use Rattle.con_machine.specs.Terminal.{is_break, records_of, mouse_records, key_taken, piece_taken, size_record}
+use Rattle.con_machine.specs.Terminal.{is_break, piece_taken}
 use Rattle.con_machine.specs.Step.{effect, step, is_outside, client_of}
 use Rattle.con_machine.specs.Client.{is_fail}
 

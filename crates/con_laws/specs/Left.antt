@@ -4,7 +4,6 @@ use Rattle.con_events.specs.declared.entry.Entry.{Entry}
 use Rattle.con_events.specs.declared.event.Event.{Event}
 use Rattle.con_events.specs.declared.event.Event.TheVariants as events
 use Rattle.con_events.specs.declared.event.Wanted.{Wanted}
-use Rattle.con_events.specs.declared.event.Wanted.TheVariants as wanted
 use Rattle.con_events.specs.declared.reply.Reply.{Reply}
 use Rattle.con_events.specs.declared.reply.Reply.TheVariants as replies
 use Rattle.con_readers.specs.Reads.{answer_in, place_of}

@@ -7,18 +7,16 @@ use Rattle.con_events.specs.Session.{Clients}
 use Rattle.con_events.specs.declared.actor.Actor.{Actor}
 use Rattle.con_events.specs.declared.actor.Actor.TheVariants as actors
 use Rattle.con_events.specs.declared.end.End.{End}
-use Rattle.con_events.specs.declared.end.End.TheVariants as ends
 use Rattle.con_events.specs.declared.entry.Entry.{Entry}
 use Rattle.con_events.specs.declared.event.Event.{Event}
 use Rattle.con_events.specs.declared.event.Event.TheVariants as events
 use Rattle.con_procs.specs.Procs.{is_attached}
-use Rattle.con_readers.specs.Reads.{is_open, has_done}
 use Rattle.con_machine.specs.State.{State}
 use Rattle.con_machine.specs.Step.{is_ready}
 use Rattle.con_machine.specs.History.{run}
-use Rattle.con_machine.specs.Client.{Client, Stance, GoesOn, MayLeave, MustLeave, Gone, client_after, ctrl_exit, next_event}
-use Rattle.con_machine.specs.Turns.{turns, sent, has_ended, paints, is_pending}
-use Rattle.con_machine.specs.Follows.{is_lost, steps_of, kinds_of}
+use Rattle.con_machine.specs.Client.{Client, Stance, GoesOn, MayLeave, MustLeave, Gone, ctrl_exit}
+use Rattle.con_machine.specs.Turns.{sent, has_ended, paints}
+use Rattle.con_machine.specs.Follows.{is_lost}
 use Rattle.con_laws.specs.Rounds.{Begun, client_turn, client_at, is_memory}
 
 -- ---- who acts, in which order

@@ -1,5 +1,5 @@
 -- Turns by rounds: the terminal's side, each client by its number, the painter, and again, until nobody acts.
-use Rattle.std.specs.Prelude.{map, IsTrue, ◌≡◌, ◌⊎◌, ℕ, zero, suc, ◌+◌, ◌<◌, ◌&&◌, nat_le, Bool, true, false, not, List, [], ◌∷◌, ◌++◌, length, Option, Some, None}
+use Rattle.std.specs.Prelude.{map, IsTrue, ◌≡◌, ◌⊎◌, ℕ, ◌<◌, ◌&&◌, nat_le, Bool, true, false, not, List, [], ◌∷◌, ◌++◌, length, Option, Some, None}
 use Rattle.std.specs.Prelude.{if◌then◌else◌}
 use Rattle.con_events.specs.Session.{Clients}
 use Rattle.con_events.specs.declared.actor.Actor.{Actor}
@@ -14,7 +14,7 @@ use Rattle.con_readers.specs.Reads.{is_open, has_done}
 use Rattle.con_machine.specs.State.{State}
 use Rattle.con_machine.specs.Step.{is_ready}
 use Rattle.con_machine.specs.History.{run}
-use Rattle.con_machine.specs.Client.{Client, Stance, GoesOn, MayLeave, MustLeave, Gone, client_after, ctrl_exit, next_event}
+use Rattle.con_machine.specs.Client.{Client, Stance, GoesOn, MayLeave, MustLeave, client_after, ctrl_exit, next_event}
 use Rattle.con_machine.specs.Turns.{turns, sent, has_ended, paints, is_pending}
 use Rattle.con_machine.specs.Follows.{is_lost, steps_of, kinds_of}
 use Rattle.std.specs.List.{list_all, flat_map, range_with_len, AllByRecursion}

@@ -5,9 +5,6 @@ use Rattle.con_alias.specs.Aliases.{AliasList}
 use Rattle.con_cooked.specs.Cooked.{Moment}
 use Rattle.con_cooked.specs.Mask.{is_masked}
 use Rattle.con_cooked.specs.declared.cooked.Cooked.{Cooked}
-use Rattle.con_events.specs.declared.event.Wanted.{Wanted}
-use Rattle.con_events.specs.declared.event.Wanted.TheVariants as wanted
-use Rattle.con_history.specs.Histories.{lines_of}
 use Rattle.con_readers.specs.Answering.{is_line_end}
 use Rattle.con_readers.specs.Lines.{line_answer}
 use Rattle.con_readers.specs.Wants.{units_of}
@@ -16,7 +13,7 @@ use Rattle.con_readers.specs.declared.open.OpenRead.{OpenRead}
 use Rattle.con_readers.specs.declared.open.OpenRead.TheVariants as reads
 use Rattle.con_records.specs.declared.record.Record.{Record}
 use Rattle.con_machine.specs.Reads.{front_of}
-use Rattle.con_laws.specs.Fates.{How, Served, Piece}
+use Rattle.con_laws.specs.Fates.{Piece}
 use Rattle.con_laws.specs.Texts.{lines_at, aliases_at}
 
 -- records as presses of a line

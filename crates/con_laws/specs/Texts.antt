@@ -1,5 +1,5 @@
 -- What the text of a read is, by the records that it took.
-use Rattle.std.specs.Prelude.{flat_map, ◌≡◌, ℕ, Bool, true, false, List, [], ◌∷◌, ◌++◌, map, fold, take, if◌then◌else◌}
+use Rattle.std.specs.Prelude.{flat_map, ◌≡◌, ℕ, true, false, List, [], ◌∷◌, ◌++◌, map, fold, take, if◌then◌else◌}
 use Rattle.std.specs.List.{list_any}
 use Rattle.con_alias.specs.Aliases.{AliasList}
 use Rattle.con_cooked.specs.Cooked.{Moment, answer_of}

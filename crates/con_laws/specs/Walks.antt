@@ -1,5 +1,5 @@
 -- What comes in and who takes it, walked event by event, as the proofs go: what is promised says less of it, and is proved to be this.
-use Rattle.std.specs.Prelude.{◌≡◌, ◌⊎◌, ℕ, suc, ◌+◌, ◌-◌, ◌==◌, ◌&&◌, Bool, true, false, nat_lt, List, [], ◌∷◌, ◌++◌, length, map, filter, Option, None, Some}
+use Rattle.std.specs.Prelude.{◌≡◌, ◌⊎◌, ℕ, suc, ◌+◌, ◌-◌, ◌==◌, ◌&&◌, Bool, true, false, nat_lt, List, [], ◌∷◌, ◌++◌, length, map, Option, None, Some}
 use Rattle.std.specs.Prelude.{Result, Ok, Err, if◌then◌else◌}
 use Rattle.std.specs.List.{find}
 use Rattle.con_units.specs.Limits.{most_items, most_records}
@@ -45,7 +45,7 @@ use Rattle.con_machine.specs.Serving.{settled_state}
 use Rattle.con_machine.specs.Terminal.{is_break, records_of, mouse_records, key_taken, piece_taken, size_record}
 use Rattle.con_machine.specs.Step.{effect, step, is_outside, client_of}
 use Rattle.con_machine.specs.Client.{is_fail}
-use Rattle.con_laws.specs.Fates.{Taker, Begun, Flushed, Earlier, How, Served, Emptied, Interrupted, CutOff, Deed, Piece, is_taker, done_for}
+use Rattle.con_laws.specs.Fates.{Taker, Begun, Flushed, Earlier, How, Served, Emptied, Interrupted, CutOff, Piece, is_taker}
 
 -- ---- what came in: the records that each event puts behind the others
 

@@ -1,5 +1,5 @@
 -- A history is whole: all have done what they do, and the terminal shows what there is.
-use Rattle.std.specs.Prelude.{◌≡◌, ℕ, ◌<◌, ◌≤◌, ◌||◌, Bool, true, false, List, [], ◌∷◌, ◌++◌, length}
+use Rattle.std.specs.Prelude.{◌≡◌, ℕ, ◌<◌, ◌≤◌, Bool, true, false, List, ◌∷◌, ◌++◌, length}
 use Rattle.std.specs.List.{list_any}
 use Rattle.con_events.specs.Session.{Clients}
 use Rattle.con_events.specs.declared.entry.Entry.{Entry}
@@ -9,7 +9,7 @@ use Rattle.con_machine.specs.State.{State}
 use Rattle.con_machine.specs.History.{run}
 use Rattle.con_machine.specs.Painting.{view_now}
 use Rattle.con_machine.specs.Turns.{turns, sent, has_ended, is_paint}
-use Rattle.con_machine.specs.Client.{Client, Gone, client_after}
+use Rattle.con_machine.specs.Client.{Gone, client_after}
 use Rattle.con_machine.specs.Follows.{steps_of, kinds_of}
 
 -- a Paint or a Resize
