@@ -86,6 +86,7 @@ impl Screen {
     }
 
     /// Moves the cursor. Only a place outside the buffer is refused.
+    #[tactic(auto, unfolding(con_page::specs::Page::shown))]
     pub fn set_cursor(&mut self, at: Coord) -> Result<(), Code>
         requires { IsPage self.old.page }
         ensures moved { OnOk result
