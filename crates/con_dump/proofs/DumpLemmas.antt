@@ -7,8 +7,7 @@ use Rattle.con_units.specs.Decimal.{decimal}
 use Rattle.con_units.specs.Glyph.{Glyph}
 use Rattle.con_units.specs.View.{row_of}
 use Rattle.con_term.specs.Same.{same_attr}
-use Rattle.con_dump.specs.Dump.{row_line, hex_word, shade_text, run_line, run_lines}
-use Rattle.con_dump.specs.Lines.{rows_text, runs_text}
+use Rattle.con_dump.specs.Dump.{row_line, rows_text, runs_text, hex_word, shade_text, run_line, run_lines}
 
 append_none : (xs : List ℕ) → xs ++ [] ≡ xs
 append_none [] = refl
@@ -31,15 +30,19 @@ lines_more f old mid new y h k =
     ∙ ap (λ (zs : List ℕ). old ++ zs) (sym (range_more f 0 y y same)) ∙ ap (λ (n : ℕ). old ++ flat_map f (range_with_len 0 n)) next
 
 pub rows_none : (old : List ℕ) (w : ℕ) (cells : List Glyph) → old ≡ old ++ rows_text w cells 0
+unfolding rows_text
 rows_none old w cells = sym (append_none old)
 
 pub runs_none : (old : List ℕ) (w : ℕ) (cells : List Glyph) → old ≡ old ++ runs_text w cells 0
+unfolding runs_text
 runs_none old w cells = sym (append_none old)
 
 pub rows_more : (old mid new : List ℕ) (w y : ℕ) (cells : List Glyph) → mid ≡ old ++ rows_text w cells y → new ≡ mid ++ row_line (take (y * w + w - y * w) (drop (y * w) cells)) → new ≡ old ++ rows_text w cells (y + 1)
+unfolding rows_text
 rows_more old mid new w y cells h k = lines_more (λ n. row_line (row_of w cells n)) old mid new y h (k ∙ ap (λ row. mid ++ row_line row) (slice_is y w cells))
 
 pub runs_more : (old mid new : List ℕ) (w y : ℕ) (cells : List Glyph) → mid ≡ old ++ runs_text w cells y → new ≡ mid ++ run_lines y 0 0 (plain 7) (take (y * w + w - y * w) (drop (y * w) cells)) → new ≡ old ++ runs_text w cells (y + 1)
+unfolding runs_text
 runs_more old mid new w y cells h k = lines_more (λ n. run_lines n 0 0 (plain 7) (row_of w cells n)) old mid new y h (k ∙ ap (λ row. mid ++ run_lines y 0 0 (plain 7) row) (slice_is y w cells))
 
 -- a run's line, part by part

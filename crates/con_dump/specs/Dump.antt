@@ -40,6 +40,12 @@ unfoldable pub run_lines : ℕ → ℕ → ℕ → Attribute → List Glyph → 
 run_lines y x n attr [] = run_line y x n attr
 run_lines y x n attr (c ∷ cs) = if same_attr c.attr attr then run_lines y x (n + 1) attr cs else run_line y x n attr ++ run_lines y (x + n) 1 c.attr cs
 
+-- the lines of the first rows, and those of their runs
+unfoldable pub rows_text : ℕ → List Glyph → ℕ → List ℕ
+rows_text w cells h = flat_map (λ y. row_line (row_of w cells y)) (range_with_len 0 h)
+
+unfoldable pub runs_text : ℕ → List Glyph → ℕ → List ℕ
+runs_text w cells h = flat_map (λ y. run_lines y 0 0 (plain 7) (row_of w cells y)) (range_with_len 0 h)
+
 unfoldable pub dump : Page → List ℕ
-dump s = head_line s ++ flat_map (λ y. row_line (row_of s.w s.cells y)) (range_with_len 0 s.h)
-    ++ flat_map (λ y. run_lines y 0 0 (plain 7) (row_of s.w s.cells y)) (range_with_len 0 s.h)
+dump s = head_line s ++ rows_text s.w s.cells s.h ++ runs_text s.w s.cells s.h

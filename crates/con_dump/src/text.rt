@@ -5,8 +5,7 @@ ghost use Rattle.con_units.specs.Glyph.{Glyph};
 ghost use Rattle.std.specs.Char.{digit_char};
 ghost use Rattle.con_units.specs.Attr.{plain};
 ghost use Rattle.con_term.specs.Same.{same_shade, same_attr};
-ghost use Rattle.con_dump.specs.Dump.{hex_word, shade_text, head_line, row_line, run_line, run_lines, dump as dump_of};
-ghost use Rattle.con_dump.specs.Lines.{rows_text, runs_text};
+ghost use Rattle.con_dump.specs.Dump.{hex_word, shade_text, head_line, row_line, run_line, run_lines, rows_text, runs_text, dump as dump_of};
 
 use crate::units::push_bytes;
 use con_term::Terminal;

@@ -1,6 +1,6 @@
 -- The rows so far.
 use Rattle.std.proofs.Common.{◌≡◌, ◌++◌}
-use Rattle.con_dump.specs.Lines.{runs_text}
+use Rattle.con_dump.specs.Dump.{runs_text}
 use Rattle.con_dump.proofs.text.all_runs.Given as goal
 
 abbrev pub invariant-loop-y : goal.invariant-loop-y
