@@ -2,14 +2,16 @@
 use Rattle.std.proofs.Common.{◌≡◌, ℕ, Bool, true, false, cond, List, ◌∷◌, Option, None, Some, refl, sym, ap, subst, ◌∙◌}
 use Rattle.std.specs.Prelude.{◌<◌, fold, not, is_some}
 use Rattle.con_cooked.specs.declared.cooked.Cooked.{Cooked}
-use Rattle.con_cooked.specs.Cooked.{line_of}
+use Rattle.con_cooked.specs.declared.progress.Echo.{Echo}
+use Rattle.con_cooked.specs.Cooked.{line_of, echo_between}
 use Rattle.con_records.specs.declared.record.Record.{Record}
 use Rattle.con_history.specs.Histories.{LineHistories}
 use Rattle.con_alias.specs.Aliases.{AliasList}
 use Rattle.con_readers.specs.Act.{Act, began, typed, passed, ended, woke, IsOf}
 use Rattle.con_readers.specs.Lines.{line_text}
-use Rattle.con_readers.specs.Reads.{Pumped, Settled, settled, settled_after, after_act, before, work}
+use Rattle.con_readers.specs.Reads.{Pumped, Settled, settled, settled_after, after_act, before, head_text, work}
 use Rattle.con_readers.specs.declared.step.ReadStep.{ReadStep}
+use Rattle.con_readers.specs.declared.step.ReadStep.TheVariants as steps
 use Rattle.con_readers.specs.declared.open.Open.{Open}
 use Rattle.con_page.specs.Echo.{ended as line_ended}
 use Rattle.con_screen.specs.Echo.{Echoed, echoed}
@@ -79,6 +81,17 @@ shown_is s p n old new e b ns found shows is left notes = by_note (noted_of s.no
     by_note (Some m) h =
         let same : n ≡ m = cc in
         subst (λ (x : Noted). record s { buffers = b; noted = ns } ≡ line_shown s (Some x) old new) same (by_test (shows_line s.buffers n) shows)
+
+-- what shows of an echo that a step tells
+pub echo_follows : (s t : State) (p : ℕ) (echo : Echo) (step : ReadStep) (act : Option Act) → step ≡ steps.Echo p echo → IsOf step act → IsTold act s.reads
+    → ((old new : Cooked) → echo ≡ echo_between (line_of old).line (line_of new).line → head_text s.reads ≡ line_text new → t ≡ line_shown s (noted_of s.noted p) old new)
+    → t ≡ followed_by s act
+echo_follows s t p echo step act is of told shown = by_act (subst (λ (x : ReadStep). IsOf x act) is of)
+  where
+    by_act : IsOf (steps.Echo p echo) act → t ≡ followed_by s act
+    by_act one =
+        let parts = told p one.0 one.1 echo one.2 in
+        subst (λ (a : Option Act). t ≡ followed_by s a) (sym one.2) (shown one.0 one.1 parts.0 parts.1)
 
 -- ---- one step
 

@@ -71,8 +71,8 @@ called s p calls.Title = while_open s (answered s (replies.Units s.title))
 called s p (calls.SetTitle text) = while_open s (if nat_le (length text) 255 then done (record s { title = text }) else refused s code.BadArgument)
 called s p (calls.Write h text) = on_buffer s p h 2 (λ id. if nat_lt most_items (length text) then refused s code.Limit
     else (let t = told_on (buffer_at s.buffers id) nothing_told text in
-    let u : State = record s { records = s.records ++ map reported t.reports; title = unwrap_or t.title s.title; cursor_keys = unwrap_or t.keys s.cursor_keys } in
-    answered (record u { buffers = with_buffer s.buffers id (buffer_written nothing_told text) }) (replies.Number (length text))))
+    let u : State = record s { records = s.records ++ map reported t.reports; title = unwrap_or t.title s.title; cursor_keys = unwrap_or t.keys s.cursor_keys }
+    in answered (record u { buffers = with_buffer s.buffers id (buffer_written nothing_told text) }) (replies.Number (length text))))
 -- ---- cells: ReadConsoleOutput, WriteConsoleOutput; ReadConsoleOutputCharacter, ReadConsoleOutputAttribute, and the calls that write and fill runs;
 -- ScrollConsoleScreenBuffer
 called s p (calls.RectRead h r) = on_buffer s p h 1 (λ id. let g = cells_of s id in answered s (

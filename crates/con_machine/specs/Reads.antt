@@ -82,10 +82,8 @@ began_line s p h n initial mask =
 
 -- the read that a line read opens, by what is left for its handle: nothing was asked for; or a line; or what is left answers at once
 abbrev pub line_read : State → ℕ → ℕ → List ℕ → List ℕ → ℕ → OpenRead
-line_read s p n rest initial mask =
-    if n == 0 then reads.Done (answers.Units [])
-    else if is_none (slice_get rest 0) then line_opened s p initial mask
-    else reads.Done (answers.Units (front_of n rest))
+line_read s p n rest initial mask = if n == 0 then reads.Done (answers.Units [])
+    else if is_none (slice_get rest 0) then line_opened s p initial mask else reads.Done (answers.Units (front_of n rest))
 
 -- the read that a read of units opens, without line mode
 abbrev pub units_read : ℕ → OpenRead
@@ -95,8 +93,7 @@ units_read n = if n == 0 then reads.Done (answers.Units []) else reads.Units n
 -- with an initial text that has a control, or more than 1,024 units, or more than the read asks for. Of a line, the program's history is used, the others of
 -- attached processes being busy.
 abbrev pub began_read : State → ℕ → ℕ → ℕ → List ℕ → ℕ → Outcome
-began_read s p h n initial mask =
-    by_answer s (result_and (guard s p h kind.Input 1)
+began_read s p h n initial mask = by_answer s (result_and (guard s p h kind.Input 1)
     (if is_open s.reads p || (list_any is_control initial || nat_lt line_units (length initial) || nat_lt n (length initial)) then Err code.BadArgument
     else if nat_lt most_items n then Err code.Limit else Ok tt))
     (if has_bit s.mode 2 then began_line (record s { histories = used_by s.histories (program_of s.procs p) (programs_of s.procs) }) p h n initial mask
@@ -120,8 +117,7 @@ answer_told s n (answers.Records records) = answered s (replies.Records records)
 answer_told s n (answers.Fail why) = refused s why
 
 unfoldable pub collected : State → ℕ → Outcome
-collected s p =
-    answer_told (record s { reads = without s.reads p; noted = without_noted s.noted p }) (noted_of s.noted p)
+collected s p = answer_told (record s { reads = without s.reads p; noted = without_noted s.noted p }) (noted_of s.noted p)
     (answer_in (slice_get s.reads (place_of s.reads p)))
 
 -- the oldest control event is taken

@@ -39,9 +39,13 @@ abbrev pub mode_in : State → Object → ℕ
 mode_in s object.Input = s.mode
 mode_in s (object.Output id) = number_of (page_of s id.0).mode
 
--- the input has no bit outside 0x02FF, and no echo without lines; a buffer has four bits
+-- input modes: no bit outside 0x02FF, and no echo without lines
+abbrev pub is_input_mode : ℕ → Bool
+is_input_mode n = (bit_and n 0x2FF == n) && not (has_bit n 4 && not (has_bit n 2))
+
+-- a buffer has four bits
 abbrev pub mode_changed : State → ℕ → Object → Outcome
-mode_changed s n object.Input = by_answer s (checked ((bit_and n 0x2FF == n) && not (has_bit n 4 && not (has_bit n 2)))) (record s { mode = n })
+mode_changed s n object.Input = by_answer s (checked (is_input_mode n)) (record s { mode = n })
 mode_changed s n (object.Output id) = by_answer s (checked (nat_lt n 0x10)) (with_screen s id.0 (mode_set (screen_at s.buffers id.0) n))
 
 -- a unit of a report as a key that went down
@@ -60,10 +64,6 @@ page_left b id page = screen_left b id (record (screen_at b id) { page = page })
 
 abbrev pub told_mode : State → ℕ → ℕ → Outcome
 told_mode s p h = with_object s (guard s p h kind.Any 1) (λ o. answered s (replies.Number (mode_in s o)))
-
--- input modes: no bit outside 0x02FF, and no echo without lines
-abbrev pub is_input_mode : ℕ → Bool
-is_input_mode n = (bit_and n 0x2FF == n) && not (has_bit n 4 && not (has_bit n 2))
 
 abbrev pub set_mode : State → ℕ → ℕ → ℕ → Outcome
 set_mode s p h n = with_object s (guard s p h kind.Any 2) (mode_changed s n)

@@ -30,15 +30,11 @@ is_break s k = has_bit s.mode 1 && (k.vk == 0x43) && (k.unit == 3) && has_bit k.
 
 -- a key as records: it goes down and up, or it is a record for each unit of its sequence
 abbrev pub records_of : State → Key → List Record
-records_of s k =
-    if has_bit s.mode 0x200 then map reported (key_units k s.cursor_keys)
-    else kinds.Key k ∷ kinds.Key (record k { down = false }) ∷ []
+records_of s k = if has_bit s.mode 0x200 then map reported (key_units k s.cursor_keys) else kinds.Key k ∷ kinds.Key (record k { down = false }) ∷ []
 
 -- Ctrl+C is no record: what stands before it is served first, and then it is signalled to all.
 abbrev pub key_taken : State → Key → State
-key_taken s k =
-    if is_break s k then signalled_to (settled_state s) 0 0
-    else record s { records = s.records ++ records_of s k }
+key_taken s k = if is_break s k then signalled_to (settled_state s) 0 0 else record s { records = s.records ++ records_of s k }
 
 -- a mouse record's place is taken into the window, and counted from the buffer's corner
 abbrev pub mouse_records : Page → Option Mouse → List Record
