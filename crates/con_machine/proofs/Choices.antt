@@ -1,6 +1,6 @@
 -- What a call comes to, where its tests pass.
-use Rattle.std.proofs.Common.{◌≡◌, ℕ, Bool, true, false, List, Result, Ok, refl, sym, ap, ◌∙◌}
-use Rattle.std.specs.Prelude.{if◌then◌else◌}
+use Rattle.std.proofs.Common.{◌≡◌, ℕ, Bool, true, false, List, Result, Ok, Err, refl, sym, ap, ◌∙◌}
+use Rattle.std.specs.Prelude.{if◌then◌else◌, nat_lt, OnOk, OnErr}
 use Rattle.con_units.specs.declared.code.Code.{Code}
 use Rattle.con_units.specs.declared.code.Code.TheVariants as code
 use Rattle.con_units.specs.declared.place.Rect.{Rect}
@@ -11,9 +11,12 @@ use Rattle.con_handles.specs.declared.handle.Kind.TheVariants as kind
 use Rattle.con_handles.specs.declared.handle.Object.{Object}
 use Rattle.con_handles.specs.declared.handle.Object.TheVariants as object
 use Rattle.con_rects.specs.Rules.{rect_written}
+use Rattle.con_screen.specs.ModeSet.{mode_set}
+use Rattle.con_screens.specs.Buffers.{Buffers, screen_at}
+use Rattle.con_screens.specs.Lending.{screen_left}
 use Rattle.con_machine.specs.CellCalls.{are_cells, cells_for, cells_of, rect_answer, sides_of, with_cells, wrote_rect}
 use Rattle.con_machine.specs.Outcome.{Outcome, buffer_of, by_answer, by_result, checked, done, guard, on_buffer, refused, with_object}
-use Rattle.con_machine.specs.ScreenCalls.{is_size, refitted_at, set_size}
+use Rattle.con_machine.specs.ScreenCalls.{is_size, mode_changed, refitted_at, set_mode, set_size, with_screen}
 use Rattle.con_machine.specs.State.{State}
 
 -- a call on a buffer, where its handle serves
@@ -49,3 +52,17 @@ rect_is_by s p h r units ws id x serves full is =
     ∙ passed (are_cells r units ws) (rect_by s r units ws id.0) (refused s code.BadArgument) full
     ∙ ap (λ (y : Result Rect Code). by_result s y (with_cells s id.0 (rect_written (cells_of s id.0) r (cells_for units ws)))
     (λ used. replies.Numbers (sides_of used))) (sym is)
+
+-- a mode of a buffer, set or refused
+pub mode_is_set : (s : State) (p h n : ℕ) (id : BufferId) (b : Buffers) (r : Result (Unit {0}) Code) → guard s p h kind.Any 2 ≡ Ok (object.Output id)
+    → r ≡ checked (nat_lt n 0x10) → OnOk r (b ≡ screen_left s.buffers id.0 (mode_set (screen_at s.buffers id.0) n)) → OnErr r (b ≡ s.buffers)
+    → record s { buffers = b } ≡ (set_mode s p h n).after
+mode_is_set s p h n id b r serves is ok err =
+    by_answered r ok err
+    ∙ ap (λ (x : Result (Unit {0}) Code). (by_answer s x (with_screen s id.0 (mode_set (screen_at s.buffers id.0) n))).after) is
+    ∙ sym (ap (λ (x : Result Object Code). (with_object s x (mode_changed s n)).after) serves)
+  where
+    by_answered : (x : Result (Unit {0}) Code) → OnOk x (b ≡ screen_left s.buffers id.0 (mode_set (screen_at s.buffers id.0) n)) → OnErr x (b ≡ s.buffers)
+        → record s { buffers = b } ≡ (by_answer s x (with_screen s id.0 (mode_set (screen_at s.buffers id.0) n))).after
+    by_answered (Err why) ok err = ap (λ (y : Buffers). record s { buffers = y }) err
+    by_answered (Ok u) ok err = ap (λ (y : Buffers). record s { buffers = y }) ok
