@@ -1,6 +1,7 @@
 mod Alone
 pub mod Entered
 pub mod Forms
+mod Numbers
 mod Other
 mod WithFiles
 mod WithWord

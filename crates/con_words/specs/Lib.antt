@@ -3,3 +3,5 @@ pub mod Asked
 pub mod Words
 -- The form of what the command met.
 pub mod Naming
+-- The code's own words of numbers.
+pub mod Spelling

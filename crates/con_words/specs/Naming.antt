@@ -3,7 +3,7 @@ use Rattle.std.specs.Prelude.{Bool, true, false, ◌&&◌, List, [], ◌∷◌, 
 use Rattle.std.specs.Str.{bytes_eq}
 use Rattle.clap.specs.Words.{Row, Text}
 use Rattle.con_command.specs.Command.{Files, Named, files_in, first_word}
-use Rattle.con_words.specs.Words.{Asked, typing, playing, running, solo, mirroring, auditing, generating, is_word, size_of, seed_of}
+use Rattle.con_words.specs.Words.{Asked, typing, playing, running, solo, mirroring, auditing, generating, is_word, number_in, size_of}
 
 abbrev pub of_size : Option Text → Option Asked
 of_size None = None
@@ -23,7 +23,7 @@ of_mirror (Some word) = Some (mirroring word)
 
 abbrev pub of_number : Option Text → Option Asked
 of_number None = None
-of_number (Some word) = option_map generating (seed_of word)
+of_number (Some word) = option_map generating (number_in 0 4294967295 word)
 
 abbrev pub form_named : Named → Option Asked
 form_named p =

@@ -1,6 +1,9 @@
 -- Which words are a form.
-use Rattle.std.specs.Prelude.{ℕ, ◌+◌, ◌-◌, ◌*◌, ◌<◌, ◌≤◌, Bool, false, not, ◌&&◌, ◌==◌, nat_le, List, [], ◌∷◌, take, drop, codes}
+use Rattle.std.specs.Prelude.{ℕ, ◌+◌, ◌-◌, ◌<◌, ◌≤◌, Bool, false, not, ◌&&◌, ◌||◌, ◌==◌, List, [], ◌∷◌, take, drop, map, slice_index, codes}
 use Rattle.std.specs.Prelude.{Option, Some, None, option_map, option_and_then, if◌then◌else◌}
+use Rattle.std.specs.Char.{is_ascii_digit}
+use Rattle.std.specs.Int.{is_in_range}
+use Rattle.std.specs.Int.Digits.{number_from_digits}
 use Rattle.std.specs.List.{list_all, position}
 use Rattle.std.specs.Str.{bytes_eq}
 use Rattle.con_units.specs.Limits.{most_columns, most_window_rows}
@@ -17,58 +20,15 @@ pub data Asked : Type 0 where
   auditing : List ℕ → List ℕ → List ℕ → List ℕ → Asked
   generating : ℕ → Asked
 
--- '1' to '9'
-abbrev pub is_first : ℕ → Bool
-is_first byte = nat_le 0x31 byte && nat_le byte 0x39
-
--- '0' to '9'
-abbrev pub is_digit : ℕ → Bool
-is_digit byte = nat_le 0x30 byte && nat_le byte 0x39
-
-abbrev pub digit_of : ℕ → ℕ
-digit_of byte = byte - 0x30
-
--- the number that one to three decimal digits spell, of which the first is not 0
-abbrev pub number_of : List ℕ → Option ℕ
-number_of (a ∷ []) = if is_first a then Some (digit_of a) else None
-number_of (a ∷ b ∷ []) = if is_first a && is_digit b then Some (digit_of a * 10 + digit_of b) else None
-number_of (a ∷ b ∷ c ∷ []) = if is_first a && is_digit b && is_digit c then Some (digit_of a * 100 + digit_of b * 10 + digit_of c) else None
-number_of _ = None
-
--- the number of 1 to `most` that the digits spell
-abbrev pub side_of : List ℕ → ℕ → Option ℕ
-side_of digits most = option_and_then (λ n. if nat_le n most then Some n else None) (number_of digits)
-
--- 'x'
-abbrev pub is_x : ℕ → Bool
-is_x byte = byte == 0x78
-
--- the size that stands around an 'x' at this place
-abbrev pub size_at : List ℕ → ℕ → Option Size
-size_at word at =
-    option_and_then (λ w. option_map (λ h. record { w = w; h = h }) (side_of (drop (at + 1) word) most_window_rows)) (side_of (take at word) most_columns)
+-- the number from low to high that a word spells: '0', or decimal digits of which the first is not 0
+abbrev pub number_in : ℕ → ℕ → List ℕ → Option ℕ
+number_in low high word = let n = number_from_digits 10 (map (λ d. d - 0x30) word) in if list_all is_ascii_digit word
+    && (bytes_eq word (codes "0") || is_in_range 0x31 0x39 (slice_index word 0)) && is_in_range low high n then Some n else None
 
 -- the size that a word WxH names: W of 1 to 512, H of 1 to 256
 abbrev pub size_of : List ℕ → Option Size
-size_of word = option_and_then (size_at word) (position is_x word)
-
--- a number with one decimal digit more, of at most 4,294,967,295
-abbrev pub with_digit : ℕ → ℕ → Option ℕ
-with_digit n byte = if is_digit byte && nat_le (n * 10 + digit_of byte) 4294967295 then Some (n * 10 + digit_of byte) else None
-
--- the number that decimal digits spell behind one that was begun
-abbrev pub spelled_after : ℕ → List ℕ → Option ℕ
-spelled_after n [] = Some n
-spelled_after n (byte ∷ bytes) = option_and_then (λ more. spelled_after more bytes) (with_digit n byte)
-
-abbrev pub zero_alone : List ℕ → Option ℕ
-zero_alone [] = Some 0
-zero_alone (byte ∷ bytes) = None
-
--- the number of at most 4,294,967,295 that a word spells: '0', or decimal digits of which the first is not 0
-abbrev pub seed_of : List ℕ → Option ℕ
-seed_of [] = None
-seed_of (byte ∷ bytes) = if byte == 0x30 then zero_alone bytes else spelled_after 0 (byte ∷ bytes)
+size_of word = option_and_then (λ at. option_and_then (λ w. option_map (λ h. record { w = w; h = h }) (number_in 1 most_window_rows (drop (at + 1) word)))
+    (number_in 1 most_columns (take at word))) (position (λ byte. byte == 0x78) word)
 
 -- a window's size
 abbrev pub IsWindow : Size → Type 0
@@ -83,7 +43,7 @@ abbrev pub with_word : List ℕ → List ℕ → Option Asked
 with_word name word =
     if bytes_eq (codes "play") name then option_map playing (size_of word)
     else if bytes_eq (codes "solo") name then Some (solo word)
-    else if bytes_eq (codes "gen") name then option_map generating (seed_of word)
+    else if bytes_eq (codes "gen") name then option_map generating (number_in 0 4294967295 word)
     else if bytes_eq (codes "run") name then Some (running word)
     else if bytes_eq (codes "mirror") name then Some (mirroring word)
     else None

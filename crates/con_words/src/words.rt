@@ -57,7 +57,8 @@ impl<'a> Form<'a> {
     }
 }
 
-ghost use Rattle.con_words.specs.Words.{is_word, is_first, is_digit, number_of, side_of, size_of, is_x, digit_of, with_digit, spelled_after, seed_of, IsWindow};
+ghost use Rattle.con_words.specs.Words.{is_word, number_in, size_of, IsWindow};
+ghost use Rattle.con_words.specs.Spelling.{is_first, is_digit, number_of, side_of, is_x, digit_of, with_digit, spelled_after, seed_of};
 ghost use Rattle.con_words.specs.Asked.{asked_of, IsWindowed};
 ghost use Rattle.con_command.specs.Command.{files_shown};
 ghost use Rattle.con_words.specs.Naming.{may_be_form, of_size, of_name, of_number, of_run, of_mirror, of_files, form_named, form_in, form_met};
@@ -247,7 +248,7 @@ fn number(digits: &[u8]) -> Option<u16>
     }
 }
 
-fn side(digits: &[u8], most: u16) -> Option<u16>
+fn side_within(digits: &[u8], most: u16) -> Option<u16>
     ensures side { result ≡ side_of digits.now most }
     ensures inside { IfSome result (λ n. (0 < n) × (n ≤ most)) }
 {
@@ -255,6 +256,15 @@ fn side(digits: &[u8], most: u16) -> Option<u16>
         Some(n) if n <= most => Some(n),
         _ => None,
     }
+}
+
+// The number of 1 to `most` that the digits spell.
+fn side(digits: &[u8], most: u16) -> Option<u16>
+    requires { most ≤ 999 }
+    ensures side { result ≡ number_in 1 most digits.now }
+    ensures inside { IfSome result (λ n. (0 < n) × (n ≤ most)) }
+{
+    side_within(digits, most)
 }
 
 fn place_of_x(word: &[u8]) -> Option<usize>
@@ -305,7 +315,7 @@ fn spelled(digits: &[u8]) -> Option<u32>
     Some(number)
 }
 
-fn seed_in(word: &[u8]) -> Option<u32>
+fn seed(word: &[u8]) -> Option<u32>
     ensures { result ≡ seed_of word.now }
 {
     match word {
@@ -314,4 +324,11 @@ fn seed_in(word: &[u8]) -> Option<u32>
         [0x30, ..] => None,
         _ => spelled(word),
     }
+}
+
+// The number of a session that the word spells.
+fn seed_in(word: &[u8]) -> Option<u32>
+    ensures { result ≡ number_in 0 4294967295 word.now }
+{
+    seed(word)
 }
