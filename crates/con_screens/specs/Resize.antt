@@ -17,6 +17,10 @@ side_after side old new = if side == old then new else max side new
 abbrev pub size_after : Page → Size → Size
 size_after p window = record { w = side_after p.grid.width p.w window.w; h = side_after p.grid.height p.h window.h }
 
+-- the size of a screen after it, a word of the code: an alternate one is as large as the window
+abbrev pub target : Bool → Page → Size → Size
+target is_alternate p window = if is_alternate then window else size_after p window
+
 -- an alternate screen becomes as large as the window
 abbrev pub screen_resized : Bool → Size → Screen → Screen
 screen_resized is_alternate window s = record s { page = refitted s.page (if is_alternate then window else size_after s.page window) window }
@@ -54,9 +58,3 @@ pub record AreFits (s : Buffers) (f : Fits) : Type 0 where
   pub few : (f.window.w ≤ 512) × (f.window.h ≤ 256)
   pub count : length f.slots ≡ length s.slots
   pub each : (id : ℕ) → IsSlotFit f.window (buffer_at s id) (slice_index_or f.slots id None)
-
--- ---- words of the code
-
--- the size of a screen after it: an alternate one is as large as the window
-abbrev pub target : Bool → Page → Size → Size
-target is_alternate p window = if is_alternate then window else size_after p window
