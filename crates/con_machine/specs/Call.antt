@@ -18,8 +18,8 @@ use Rattle.con_rects.specs.Area.{used_rect, used_size}
 use Rattle.con_rects.specs.Rules.{rect_cells, rect_written}
 use Rattle.con_rects.specs.Runs.{run_count, units_written, words_written, unit_filled, word_filled}
 use Rattle.con_rects.specs.Scroll.{scrolled}
-use Rattle.con_screen.specs.Fit.{refitted}
-use Rattle.con_screen.specs.Setters.{info_of, cursor_set, origin_set, pen_of_word}
+use Rattle.con_page.specs.Fit.{refitted}
+use Rattle.con_page.specs.Setters.{info_of, cursor_set, origin_set, pen_of_word}
 use Rattle.con_screen.specs.Told.{nothing_told}
 use Rattle.con_screens.specs.Buffer.{buffer_written, told_on}
 use Rattle.con_screens.specs.Buffers.{buffer_at, is_alternate, free_id, with_buffer, handle_released}
