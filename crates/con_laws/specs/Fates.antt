@@ -33,7 +33,7 @@ use Rattle.con_machine.specs.Client.{is_fail}
 
 -- ---- what came in
 
--- the records that a move of the console puts behind those that were there
+-- the records that a move of the console puts behind those that were there; no event and no key that takes records puts some in
 abbrev pub came : State → State → List Record
 came s t = drop (length s.records) t.records
 

@@ -20,7 +20,7 @@ use Rattle.con_laws.specs.Remains.{IsLeft}
 use Rattle.con_laws.specs.Texts.{AnswersText, asked_for}
 use Rattle.con_laws.specs.Fates.{Taker, Begun, Earlier, Interrupted, CutOff, arrived, pieces, done_for, fate, fated, readers_from}
 
--- behind a front of a history a client, which is attached, collects a read that is done, of its Begin at this place
+-- behind a front of a history a client, which is attached, collects a read that is done, of its Begin at this place, which waits for this
 pub record Collects (s : State) (h before later : List Entry) (p place : ℕ) (w : Wanted) : Type 0 where
   pub is : h ≡ before ++ record { actor = actors.Client p; event = events.Collect } ∷ later
   pub last : readers_from Earlier 0 s before p ≡ Begun place

@@ -70,7 +70,7 @@ IsTurn b h actors.Painter t = t ≡ (if not (has_failed b h) && is_ready (run b.
 
 -- ---- rounds
 
--- from a history on the actors have these turns one after another, which lead to another one; the last of them may have none
+-- From a history on the actors have these turns one after another, and with what they enter it becomes the second history. Actors at the end may have no turn.
 abbrev pub AreTurns : Begun → List Entry → List Actor → List (Option Event) → List Entry → Type 0
 AreTurns b h by [] g = g ≡ h
 AreTurns b h [] (t ∷ ts) g = ⊥
@@ -86,7 +86,7 @@ pub record Rounds (s : State) (h : List Entry) (session : Clients) (racks : List
   -- the terminal may count as failed from the last of so many Paints on, where it may be lost
   pub failed : Option ℕ
   pub fails : (k : ℕ) → failed ≡ Some k → (is_lost end ≡ true) × (0 < paints h) × (k ≡ paints h)
-  -- whole rounds, in each of which somebody acts, and the last one, in which nobody does; for want of memory it may break off
+  -- whole rounds, in each of which each actor has a turn and somebody acts, and the last one, in which nobody does; for want of memory it may break off
   pub rounds : List (List (Option Event))
   pub last : List (Option Event)
   pub each : AllByRecursion (λ one. (length one ≡ length (order (length session.scripts))) × (list_all is_none one ≡ false)) rounds

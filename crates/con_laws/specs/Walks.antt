@@ -1,4 +1,4 @@
--- What comes in and who takes it, walked event by event, as the proofs go: what is promised says less of it, and is proved to be this.
+-- What comes in and who takes it, walked event by event, as the proofs go: what is promised says the same in fewer words, and is proved to be this.
 use Rattle.std.specs.Prelude.{◌≡◌, ◌⊎◌, ℕ, suc, ◌+◌, ◌-◌, ◌==◌, ◌&&◌, Bool, true, false, nat_lt, List, [], ◌∷◌, ◌++◌, length, map, Option, None, Some}
 use Rattle.std.specs.Prelude.{Result, Ok, Err, if◌then◌else◌}
 use Rattle.std.specs.List.{find}

@@ -61,7 +61,7 @@ ended_with buffers (byte ∷ bytes) = units_typed buffers (0xFFFD ∷ [])
 abbrev pub ended : Typing → Buffers
 ended t = ended_with t.buffers t.held
 
--- a frame that shows a text, and prints or erases no more cells than the screen has
+-- On any terminal of 80 by 25 the frame, played, shows the window of the active buffer after the text, and prints or erases no more cells than that has.
 abbrev pub IsFrame : List ℕ → List ℕ → Type 0
 IsFrame text frame = let s = text_typed text in
     IsSomeAnd (buffer_at s s.active) (λ b. (t : Terminal) → IsTerminal 80 25 t → Shows (play t frame) (view_of b.shown.page))
