@@ -1,8 +1,10 @@
 -- A call that tells something leaves the console as it was.
-use Rattle.std.proofs.Common.{◌≡◌, ℕ, Bool, true, false, Option, Some, None, Result, Ok, Err, refl}
+use Rattle.std.proofs.Common.{◌≡◌, ℕ, Bool, true, false, List, ℤ, Option, Some, None, Result, Ok, Err, refl, sym, ap, ◌∙◌}
 use Rattle.std.specs.Prelude.{if◌then◌else◌, pos, length, map, min}
 use Rattle.con_units.specs.declared.code.Code.{Code}
 use Rattle.con_units.specs.declared.code.Code.TheVariants as code
+use Rattle.con_units.specs.declared.place.Rect.{Rect}
+use Rattle.con_events.specs.declared.call.Words.{Words}
 use Rattle.con_events.specs.declared.call.Call.{Call}
 use Rattle.con_events.specs.declared.call.Call.TheVariants as calls
 use Rattle.con_events.specs.declared.reply.Reply.{Reply}
@@ -16,10 +18,10 @@ use Rattle.con_history.specs.Histories.{lines_of}
 use Rattle.con_machine.specs.State.{State}
 use Rattle.con_machine.specs.Outcome.{Outcome, refused, answered, while_open, guard, with_object, buffer_of}
 use Rattle.con_machine.specs.Call.{called}
-use Rattle.con_machine.specs.ScreenCalls.{mode_in, numbers_of, cursor_numbers, page_of}
-use Rattle.con_machine.specs.CellCalls.{cells_of, rect_told, run_told, at_place}
+use Rattle.con_machine.specs.ScreenCalls.{mode_in, numbers_of, cursor_numbers, page_of, set_size}
+use Rattle.con_machine.specs.CellCalls.{cells_of, rect_told, run_told, at_place, wrote_rect, wrote_run_units, wrote_run_words}
 use Rattle.con_machine.specs.InputCalls.{peek_told}
-use Rattle.con_machine.specs.LineCalls.{info_numbers, pair_of, told_alias_in}
+use Rattle.con_machine.specs.LineCalls.{info_numbers, pair_of, told_alias_in, added_alias, removed_alias}
 
 abbrev pub is_telling : Call → Bool
 is_telling (calls.Mode h) = true
@@ -74,3 +76,35 @@ told_same s p (calls.AliasGet program source) t = by_open s (told_alias_in s (al
 told_same s p (calls.AliasList program) t = by_open s (answered s (replies.Lines (map pair_of (entries_in s.aliases program)))) refl
 told_same s p calls.Processes t = by_open s (answered s (replies.Numbers (map (λ id. pos id) (ids_of s.procs)))) refl
 told_same s p x t = absurd (cc)
+
+-- ---- rows of the table by their names
+
+pub is_after : (s t : State) (p : ℕ) (x y : Call) (o : Outcome) → x ≡ y → called s p y ≡ o → t ≡ o.after → t ≡ (called s p x).after
+is_after s t p x y o is row e = e ∙ ap (λ (k : Outcome). k.after) (sym row) ∙ ap (λ (z : Call). (called s p z).after) (sym is)
+
+pub is_reply : (s : State) (r : Reply) (p : ℕ) (x y : Call) (o : Outcome) → x ≡ y → called s p y ≡ o → r ≡ o.reply → r ≡ (called s p x).reply
+is_reply s r p x y o is row e = e ∙ ap (λ (k : Outcome). k.reply) (sym row) ∙ ap (λ (z : Call). (called s p z).reply) (sym is)
+
+pub size_row : (s : State) (p handle w h : ℕ) → called s p (calls.SetSize handle w h) ≡ set_size s p handle w h
+unfolding called
+size_row s p handle w h = refl
+
+pub rect_row : (s : State) (p h : ℕ) (r : Rect) (us : List ℕ) (ws : Words) → called s p (calls.RectWrite h r us ws) ≡ wrote_rect s p h r us ws
+unfolding called
+rect_row s p h r us ws = refl
+
+pub units_row : (s : State) (p h : ℕ) (x y : ℤ) (us : List ℕ) → called s p (calls.RunWriteUnits h x y us) ≡ wrote_run_units s p h x y us
+unfolding called
+units_row s p h x y us = refl
+
+pub words_row : (s : State) (p h : ℕ) (x y : ℤ) (ws : List ℕ) → called s p (calls.RunWriteAttrs h x y ws) ≡ wrote_run_words s p h x y ws
+unfolding called
+words_row s p h x y ws = refl
+
+pub add_row : (s : State) (p : ℕ) (program source target : List ℕ) → called s p (calls.AliasAdd program source target) ≡ added_alias s program source target
+unfolding called
+add_row s p program source target = refl
+
+pub remove_row : (s : State) (p : ℕ) (program source : List ℕ) → called s p (calls.AliasRemove program source) ≡ removed_alias s program source
+unfolding called
+remove_row s p program source = refl

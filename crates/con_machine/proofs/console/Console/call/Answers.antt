@@ -1,6 +1,6 @@
 -- A call that tells something leaves the console as it was.
 use Rattle.std.proofs.Common.{ap}
-use Rattle.con_machine.proofs.Tellings.{is_telling, told_same}
+use Rattle.con_machine.proofs.Tellings.{is_telling, told_same, is_after, is_reply, size_row, rect_row, units_row, words_row, add_row, remove_row}
 use Rattle.con_machine.proofs.console.Console.call.Goals as goal
 
 pub returns-in-Mode-clause-state : goal.returns-in-Mode-clause-state
@@ -44,3 +44,33 @@ returns-in-AliasList-clause-state c = told_same c.args.self.now.state c.args.p c
 
 pub returns-in-Processes-clause-state : goal.returns-in-Processes-clause-state
 returns-in-Processes-clause-state c = told_same c.args.self.now.state c.args.p c.args.call.now (ap is_telling c.in-Processes.is)
+
+pub returns-in-SetSize-clause-state : goal.returns-in-SetSize-clause-state
+returns-in-SetSize-clause-state c = is_after _ _ _ _ _ _ c.in-SetSize.is (size_row c.args.self.now.state c.args.p _ _ _) c.set_size_in.ensures.state
+
+pub returns-in-SetSize-clause-reply : goal.returns-in-SetSize-clause-reply
+returns-in-SetSize-clause-reply c = is_reply _ _ _ _ _ _ c.in-SetSize.is (size_row c.args.self.now.state c.args.p _ _ _) c.set_size_in.ensures.reply
+
+pub returns-in-RectWrite-clause-state : goal.returns-in-RectWrite-clause-state
+returns-in-RectWrite-clause-state c = is_after _ _ _ _ _ _ c.in-RectWrite.is (rect_row c.args.self.now.state c.args.p _ _ _ _) c.write_rect_in.ensures.state
+
+pub returns-in-RectWrite-clause-reply : goal.returns-in-RectWrite-clause-reply
+returns-in-RectWrite-clause-reply c = is_reply _ _ _ _ _ _ c.in-RectWrite.is (rect_row c.args.self.now.state c.args.p _ _ _ _) c.write_rect_in.ensures.reply
+
+pub returns-in-RunWriteUnits-clause-reply : goal.returns-in-RunWriteUnits-clause-reply
+returns-in-RunWriteUnits-clause-reply c = is_reply _ _ _ _ _ _ c.in-RunWriteUnits.is (units_row c.args.self.now.state c.args.p _ _ _ _) c.write_run_units.ensures.reply
+
+pub returns-in-RunWriteAttrs-clause-reply : goal.returns-in-RunWriteAttrs-clause-reply
+returns-in-RunWriteAttrs-clause-reply c = is_reply _ _ _ _ _ _ c.in-RunWriteAttrs.is (words_row c.args.self.now.state c.args.p _ _ _ _) c.write_run_words.ensures.reply
+
+pub returns-in-AliasAdd-clause-state : goal.returns-in-AliasAdd-clause-state
+returns-in-AliasAdd-clause-state c = is_after _ _ _ _ _ _ c.in-AliasAdd.is (add_row c.args.self.now.state c.args.p _ _ _) c.add_alias_in.ensures.state
+
+pub returns-in-AliasAdd-clause-reply : goal.returns-in-AliasAdd-clause-reply
+returns-in-AliasAdd-clause-reply c = is_reply _ _ _ _ _ _ c.in-AliasAdd.is (add_row c.args.self.now.state c.args.p _ _ _) c.add_alias_in.ensures.reply
+
+pub returns-in-AliasRemove-clause-state : goal.returns-in-AliasRemove-clause-state
+returns-in-AliasRemove-clause-state c = is_after _ _ _ _ _ _ c.in-AliasRemove.is (remove_row c.args.self.now.state c.args.p _ _) c.remove_alias.ensures.state
+
+pub returns-in-AliasRemove-clause-reply : goal.returns-in-AliasRemove-clause-reply
+returns-in-AliasRemove-clause-reply c = is_reply _ _ _ _ _ _ c.in-AliasRemove.is (remove_row c.args.self.now.state c.args.p _ _) c.remove_alias.ensures.reply
