@@ -1,5 +1,5 @@
 -- A call that tells something leaves the console as it was.
-use Rattle.std.proofs.Common.{◌≡◌, ℕ, Bool, true, false, List, ℤ, Option, Some, None, Result, Ok, Err, refl, sym, ap, ◌∙◌}
+use Rattle.std.proofs.Common.{◌≡◌, ℕ, Bool, true, false, List, Option, Some, None, Result, Ok, Err, refl, sym, ap, ◌∙◌}
 use Rattle.std.specs.Prelude.{if◌then◌else◌, pos, length, map, min}
 use Rattle.con_units.specs.declared.code.Code.{Code}
 use Rattle.con_units.specs.declared.code.Code.TheVariants as code
@@ -19,7 +19,7 @@ use Rattle.con_machine.specs.State.{State}
 use Rattle.con_machine.specs.Outcome.{Outcome, refused, answered, while_open, guard, with_object, buffer_of}
 use Rattle.con_machine.specs.Call.{called}
 use Rattle.con_machine.specs.ScreenCalls.{mode_in, numbers_of, cursor_numbers, page_of, set_size}
-use Rattle.con_machine.specs.CellCalls.{cells_of, rect_told, run_told, at_place, wrote_rect, wrote_run_units, wrote_run_words}
+use Rattle.con_machine.specs.CellCalls.{cells_of, rect_told, run_told, at_place, wrote_rect}
 use Rattle.con_machine.specs.InputCalls.{peek_told}
 use Rattle.con_machine.specs.LineCalls.{info_numbers, pair_of, told_alias_in, added_alias, removed_alias}
 
@@ -92,14 +92,6 @@ size_row s p handle w h = refl
 pub rect_row : (s : State) (p h : ℕ) (r : Rect) (us : List ℕ) (ws : Words) → called s p (calls.RectWrite h r us ws) ≡ wrote_rect s p h r us ws
 unfolding called
 rect_row s p h r us ws = refl
-
-pub units_row : (s : State) (p h : ℕ) (x y : ℤ) (us : List ℕ) → called s p (calls.RunWriteUnits h x y us) ≡ wrote_run_units s p h x y us
-unfolding called
-units_row s p h x y us = refl
-
-pub words_row : (s : State) (p h : ℕ) (x y : ℤ) (ws : List ℕ) → called s p (calls.RunWriteAttrs h x y ws) ≡ wrote_run_words s p h x y ws
-unfolding called
-words_row s p h x y ws = refl
 
 pub add_row : (s : State) (p : ℕ) (program source target : List ℕ) → called s p (calls.AliasAdd program source target) ≡ added_alias s program source target
 unfolding called

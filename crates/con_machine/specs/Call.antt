@@ -16,7 +16,7 @@ use Rattle.con_procs.specs.Procs.{ids_of, program_of, ignoring, handler_added, h
 use Rattle.con_procs.specs.Procs.{add_answer as handler_add_answer, remove_answer as handler_remove_answer}
 use Rattle.con_rects.specs.Area.{used_rect, used_size}
 use Rattle.con_rects.specs.Rules.{rect_cells, rect_written}
-use Rattle.con_rects.specs.Runs.{run_count, units_written, words_written, unit_filled, word_filled}
+use Rattle.con_rects.specs.Runs.{run_count, unit_filled, word_filled}
 use Rattle.con_rects.specs.Scroll.{scrolled}
 use Rattle.con_page.specs.Fit.{refitted}
 use Rattle.con_page.specs.Setters.{info_of, cursor_set, origin_set, pen_of_word}
@@ -27,7 +27,7 @@ use Rattle.con_machine.specs.State.{State, is_rest_of, id_of}
 use Rattle.con_machine.specs.Outcome.{Outcome, refused, answered, done, or_refused, by_answer, checked, while_open, guard, on_input, on_buffer, are_rights}
 use Rattle.con_machine.specs.HandleCalls.{of_output, opened, buffer_made}
 use Rattle.con_machine.specs.ScreenCalls.{page_of, with_page, mode_in, mode_changed, reported}
-use Rattle.con_machine.specs.CellCalls.{cells_of, with_cells, cells_for, are_cells, at_place, run_told, run_answer}
+use Rattle.con_machine.specs.CellCalls.{cells_of, with_cells, cells_for, are_cells, at_place, run_told, wrote_run_units, wrote_run_words}
 use Rattle.con_machine.specs.ProcessCalls.{is_no_signal}
 use Rattle.con_machine.specs.Signals.{signalled_to}
 use Rattle.con_events.specs.declared.call.Call.{Call}
@@ -84,10 +84,8 @@ called s p (calls.RectWrite h r units ws) = on_buffer s p h 2 (λ id. let g = ce
     else refused s code.BadArgument)
 called s p (calls.RunReadUnits h x y n) = on_buffer s p h 1 (λ id. answered s (run_told (cells_of s id) (at_place x y) n (λ g. g.unit)))
 called s p (calls.RunReadAttrs h x y n) = on_buffer s p h 1 (λ id. answered s (run_told (cells_of s id) (at_place x y) n (λ g. g.attr.word)))
-called s p (calls.RunWriteUnits h x y units) = on_buffer s p h 2 (λ id. let g = cells_of s id in or_refused s (run_answer g (at_place x y) (length units))
-    (λ n. answered (with_cells s id (units_written g (at_place x y) units)) (replies.Number n)))
-called s p (calls.RunWriteAttrs h x y ws) = on_buffer s p h 2 (λ id. let g = cells_of s id in or_refused s (run_answer g (at_place x y) (length ws))
-    (λ n. answered (with_cells s id (words_written g (at_place x y) ws)) (replies.Number n)))
+called s p (calls.RunWriteUnits h x y units) = wrote_run_units s p h x y units
+called s p (calls.RunWriteAttrs h x y ws) = wrote_run_words s p h x y ws
 called s p (calls.FillUnits h x y n unit) = on_buffer s p h 2 (λ id. let g = cells_of s id in
     answered (with_cells s id (unit_filled g (at_place x y) n unit)) (replies.Number (run_count g (at_place x y) n)))
 called s p (calls.FillAttrs h x y n word) = on_buffer s p h 2 (λ id. let g = cells_of s id in

@@ -18,7 +18,7 @@ use Rattle.con_rects.specs.Runs.{run_count, run_cells, units_written, words_writ
 use Rattle.con_rects.specs.Scroll.{scrolled}
 use Rattle.con_screens.specs.Buffers.{Buffers}
 use Rattle.con_machine.specs.State.{State}
-use Rattle.con_machine.specs.Outcome.{Outcome, refused, answered, done, by_result, on_buffer}
+use Rattle.con_machine.specs.Outcome.{Outcome, refused, answered, done, or_refused, by_result, on_buffer}
 use Rattle.con_machine.specs.ScreenCalls.{page_at, page_left, page_of, with_page}
 
 -- the cells that a buffer shows
@@ -55,6 +55,14 @@ run_told g at n part = if nat_lt most_items (run_count g at n) then replies.Fail
 
 abbrev pub run_answer : Picture → Coord → ℕ → Result ℕ Code
 run_answer g at n = if nat_lt most_items (run_count g at n) then Err code.Limit else Ok (run_count g at n)
+
+abbrev pub wrote_run_units : State → ℕ → ℕ → ℤ → ℤ → List ℕ → Outcome
+wrote_run_units s p h x y units = on_buffer s p h 2 (λ id. let g = cells_of s id in or_refused s (run_answer g (at_place x y) (length units))
+    (λ n. answered (with_cells s id (units_written g (at_place x y) units)) (replies.Number n)))
+
+abbrev pub wrote_run_words : State → ℕ → ℕ → ℤ → ℤ → List ℕ → Outcome
+wrote_run_words s p h x y ws = on_buffer s p h 2 (λ id. let g = cells_of s id in or_refused s (run_answer g (at_place x y) (length ws))
+    (λ n. answered (with_cells s id (words_written g (at_place x y) ws)) (replies.Number n)))
 
 -- ---- the words of the code and of laws
 
@@ -108,15 +116,6 @@ read_run_units s p h x y n = on_buffer s p h 1 (λ id. answered s (run_told (cel
 
 abbrev pub read_run_words : State → ℕ → ℕ → ℤ → ℤ → ℕ → Outcome
 read_run_words s p h x y n = on_buffer s p h 1 (λ id. answered s (run_told (cells_of s id) (at_place x y) n (λ g. g.attr.word)))
-
-abbrev pub wrote_run_units : State → ℕ → ℕ → ℤ → ℤ → List ℕ → Outcome
-wrote_run_units s p h x y units = on_buffer s p h 2 (λ id.
-    by_result s (run_answer (cells_of s id) (at_place x y) (length units))
-    (with_cells s id (units_written (cells_of s id) (at_place x y) units)) replies.Number)
-
-abbrev pub wrote_run_words : State → ℕ → ℕ → ℤ → ℤ → List ℕ → Outcome
-wrote_run_words s p h x y ws = on_buffer s p h 2 (λ id.
-    by_result s (run_answer (cells_of s id) (at_place x y) (length ws)) (with_cells s id (words_written (cells_of s id) (at_place x y) ws)) replies.Number)
 
 abbrev pub filled_units : State → ℕ → ℕ → ℤ → ℤ → ℕ → ℕ → Outcome
 filled_units s p h x y n unit = on_buffer s p h 2 (λ id.

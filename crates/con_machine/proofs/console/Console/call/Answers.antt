@@ -1,6 +1,6 @@
 -- A call that tells something leaves the console as it was.
 use Rattle.std.proofs.Common.{ap}
-use Rattle.con_machine.proofs.Tellings.{is_telling, told_same, is_after, is_reply, size_row, rect_row, units_row, words_row, add_row, remove_row}
+use Rattle.con_machine.proofs.Tellings.{is_telling, told_same, is_after, is_reply, size_row, rect_row, add_row, remove_row}
 use Rattle.con_machine.proofs.console.Console.call.Goals as goal
 
 pub returns-in-Mode-clause-state : goal.returns-in-Mode-clause-state
@@ -56,12 +56,6 @@ returns-in-RectWrite-clause-state c = is_after _ _ _ _ _ _ c.in-RectWrite.is (re
 
 pub returns-in-RectWrite-clause-reply : goal.returns-in-RectWrite-clause-reply
 returns-in-RectWrite-clause-reply c = is_reply _ _ _ _ _ _ c.in-RectWrite.is (rect_row c.args.self.now.state c.args.p _ _ _ _) c.write_rect_in.ensures.reply
-
-pub returns-in-RunWriteUnits-clause-reply : goal.returns-in-RunWriteUnits-clause-reply
-returns-in-RunWriteUnits-clause-reply c = is_reply _ _ _ _ _ _ c.in-RunWriteUnits.is (units_row c.args.self.now.state c.args.p _ _ _ _) c.write_run_units.ensures.reply
-
-pub returns-in-RunWriteAttrs-clause-reply : goal.returns-in-RunWriteAttrs-clause-reply
-returns-in-RunWriteAttrs-clause-reply c = is_reply _ _ _ _ _ _ c.in-RunWriteAttrs.is (words_row c.args.self.now.state c.args.p _ _ _ _) c.write_run_words.ensures.reply
 
 pub returns-in-AliasAdd-clause-state : goal.returns-in-AliasAdd-clause-state
 returns-in-AliasAdd-clause-state c = is_after _ _ _ _ _ _ c.in-AliasAdd.is (add_row c.args.self.now.state c.args.p _ _ _) c.add_alias_in.ensures.state
