@@ -36,7 +36,7 @@ use Rattle.con_events.specs.declared.reply.Reply.TheVariants as replies
 
 unfoldable pub called : State → ℕ → Call → Outcome
 -- ---- handles: CreateConsoleScreenBuffer; CreateFile of CONOUT$, the active buffer, and of CONIN$; CloseHandle, after which nothing is left for its reads;
--- DuplicateHandle, where rights that the handle lacks are denied, and other rights than 1 to 3 are none; SetConsoleActiveScreenBuffer
+-- DuplicateHandle, where rights that the handle lacks are denied, and rights other than 1 to 3 are refused; SetConsoleActiveScreenBuffer
 called s p (calls.BufferCreate rights) = while_open s (
     if are_rights rights then buffer_made s p rights (new_number s.handles p) (free_id s.buffers) else refused s code.BadArgument)
 called s p (calls.OpenOut rights) = while_open s (opened s p (object.Output (id_of s.buffers.active)) rights)

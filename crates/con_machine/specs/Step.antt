@@ -53,7 +53,7 @@ step s actor e = if is_outside s actor e then refused s code.BadHandle else fini
 
 -- ---- ready
 
--- what comes from the terminal's side waits until what was asked for is painted, but that it went away
+-- all that comes from the terminal's side, but a Hangup, waits until what was asked for is painted
 unfoldable pub is_due : State → ℕ → Event → Bool
 is_due s p events.Collect = has_done s.reads p
 is_due s p events.TakeCtrl = is_some (first_pending s.procs p)
