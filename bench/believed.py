@@ -110,6 +110,8 @@ class Reading:
     def reach(self, crate: str, module: str, name: str):
         file = self.file(crate, module)
         if file is None:
+            if (self.top / "crates" / crate).is_dir() and "declared" not in module:
+                sys.exit(f"{crate} has no {module}, from which {name} is imported")
             return
         if name not in file.definitions and name in file.imports:
             # what a file hands on stands in another one

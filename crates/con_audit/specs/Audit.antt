@@ -77,7 +77,7 @@ FirstFails (v ∷ vs) w g frames h = ((v ≡ w) × ¬ (Holds v g frames h)) ⊎ 
 
 -- ---- the verdict
 
--- a no names the first place before which the entries pass, and what fails with the next one, or behind all
+-- a no names a place before which the entries pass, and the first part that fails with the entry there, or `Whole` behind all of them
 abbrev pub IsVerdict : Given → List Frame → Verdict → Type 0
 IsVerdict g frames verdicts.Yes = Passes g frames g.entries × Holds what.Whole g frames g.entries
 IsVerdict g frames (verdicts.No k w) = Passes g frames (take k g.entries) ×
