@@ -22,11 +22,11 @@ use Rattle.con_readers.specs.declared.answer.Answer.{Answer}
 use Rattle.con_readers.specs.declared.answer.Answer.TheVariants as answers
 use Rattle.con_rects.specs.Rules.{rect_cells}
 use Rattle.con_machine.specs.State.{State, noted_of, without_noted}
-use Rattle.con_machine.specs.Outcome.{Outcome, refused, by_answer, by_result, while_open, with_object, guard, are_rights}
+use Rattle.con_machine.specs.Outcome.{Outcome, buffer_of, refused, by_answer, by_result, while_open, with_object, guard, are_rights}
 use Rattle.con_machine.specs.Call.{called}
 use Rattle.con_machine.specs.HandleCalls.{opened, opened_at, buffer_made}
 use Rattle.con_machine.specs.ScreenCalls.{mode_changed}
-use Rattle.con_machine.specs.CellCalls.{is_over, used_in, used_of, rect_told, sides_of}
+use Rattle.con_machine.specs.CellCalls.{cells_of, is_over, used_in, used_of, rect_told, sides_of}
 use Rattle.con_machine.specs.LineCalls.{told_alias_in}
 use Rattle.con_machine.specs.ProcessCalls.{on_place}
 use Rattle.con_machine.specs.Reads.{began, collected, took_ctrl, answer_told, units_told}
@@ -114,7 +114,7 @@ answers_call s p (calls.SetAttr h word) = if_object s _ _ (λ o. is_done)
 answers_call s p calls.Title = if_open s _ (has_units s.title)
 answers_call s p (calls.SetTitle text) = if_open s _ (either (nat_le (length text) 255) _ _ is_done (refuses form.Nothing code.BadArgument))
 answers_call s p (calls.Write h text) = if_object s _ _ (λ o. either (nat_lt 16384 (length text)) _ _ (refuses form.Number code.Limit) (has_number (length text)))
-answers_call s p (calls.RectRead h rect) = if_object s _ _ (λ o. reads_rect _ rect)
+answers_call s p (calls.RectRead h rect) = if_object s (guard s p h kind.Output 1) _ (λ o. reads_rect (cells_of s (buffer_of o)) rect)
 answers_call s p (calls.RectWrite h rect text words) = if_object s (guard s p h kind.Output 2) _ (λ o. either _ _ _ (if_result s _ _ _ (λ used. has_sides (sides_of used) refl)) (refuses form.Sides code.BadArgument))
 answers_call s p (calls.RunReadUnits h x y n) = if_object s (guard s p h kind.Output 1) _ (λ o. either_reply _ _ _ (refuses form.Units code.Limit) (has_units _))
 answers_call s p (calls.RunReadAttrs h x y n) = if_object s (guard s p h kind.Output 1) _ (λ o. either_reply _ _ _ (refuses form.Units code.Limit) (has_units _))

@@ -63,8 +63,8 @@ off_same b = search either depth 14
 
 turned_same : (b : Buffer) (o : Option Bool) → unstamped_buffer (turned b o) ≡ turned (unstamped_buffer b) o
 turned_same b None = refl
-turned_same b (Some on) = either on (alternate_on b) (alternate_off b) (alternate_on (unstamped_buffer b)) (alternate_off (unstamped_buffer b)) (on_same b)
-    (off_same b)
+turned_same b (Some true) = on_same b
+turned_same b (Some false) = off_same b
 
 abbrev unstamped_both : BufferStage → BufferStage
 unstamped_both s = record s { buffer = unstamped_buffer s.buffer }
