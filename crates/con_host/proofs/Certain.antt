@@ -53,8 +53,7 @@ within : (a : Result Frame LinkFault) (place : ℕ) (text : List ℕ) (left : Op
 within (Ok f) place text left s a = let few = a.3 in omega (arith, few)
 within (Err (faults.Bad at kind)) place text left s a = let few = a.2 in omega (arith, few)
 within (Err faults.TooLong) place text left s a =
-    let last = a.1 in
-    let size : length text ≡ length last.0 + 1 = ap length last.2 ∙ length-append last.0 (last.1 ∷ []) in
+    let size : length text ≡ length a.1 + 1 = ap length a.3 ∙ length-append a.1 (a.2 ∷ []) in
     let most = a.0 in omega (arith, most, size)
 within (Err faults.Failed) place text left s a = absurd s
 within (Err faults.OutOfMemory) place text left s a = absurd s
@@ -81,8 +80,7 @@ mirror_within : (a : Result MirrorFrame LinkFault) (place : ℕ) (text : List �
 mirror_within (Ok f) place text left s a = let few = a.3 in omega (arith, few)
 mirror_within (Err (faults.Bad at kind)) place text left s a = let few = a.2 in omega (arith, few)
 mirror_within (Err faults.TooLong) place text left s a =
-    let last = a.1 in
-    let size : length text ≡ length last.0 + 1 = ap length last.2 ∙ length-append last.0 (last.1 ∷ []) in
+    let size : length text ≡ length a.1 + 1 = ap length a.3 ∙ length-append a.1 (a.2 ∷ []) in
     let most = a.0 in omega (arith, most, size)
 mirror_within (Err faults.Failed) place text left s a = absurd s
 mirror_within (Err faults.OutOfMemory) place text left s a = absurd s
