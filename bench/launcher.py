@@ -3,8 +3,8 @@
 
     launcher.py [WORD..]
 
-The made-up `rt` proves nothing: it takes a moment for each crate, notes what it was asked, and makes a script for the program. So this tells in
-a minute in which order crates are proved, what is proved again and what is not, and how calls end. With words it tries those whose names have
+The made-up `rt` proves nothing: it takes a moment for each crate, notes what it was given, and makes a script for the program. So this tells in
+a minute which crates are proved, what is proved again and what is not, and how calls end. With words it tries those whose names have
 one of them. It prints a line for each, and ends with 1 where one was otherwise than it has to be."""
 import json
 import os
@@ -19,74 +19,82 @@ import time
 
 TOP = pathlib.Path(__file__).resolve().parent.parent
 RT = r'''
-import hashlib, json, os, re, subprocess, sys, time
-here, top = os.getcwd(), os.path.dirname(os.path.dirname(os.getcwd()))
-name, verb, words = os.path.basename(here), sys.argv[1], sys.argv[2:]
-lines = [it.partition("#")[0].partition(":") for it in open(f"{top}/crates.txt")]
-uses = {it.split()[0]: rest.split() for it, colon, rest in lines if colon}
-for it in uses:
-    if not os.path.isdir(f"{top}/crates/{it}/src"):
-        sys.exit(f"rt: {top}/crates.txt: {it}: there is no folder {top}/crates/{it}/src")
-def note(what, of=name):
+import hashlib, json, os, subprocess, sys
+here, verb, words = os.getcwd(), sys.argv[1], sys.argv[2:]
+def note(what, of):
     with open(os.environ["NOTES"], "a") as it:
-        it.write(json.dumps([what, of, os.getpid(), sys.argv[1:]]) + "\n")
-def below(crate):
-    found = []
-    for it in uses[crate]:
-        if it in uses:
-            found += [more for more in [*below(it), it] if more not in found]
-    return found
-def stamp(crate):
-    sum = hashlib.sha256()
-    for at, _, files in sorted(os.walk(f"{top}/crates/{crate}/src")):
-        for it in sorted(files):
-            sum.update(open(f"{at}/{it}", "rb").read())
-    sum.update(repr([stamp(it) for it in uses[crate] if it in uses]).encode())
-    return sum.hexdigest()
-def kept(crate):
-    try:
-        return open(f"{top}/crates/{crate}/out/rlib/stamp").read() == stamp(crate)
-    except OSError:
-        return False
-def prove(crate):
-    if kept(crate):
-        return note("kept", crate)
-    note("begun", crate)
+        it.write(json.dumps([what, of, os.getpid(), here]) + "\n")
+def wait():
     subprocess.run(["sleep", os.environ.get("TAKES", "0.01")])
-    print(f"crate {crate}: modules loaded=1 checked=1", flush=True)
-    if crate == os.environ.get("FAILS"):
-        for number in range(40):
-            print(f"line {number} of {crate}", file=sys.stderr)
-        sys.exit(3)
-    os.makedirs(f"{top}/crates/{crate}/out/rlib", exist_ok=True)
-    with open(f"{top}/crates/{crate}/out/rlib/stamp", "w") as it:
-        it.write(stamp(crate))
-    note("proved", crate)
 if verb == "try":
     at = words.index("--")
-    note("tried")
+    note("tried", os.path.basename(here))
     os.chdir("/")
     sys.stdout.buffer.write(bytes(range(256)) + b"|" + sys.stdin.buffer.read() + b"|" + b" ".join(os.fsencode(it) for it in words[at + 1 :]))
     sys.stdout.flush()
-    subprocess.run(["sleep", os.environ.get("TAKES", "0.01")])
+    wait()
     print('["t","quiet",[],["ok"]]\nchecked: by nobody\n["end",8,1,"none"]', file=sys.stderr)
     if os.environ.get("FAILS") == "try":
         print("checked: fault index\nrun=fault proved=no", file=sys.stderr)
         sys.exit(4)
     print("checked: ended status=8\nraces: not looked for\nrun=ended status=8 runners=1 proved=no", file=sys.stderr)
     sys.exit(8)
+if [verb, *words] != ["ci"]:
+    sys.exit(f"rt: {verb}?")
+if not os.path.isdir(".git"):
+    sys.exit("rt: this is not the top of a repository")
+lines = [it.partition("#")[0].partition(":") for it in open("crates.txt")]
+uses = {it.split()[0]: rest.split() for it, colon, rest in lines if colon}
+for it in uses:
+    if not os.path.isdir(f"crates/{it}/src"):
+        sys.exit(f"rt: crates.txt: {it}: there is no folder crates/{it}/src")
+    if os.path.exists(f"crates/{it}/must-fail"):
+        sys.exit(f"rt: {it} has wrong bodies to try")
+def stamp(crate):
+    sum = hashlib.sha256()
+    for at, _, files in sorted(os.walk(f"crates/{crate}/src")):
+        for it in sorted(files):
+            sum.update(it.encode() + open(f"{at}/{it}", "rb").read())
+    sum.update(repr([stamp(it) for it in uses[crate] if it in uses]).encode())
+    return sum.hexdigest()
+def say(text):
+    print(text, flush=True)
+def prove(crate):
+    kept = os.path.join(os.environ["KEPT"], stamp(crate))
+    if os.path.exists(kept):
+        note("kept", crate)
+        return say(f"rt: {crate} is kept: an earlier run on this machine proved the same files over the same libraries")
+    note("begun", crate)
+    wait()
+    say(f"== {crate}\ncrate {crate}: modules loaded=1 checked=1")
+    if crate == os.environ.get("FAILS"):
+        for number in range(40):
+            say(f"line {number} of {crate}")
+        say(f"rt: {crate} NOT PROVED")
+        lost.add(crate)
+        return
+    open(kept, "w").close()
+    note("proved", crate)
+    say(f"rt: {crate} proved")
+done, lost = [], set()
 if os.environ.get("WAITS"):
-    print("rt: waiting for another rt to finish in there", file=sys.stderr, flush=True)
-for it in below(name):
-    if not kept(it):
-        note("late", it)
-        prove(it)
-prove(name)
-if verb == "run":
-    with open(f"{here}/out/conpty", "w") as it:
-        it.write('#!/bin/sh\nprintf "%s." "$@"\ncat\necho report >&2\nexit 5\n')
-    os.chmod(f"{here}/out/conpty", 0o755)
-    sys.exit(subprocess.run([f"{here}/out/conpty", *words[words.index("--") + 1 :]]).returncode and 0)
+    say("rt: con_units: another run on this machine is proving the same; waiting for it")
+while len(done) < len(uses):
+    for it in uses:
+        if it not in done and all(below in done for below in uses[it] if below in uses):
+            done.append(it)
+            if lost.intersection(uses[it]):
+                say(f"rt: {it} NOT PROVED: its library failed")
+                lost.add(it)
+            else:
+                prove(it)
+if lost:
+    say("rt: FAILED: " + " ".join(sorted(lost)))
+    sys.exit(1)
+os.makedirs("crates/conpty/out")
+with open("crates/conpty/out/conpty", "w") as it:
+    it.write('#!/bin/sh\nprintf "%s." "$@"\ncat\necho report >&2\nexit 5\n')
+os.chmod("crates/conpty/out/conpty", 0o755)
 '''
 
 
@@ -108,8 +116,10 @@ class Copy:
         for crate in self.uses:
             (self.top / "crates" / crate / "src").mkdir(parents=True)
             (self.top / "crates" / crate / "src/lib.rt").write_text(f"// {crate}\n")
+            (self.top / "crates" / crate / "must-fail").mkdir()
         self.notes, self.script = self.room / "notes", self.top / "conpty"
-        self.env = {**os.environ, "PATH": f"{self.room}/bin:{os.environ['PATH']}", "NOTES": str(self.notes)}
+        (self.room / "kept").mkdir()
+        self.env = {**os.environ, "PATH": f"{self.room}/bin:{os.environ['PATH']}", "NOTES": str(self.notes), "KEPT": str(self.room / "kept")}
 
     def begin(self, *words, given=subprocess.DEVNULL, folder=None, script=None, **env):
         how = {"stdin": given, "stdout": subprocess.PIPE, "stderr": subprocess.PIPE, "start_new_session": True, "cwd": folder}
@@ -167,21 +177,16 @@ def same(one, other):
 
 
 def order(copy):
-    """Each crate that the program stands on is proved once, behind those that it uses, and no other; the program comes last; a line tells of each."""
+    """rt proves the crates that the program stands on, and no other, in a copy that goes with the call; a line tells of each as it is done."""
     status, out, err = copy.call("type", text=b"text")
     same((status, out), (5, b"type.text"))
     proved = copy.noted("proved")
-    same(sorted(proved), sorted(copy.below()))
-    for at, crate in enumerate(proved):
-        assert all(it in proved[:at] for it in copy.uses[crate] if it in copy.uses), f"{crate} came before what it uses"
-    same((proved[-1], copy.noted("late")), ("conpty", []))
+    same((sorted(proved), proved[-1]), (sorted(copy.below()), "conpty"))
     count = len(proved)
     lines = re.findall(r"(?m)^conpty: (\w+): (\d+) of (\d+) crates are done, (\d+) are left, after 0 min \d\d s$", err)
-    same(sorted(crate for crate, _, _, _ in lines), sorted(proved))
-    for at, (crate, done, of, left) in enumerate(lines):
-        same((int(done) + int(left), int(of)), (count, count))
-        assert len(copy.below(crate)) - 1 <= int(done) <= at, f"{crate} begins when {done} are done"
-    same(err.splitlines()[-1], "report")
+    same([crate for crate, _, _, _ in lines], proved)
+    same([tuple(map(int, it[1:])) for it in lines], [(at + 1, count, count - at - 1) for at in range(count)])
+    same((err.splitlines()[-1], os.listdir(copy.top / "out")), ("report", ["conpty"]))
 
 
 def later_calls(copy):
@@ -190,17 +195,6 @@ def later_calls(copy):
     copy.forget()
     same(copy.call("a b", "", "*", text=b"\0\377"), (5, b"a b..*.\0\377", "report\n"))
     same(copy.notes.exists(), False)
-
-
-def side_by_side(copy):
-    """Crates that do not stand on one another are proved at the same time, where there are processors for it."""
-    copy.call("type", TAKES="0.2")
-    spans = [(what, crate) for what, crate, _, _ in map(json.loads, copy.notes.read_text().splitlines()) if what in ("begun", "proved")]
-    most = at_work = 0
-    for what, _ in spans:
-        at_work += 1 if what == "begun" else -1
-        most = max(most, at_work)
-    assert 1 < most <= len(os.sched_getaffinity(0)) or len(os.sched_getaffinity(0)) == 1, f"at most {most} at a time"
 
 
 def resumption(copy):
@@ -215,20 +209,19 @@ def resumption(copy):
 
 
 def failure(copy):
-    """A crate that is not proved ends the call with 70 and the crate's last lines; nothing above it is begun, and no program is left."""
-    status, out, err = copy.call("type", FAILS="con_screen")
+    """A crate that is not proved ends the call at once, with 70 and the crate's last lines; no program is left."""
+    status, out, err = copy.call("type", FAILS="con_screen", TAKES="0.1")
     same((status, out), (70, b""))
     lines = err.splitlines()
-    same(lines[-21:], [f"line {number} of con_screen" for number in range(20, 40)] + ["conpty: the program could not be built"])
-    assert any(it.startswith("conpty: con_screen: ") for it in lines), lines
-    same([it for it in copy.noted("begun") if "con_screen" in copy.below(it)], ["con_screen"])
-    same(os.listdir(copy.top / "out"), [])
+    same(lines[-21:], [f"line {number} of con_screen" for number in range(21, 40)] + ["rt: con_screen NOT PROVED", "conpty: the program could not be built"])
+    time.sleep(0.3)
+    same((copy.children(), os.listdir(copy.top / "out"), "con_host" in copy.noted("begun")), ([], [], False))
 
 
 def failure_of_the_program(copy):
     """The same where the program's own crate is not proved."""
     status, out, err = copy.call("type", FAILS="conpty")
-    same((status, out, err.splitlines()[-2:]), (70, b"", ["line 39 of conpty", "conpty: the program could not be built"]))
+    same((status, out, err.splitlines()[-3:]), (70, b"", ["line 39 of conpty", "rt: conpty NOT PROVED", "conpty: the program could not be built"]))
 
 
 def no_rt(copy):
@@ -271,7 +264,7 @@ def two_calls(copy):
 def other_rt(copy):
     """That rt waits for another rt is told."""
     _, _, err = copy.call("type", WAITS="1")
-    assert "conpty: rt: waiting for another rt to finish in there" in err, err
+    assert "conpty: rt: con_units: another run on this machine is proving the same; waiting for it" in err, err
 
 
 def spaces(copy):
@@ -294,13 +287,13 @@ def edits(copy):
     """An edit builds the program anew: what was edited, and what stands on it; one beside the program's crates does not."""
     copy.call("type")
     copy.forget()
-    for path, text in (("README.md", "x"), ("crates/tests_book/src/lib.rt", "// x\n"), ("crates/con_term/must-fail.edit", "x")):
+    for path, text in (("README.md", "x"), ("crates/tests_book/src/lib.rt", "// x\n"), ("crates/con_term/must-fail/one.edit", "x")):
         (copy.top / path).write_text(text)
     same((copy.call("type")[0], copy.notes.exists()), (5, False))
     (copy.top / "crates/con_link/src/lib.rt").write_text("// another\n")
     same(copy.call("type")[0], 5)
     above = {it for it in copy.below() if "con_link" in copy.below(it)}
-    same((set(copy.noted("proved")), copy.noted("late")), (above, []))
+    same(set(copy.noted("proved")), above)
     copy.forget()
     (copy.top / "crates/con_host/src/more.rt").write_text("// a new file\n")
     same(copy.call("type")[0], 5)
@@ -308,7 +301,7 @@ def edits(copy):
     copy.forget()
     (copy.top / "crates/con_host/src/more.rt").unlink()
     same(copy.call("type")[0], 5)
-    same(copy.noted("proved"), ["con_host", "conpty"])
+    same((copy.noted("proved"), "con_host" in copy.noted("kept")), ([], True))
     copy.forget()
     # An older file in its place, with an older time.
     shutil.copy2(TOP / "crates.txt", copy.room / "older")
@@ -326,7 +319,7 @@ def edit_meanwhile(copy):
     ran.communicate(timeout=120)
     copy.forget()
     same(copy.call("type")[0], 5)
-    assert (copy.top / "crates/con_units/out/rlib/stamp").exists()
+    assert "con_units" in copy.noted("proved")
     copy.forget()
     same((copy.call("type")[0], copy.notes.exists()), (5, False))
 
@@ -369,7 +362,7 @@ def usage(copy):
 
 
 def main():
-    tries = [order, later_calls, side_by_side, resumption, failure, failure_of_the_program, no_rt, signals, two_calls, other_rt, spaces, links, edits, edit_meanwhile]
+    tries = [order, later_calls, resumption, failure, failure_of_the_program, no_rt, signals, two_calls, other_rt, spaces, links, edits, edit_meanwhile]
     tries += [unproved, unproved_without_end, usage]
     failed = 0
     for one in tries:

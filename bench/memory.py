@@ -186,7 +186,7 @@ def session(shim, way, name):
 def main():
     way = sys.argv[1] if sys.argv[1:] else "console"
     if not os.access(CONSOLE if way == "console" else PROGRAM, os.X_OK):
-        sys.exit("build the program first: cd crates/cases && rt run; ./conpty type </dev/null >/dev/null")
+        sys.exit("build the program first: tools/prove.py cases; ./conpty type </dev/null >/dev/null")
     with tempfile.TemporaryDirectory() as folder:
         shim = os.path.join(folder, "shim.so")
         subprocess.run(["cc", "-shared", "-fPIC", "-O1", "-x", "c", "-", "-o", shim, "-ldl"], input=SHIM, text=True, check=True)

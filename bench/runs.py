@@ -25,7 +25,7 @@ def needs_program():
 def needs_parts():
     """Ends where the bench crate is not built."""
     if not os.access(PARTS, os.X_OK):
-        sys.exit("build what it is measured beside first: cd crates/bench_parts && rt run")
+        sys.exit("build what it is measured beside first: tools/prove.py bench_parts")
 
 
 def painted(report):
