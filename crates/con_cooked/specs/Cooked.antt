@@ -84,20 +84,9 @@ woken_by r = fold (λ before m. if is_masked r.mask m.pressed then typed_unit m.
 abbrev pub after_press : CookedRead → Record → LineHistories → CookedRead
 after_press r one histories = record r { presses = r.presses ++ (let m : Moment = record { pressed = one; lines = lines_of histories r.program } in m) ∷ [] }
 
--- what is drawn again between two lines
-abbrev pub echo_between : LineText → LineText → Echo
-echo_between old new =
-    record { offset = first_difference old.units new.units; end = length new.units; blanks = length old.units - length new.units; caret = new.caret }
-
 abbrev pub is_return : LineKey → Bool
 is_return key.Return = true
 is_return _ = false
-
--- what a press answers: a masked key ends the read and shows nothing, and return ends it with its line
-abbrev pub progress_of : CookedRead → Record → LineHistories → Progress
-progress_of r one histories =
-    let echo : Echo = echo_between (line_of r).line (line_of (after_press r one histories)).line in
-    if is_masked r.mask one then progress.Woken else if is_return (key_of one) then progress.Done echo else progress.Going echo
 
 -- what a read gives: where a control woke it, the units before the caret, the control, and the units from the caret on;
 -- else the lines that its text stands for: those of its expansion, or itself, each with its end
@@ -109,3 +98,16 @@ answer_of r ls =
 -- the histories after it: a line that a control woke is not added
 abbrev pub histories_after : CookedRead → LineHistories → LineHistories
 histories_after r histories = if woken_by r == 0 then added_to histories r.program (line_of r).line.units else histories
+
+-- The words below are the code's own and those of laws: what one press answers.
+
+-- what is drawn again between two lines
+abbrev pub echo_between : LineText → LineText → Echo
+echo_between old new =
+    record { offset = first_difference old.units new.units; end = length new.units; blanks = length old.units - length new.units; caret = new.caret }
+
+-- what a press answers: a masked key ends the read and shows nothing, and return ends it with its line
+abbrev pub progress_of : CookedRead → Record → LineHistories → Progress
+progress_of r one histories =
+    let echo : Echo = echo_between (line_of r).line (line_of (after_press r one histories)).line in
+    if is_masked r.mask one then progress.Woken else if is_return (key_of one) then progress.Done echo else progress.Going echo

@@ -4,12 +4,13 @@ use Rattle.std.specs.Prelude.{if◌then◌else◌}
 use Rattle.std.specs.List.{list_any}
 use Rattle.std.proofs.lemmas.Bool.{or_parts, eqb-true}
 use Rattle.con_alias.specs.Aliases.{AliasList}
+use Rattle.con_cooked.specs.Cooked.{is_return}
+use Rattle.con_cooked.specs.Keys.{key_of}
+use Rattle.con_cooked.specs.Mask.{is_masked}
 use Rattle.con_cooked.specs.declared.cooked.Cooked.{Cooked}
-use Rattle.con_cooked.specs.declared.progress.Progress.{Progress}
-use Rattle.con_cooked.specs.declared.progress.Progress.TheVariants as progress
 use Rattle.con_history.specs.Histories.{LineHistories}
 use Rattle.con_readers.specs.Act.{Act}
-use Rattle.con_readers.specs.Lines.{line_after, line_progress}
+use Rattle.con_readers.specs.Lines.{line_after}
 use Rattle.con_readers.specs.Pieces.{front}
 use Rattle.con_readers.specs.Reads.{settled, first_acts, is_open}
 use Rattle.con_readers.specs.Serving.{Served as Serving, is_done, given_units, served, served_line, served_on}
@@ -39,15 +40,18 @@ any-append p (x ∷ xs) ys = ap (λ (b : Bool). woke_of p x || b) (any-append p 
 
 -- ---- whose steps they are
 
-on_foreign : (p q : ℕ) (al : List AliasList) (line line' : Cooked) (rs : List Record) (hs : LineHistories) (later : Serving) (g : Progress) → (q == p) ≡ false → list_any (woke_of p) later.acts ≡ false → list_any (woke_of p) (served_on q al line line' rs hs later g).acts ≡ false
+on_foreign : (p q : ℕ) (al : List AliasList) (line line' : Cooked) (rs : List Record) (hs : LineHistories) (later : Serving) (masked returned : Bool) → (q == p) ≡ false → list_any (woke_of p) later.acts ≡ false
+    → list_any (woke_of p) (served_on q al line line' rs hs later masked returned).acts ≡ false
 unfolding woke_of
-on_foreign p q al line line' rs hs later (progress.Going echo) other h = h
-on_foreign p q al line line' rs hs later (progress.Done echo) other h = refl
-on_foreign p q al line line' rs hs later progress.Woken other h = ap (λ (b : Bool). b || false) other
+on_foreign p q al line line' rs hs later true returned other h = ap (λ (b : Bool). b || false) other
+on_foreign p q al line line' rs hs later false true other h = refl
+on_foreign p q al line line' rs hs later false false other h = h
 
 line_foreign : (p q : ℕ) (al : List AliasList) (line : Cooked) (rs : List Record) (hs : LineHistories) → (q == p) ≡ false → list_any (woke_of p) (served_line q al line rs hs).acts ≡ false
 line_foreign p q al line [] hs other = refl
-line_foreign p q al line (r ∷ rs) hs other = on_foreign p q al line (line_after line r hs) rs hs (served_line q al (line_after line r hs) rs hs) (line_progress line r hs) other (line_foreign p q al (line_after line r hs) rs hs other)
+line_foreign p q al line (r ∷ rs) hs other =
+    on_foreign p q al line (line_after line r hs) rs hs (served_line q al (line_after line r hs) rs hs) (is_masked line.mask r) (is_return (key_of r)) other
+    (line_foreign p q al (line_after line r hs) rs hs other)
 
 units_plain : (p q n : ℕ) (rs : List Record) (hs : LineHistories) (us : List ℕ) → list_any (woke_of p) (given_units q n rs hs us).acts ≡ false
 unfolding woke_of

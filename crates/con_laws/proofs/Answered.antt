@@ -6,13 +6,10 @@ use Rattle.std.proofs.lemmas.Bool.{or_parts, eq-eqb}
 use Rattle.std.proofs.lemmas.List.Sums.{fold-append}
 use Rattle.con_units.specs.declared.code.Code.TheVariants as code
 use Rattle.con_alias.specs.Aliases.{AliasList}
-use Rattle.con_cooked.specs.Cooked.{is_return, line_of, echo_between}
+use Rattle.con_cooked.specs.Cooked.{is_return}
 use Rattle.con_cooked.specs.Keys.{key_of}
 use Rattle.con_cooked.specs.Mask.{is_masked}
 use Rattle.con_cooked.specs.declared.cooked.Cooked.{Cooked}
-use Rattle.con_cooked.specs.declared.progress.Echo.{Echo}
-use Rattle.con_cooked.specs.declared.progress.Progress.{Progress}
-use Rattle.con_cooked.specs.declared.progress.Progress.TheVariants as progress
 use Rattle.con_events.specs.declared.actor.Actor.TheVariants as actors
 use Rattle.con_events.specs.declared.entry.Entry.{Entry}
 use Rattle.con_events.specs.declared.event.Event.TheVariants as events
@@ -23,7 +20,7 @@ use Rattle.con_events.specs.declared.reply.Reply.TheVariants as replies
 use Rattle.con_history.specs.Histories.{LineHistories}
 use Rattle.con_procs.specs.Procs.{is_attached, program_of}
 use Rattle.con_readers.specs.Answering.{is_line_end, line_through, EndsLine}
-use Rattle.con_readers.specs.Lines.{line_after, line_progress}
+use Rattle.con_readers.specs.Lines.{line_after}
 use Rattle.con_readers.specs.Pieces.{front, pieces_of, joined}
 use Rattle.con_readers.specs.Reads.{settled, answer_of, done_in, has_done, is_open, place_of, without}
 use Rattle.con_readers.specs.Serving.{Served as Serving, is_done, served, served_line, served_on}
@@ -63,22 +60,6 @@ use Rattle.con_laws.proofs.Texted.{EndsPiece, TextBy, text_is, through_is, goes_
 unfoldable last_masked : ℕ → List Record → Bool
 last_masked mask rs = fold (λ before r. is_masked mask r) false rs
 
-abbrev chosen : Bool → Bool → Echo → Progress
-chosen masked ended e = cond masked progress.Woken (cond ended (progress.Done e) (progress.Going e))
-
-going_masked : (m e : Bool) (d x : Echo) → chosen m e d ≡ progress.Going x → m ≡ false
-going_masked true e d x h = cc
-going_masked false e d x h = refl
-
-done_masked : (m e : Bool) (d x : Echo) → chosen m e d ≡ progress.Done x → m ≡ false
-done_masked true e d x h = cc
-done_masked false e d x h = refl
-
-woken_masked : (m e : Bool) (d : Echo) → chosen m e d ≡ progress.Woken → m ≡ true
-woken_masked true e d h = refl
-woken_masked false true d h = cc
-woken_masked false false d h = cc
-
 Wokes : ℕ → Bool → ℕ → List Record → Serving → Type 0
 Wokes p b mask rs s = list_any (woke_of p) s.acts ≡ (if b then last_masked mask rs else false)
 
@@ -86,23 +67,21 @@ either_same : (b : Bool) (x y : Bool) → x ≡ y → (if b then x else false) �
 either_same true x y h = h
 either_same false x y h = refl
 
-on_wokes : (p : ℕ) (al : List AliasList) (line : Cooked) (r : Record) (rs : List Record) (hs : LineHistories) (later : Serving) (g : Progress) → line_progress line r hs ≡ g → (later.records ≡ [] → Wokes p (is_done later.read) line.mask rs later)
-    → (let s = served_on p al line (line_after line r hs) rs hs later g in s.records ≡ [] → Wokes p (is_done s.read) line.mask (r ∷ rs) s)
+on_wokes : (p : ℕ) (al : List AliasList) (line : Cooked) (r : Record) (rs : List Record) (hs : LineHistories) (later : Serving) (masked returned : Bool) → is_masked line.mask r ≡ masked → (later.records ≡ [] → Wokes p (is_done later.read) line.mask rs later)
+    → (let s = served_on p al line (line_after line r hs) rs hs later masked returned in s.records ≡ [] → Wokes p (is_done s.read) line.mask (r ∷ rs) s)
 unfolding Wokes woke_of last_masked
-on_wokes p al line r rs hs later (progress.Going x) is ih = λ none.
-    let m : is_masked line.mask r ≡ false = going_masked (is_masked line.mask r) (is_return (key_of r)) (echo_between (line_of line).line (line_of (line_after line r hs)).line) x is in
-    ih none ∙ either_same (is_done later.read) (fold (λ before q. is_masked line.mask q) false rs) (fold (λ before q. is_masked line.mask q) (is_masked line.mask r) rs) (ap (λ (b : Bool). fold (λ before q. is_masked line.mask q) b rs) (sym m))
-on_wokes p al line r rs hs later (progress.Done x) is ih = λ none.
-    let m : is_masked line.mask r ≡ false = done_masked (is_masked line.mask r) (is_return (key_of r)) (echo_between (line_of line).line (line_of (line_after line r hs)).line) x is in
-    sym m ∙ ap (λ (qs : List Record). fold (λ before q. is_masked line.mask q) (is_masked line.mask r) qs) (sym none)
-on_wokes p al line r rs hs later progress.Woken is ih = λ none.
-    let m : is_masked line.mask r ≡ true = woken_masked (is_masked line.mask r) (is_return (key_of r)) (echo_between (line_of line).line (line_of (line_after line r hs)).line) is in
+on_wokes p al line r rs hs later true returned m ih = λ none.
     ap (λ (b : Bool). b || false) (eq-eqb p p refl) ∙ sym m ∙ ap (λ (qs : List Record). fold (λ before q. is_masked line.mask q) (is_masked line.mask r) qs) (sym none)
+on_wokes p al line r rs hs later false true m ih = λ none.
+    sym m ∙ ap (λ (qs : List Record). fold (λ before q. is_masked line.mask q) (is_masked line.mask r) qs) (sym none)
+on_wokes p al line r rs hs later false false m ih = λ none.
+    ih none ∙ either_same (is_done later.read) (fold (λ before q. is_masked line.mask q) false rs) (fold (λ before q. is_masked line.mask q) (is_masked line.mask r) rs) (ap (λ (b : Bool). fold (λ before q. is_masked line.mask q) b rs) (sym m))
 
 line_wokes : (p : ℕ) (al : List AliasList) (line : Cooked) (rs : List Record) (hs : LineHistories) → (let s = served_line p al line rs hs in s.records ≡ [] → Wokes p (is_done s.read) line.mask rs s)
 unfolding Wokes
 line_wokes p al line [] hs = λ none. refl
-line_wokes p al line (r ∷ rs) hs = on_wokes p al line r rs hs (served_line p al (line_after line r hs) rs hs) (line_progress line r hs) refl (line_wokes p al (line_after line r hs) rs hs)
+line_wokes p al line (r ∷ rs) hs =
+    on_wokes p al line r rs hs (served_line p al (line_after line r hs) rs hs) (is_masked line.mask r) (is_return (key_of r)) refl (line_wokes p al (line_after line r hs) rs hs)
 
 none_masked : (mask : ℕ) (rs : List Record) → list_any (is_line_end mask) rs ≡ false → last_masked mask rs ≡ false
 unfolding last_masked

@@ -4,9 +4,10 @@ use Rattle.std.specs.Prelude.{if◌then◌else◌}
 use Rattle.std.specs.List.{list_any}
 use Rattle.con_units.specs.declared.code.Code.TheVariants as code
 use Rattle.con_alias.specs.Aliases.{AliasList}
+use Rattle.con_cooked.specs.Cooked.{is_return}
+use Rattle.con_cooked.specs.Keys.{key_of}
+use Rattle.con_cooked.specs.Mask.{is_masked}
 use Rattle.con_cooked.specs.declared.cooked.Cooked.{Cooked}
-use Rattle.con_cooked.specs.declared.progress.Progress.{Progress}
-use Rattle.con_cooked.specs.declared.progress.Progress.TheVariants as progress
 use Rattle.con_events.specs.declared.actor.Actor.TheVariants as actors
 use Rattle.con_events.specs.declared.entry.Entry.{Entry}
 use Rattle.con_events.specs.declared.event.Event.TheVariants as events
@@ -16,7 +17,7 @@ use Rattle.con_events.specs.declared.reply.Reply.{Reply}
 use Rattle.con_events.specs.declared.reply.Reply.TheVariants as replies
 use Rattle.con_history.specs.Histories.{LineHistories}
 use Rattle.con_procs.specs.Procs.{is_attached}
-use Rattle.con_readers.specs.Lines.{line_after, line_progress}
+use Rattle.con_readers.specs.Lines.{line_after}
 use Rattle.con_readers.specs.Pieces.{front}
 use Rattle.con_readers.specs.Reads.{answer_of, has_done, without}
 use Rattle.con_readers.specs.Serving.{Served as Serving, is_done, took_units, served, served_line, served_on}
@@ -52,16 +53,19 @@ is_failed (reads.Records n) = false
 
 -- ---- serving fails no read
 
-on_failed : (p : ℕ) (al : List AliasList) (line line' : Cooked) (rs : List Record) (hs : LineHistories) (later : Serving) (g : Progress) → is_failed later.read ≡ false → is_failed (served_on p al line line' rs hs later g).read ≡ false
+on_failed : (p : ℕ) (al : List AliasList) (line line' : Cooked) (rs : List Record) (hs : LineHistories) (later : Serving) (masked returned : Bool) → is_failed later.read ≡ false
+    → is_failed (served_on p al line line' rs hs later masked returned).read ≡ false
 unfolding is_failed
-on_failed p al line line' rs hs later (progress.Going echo) h = h
-on_failed p al line line' rs hs later (progress.Done echo) h = refl
-on_failed p al line line' rs hs later progress.Woken h = refl
+on_failed p al line line' rs hs later true returned h = refl
+on_failed p al line line' rs hs later false true h = refl
+on_failed p al line line' rs hs later false false h = h
 
 line_failed : (p : ℕ) (al : List AliasList) (line : Cooked) (rs : List Record) (hs : LineHistories) → is_failed (served_line p al line rs hs).read ≡ false
 unfolding is_failed
 line_failed p al line [] hs = refl
-line_failed p al line (r ∷ rs) hs = on_failed p al line (line_after line r hs) rs hs (served_line p al (line_after line r hs) rs hs) (line_progress line r hs) (line_failed p al (line_after line r hs) rs hs)
+line_failed p al line (r ∷ rs) hs =
+    on_failed p al line (line_after line r hs) rs hs (served_line p al (line_after line r hs) rs hs) (is_masked line.mask r) (is_return (key_of r))
+    (line_failed p al (line_after line r hs) rs hs)
 
 units_failed : (p n : ℕ) (rs : List Record) (hs : LineHistories) (us : List ℕ) → is_failed (took_units p n rs hs us).read ≡ false
 unfolding is_failed

@@ -288,7 +288,7 @@ finished_unseen s (Some n) len e none = absurd (cc)
 
 followed_unseen : (s : State) (a : Act) → s.noted ≡ [] → Unseen s (followed s a)
 followed_unseen s (began p) e = record { noted = ap (λ (ns : List Noted). note_changed (started_on s.buffers) ns p) e; buffers = refl }
-followed_unseen s (typed p old new echo) e = shown_unseen s (noted_of s.noted p) old new e (ap (λ (ns : List Noted). noted_of ns p) e)
+followed_unseen s (typed p old new) e = shown_unseen s (noted_of s.noted p) old new e (ap (λ (ns : List Noted). noted_of ns p) e)
 followed_unseen s (passed p) e = unseen s e
 followed_unseen s (ended p read len) e = finished_unseen s (noted_of s.noted p) len e (ap (λ (ns : List Noted). noted_of ns p) e)
 followed_unseen s (woke p line) e = record { noted = ap (λ (ns : List Noted). note_changed (λ n. record n { woken = true }) ns p) e; buffers = refl }

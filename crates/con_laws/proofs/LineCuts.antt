@@ -5,12 +5,13 @@ use Rattle.std.specs.List.{position_or_len}
 use Rattle.std.proofs.lemmas.List.Sums.{fold-append}
 use Rattle.con_units.specs.declared.code.Code.TheVariants as code
 use Rattle.con_alias.specs.Aliases.{AliasList}
+use Rattle.con_cooked.specs.Cooked.{is_return}
+use Rattle.con_cooked.specs.Keys.{key_of}
+use Rattle.con_cooked.specs.Mask.{is_masked}
 use Rattle.con_cooked.specs.declared.cooked.Cooked.{Cooked}
-use Rattle.con_cooked.specs.declared.progress.Progress.{Progress}
-use Rattle.con_cooked.specs.declared.progress.Progress.TheVariants as progress
 use Rattle.con_history.specs.Histories.{LineHistories}
 use Rattle.con_readers.specs.Act.{Act, began, typed, passed, ended, woke}
-use Rattle.con_readers.specs.Lines.{line_after, line_progress}
+use Rattle.con_readers.specs.Lines.{line_after}
 use Rattle.con_readers.specs.Reads.{Settled, settled, first_acts, line_aborted, changed_at, failed, is_open_line}
 use Rattle.con_readers.specs.Serving.{Served, is_done, served, served_line, served_on}
 use Rattle.con_readers.specs.declared.open.Open.{Open}
@@ -39,13 +40,13 @@ act_first : (p : ℕ) (al : List AliasList) (a : Act) (s : Served) (more : List 
 act_first p al a s more true d = rw d refl
 act_first p al a s more false d = rw d refl
 
-on_more : (p : ℕ) (al : List AliasList) (line line' : Cooked) (rs more : List Record) (hs : LineHistories) (later both : Served) (g : Progress)
+on_more : (p : ℕ) (al : List AliasList) (line line' : Cooked) (rs more : List Record) (hs : LineHistories) (later both : Served) (masked returned : Bool)
     → both ≡ then_served p al later more
-    → served_on p al line line' (rs ++ more) hs both g ≡ then_served p al (served_on p al line line' rs hs later g) more
-on_more p al line line' rs more hs later both (progress.Going echo) ih = ap (with_act (typed p line line' echo)) ih
-    ∙ act_first p al (typed p line line' echo) later more (is_done later.read) refl
-on_more p al line line' rs more hs later both (progress.Done echo) ih = refl
-on_more p al line line' rs more hs later both progress.Woken ih = refl
+    → served_on p al line line' (rs ++ more) hs both masked returned ≡ then_served p al (served_on p al line line' rs hs later masked returned) more
+on_more p al line line' rs more hs later both true returned ih = refl
+on_more p al line line' rs more hs later both false true ih = refl
+on_more p al line line' rs more hs later both false false ih = ap (with_act (typed p line line')) ih
+    ∙ act_first p al (typed p line line') later more (is_done later.read) refl
 
 pub line_more : (p : ℕ) (al : List AliasList) (line : Cooked) (rs more : List Record) (hs : LineHistories)
     → served_line p al line (rs ++ more) hs ≡ then_served p al (served_line p al line rs hs) more
@@ -53,7 +54,7 @@ unfolding served
 line_more p al line [] more hs = refl
 line_more p al line (r ∷ rs) more hs =
     on_more p al line (line_after line r hs) rs more hs (served_line p al (line_after line r hs) rs hs)
-    (served_line p al (line_after line r hs) (rs ++ more) hs) (line_progress line r hs)
+    (served_line p al (line_after line r hs) (rs ++ more) hs) (is_masked line.mask r) (is_return (key_of r))
     (line_more p al (line_after line r hs) rs more hs)
 
 read_more : (p : ℕ) (al : List AliasList) (r : OpenRead) (rs more : List Record) (hs : LineHistories) → is_line_or_done r ≡ true → is_done r ≡ false
@@ -204,7 +205,7 @@ finished_queued s os rs hs (Some n) len = or_queued (shows_line s.buffers n) _ s
 followed_queued : (s : State) (os : List Open) (rs : List Record) (hs : LineHistories) (a : Act)
     → followed (queued s os rs hs) a ≡ queued (followed s a) os rs hs
 followed_queued s os rs hs (began p) = refl
-followed_queued s os rs hs (typed p old new echo) = shown_queued s os rs hs (noted_of s.noted p) old new
+followed_queued s os rs hs (typed p old new) = shown_queued s os rs hs (noted_of s.noted p) old new
 followed_queued s os rs hs (passed p) = refl
 followed_queued s os rs hs (ended p read len) = finished_queued s os rs hs (noted_of s.noted p) len
 followed_queued s os rs hs (woke p line) = refl
@@ -246,17 +247,17 @@ pushed_settled s more l =
 
 -- ---- reads stay of lines, or done
 
-on_lines : (p : ℕ) (al : List AliasList) (line line' : Cooked) (rs : List Record) (hs : LineHistories) (later : Served) (g : Progress)
+on_lines : (p : ℕ) (al : List AliasList) (line line' : Cooked) (rs : List Record) (hs : LineHistories) (later : Served) (masked returned : Bool)
     → is_line_or_done later.read ≡ true
-    → is_line_or_done (served_on p al line line' rs hs later g).read ≡ true
-on_lines p al line line' rs hs later (progress.Going echo) ih = ih
-on_lines p al line line' rs hs later (progress.Done echo) ih = refl
-on_lines p al line line' rs hs later progress.Woken ih = refl
+    → is_line_or_done (served_on p al line line' rs hs later masked returned).read ≡ true
+on_lines p al line line' rs hs later true returned ih = refl
+on_lines p al line line' rs hs later false true ih = refl
+on_lines p al line line' rs hs later false false ih = ih
 
 line_lines : (p : ℕ) (al : List AliasList) (line : Cooked) (rs : List Record) (hs : LineHistories) → is_line_or_done (served_line p al line rs hs).read ≡ true
 line_lines p al line [] hs = refl
 line_lines p al line (r ∷ rs) hs =
-    on_lines p al line (line_after line r hs) rs hs (served_line p al (line_after line r hs) rs hs) (line_progress line r hs)
+    on_lines p al line (line_after line r hs) rs hs (served_line p al (line_after line r hs) rs hs) (is_masked line.mask r) (is_return (key_of r))
     (line_lines p al (line_after line r hs) rs hs)
 
 read_lines : (p : ℕ) (al : List AliasList) (r : OpenRead) (rs : List Record) (hs : LineHistories) → is_line_or_done r ≡ true

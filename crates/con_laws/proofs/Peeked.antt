@@ -4,9 +4,10 @@ use Rattle.std.specs.Prelude.{◌&&◌, if◌then◌else◌}
 use Rattle.std.proofs.lemmas.Bool.Decides.{nat_tests}
 use Rattle.con_units.specs.declared.code.Code.{Code}
 use Rattle.con_alias.specs.Aliases.{AliasList}
+use Rattle.con_cooked.specs.Cooked.{is_return}
+use Rattle.con_cooked.specs.Keys.{key_of}
+use Rattle.con_cooked.specs.Mask.{is_masked}
 use Rattle.con_cooked.specs.declared.cooked.Cooked.{Cooked}
-use Rattle.con_cooked.specs.declared.progress.Progress.{Progress}
-use Rattle.con_cooked.specs.declared.progress.Progress.TheVariants as progress
 use Rattle.con_events.specs.declared.actor.Actor.TheVariants as actors
 use Rattle.con_events.specs.declared.call.Call.TheVariants as calls
 use Rattle.con_events.specs.declared.entry.Entry.{Entry}
@@ -16,7 +17,7 @@ use Rattle.con_handles.specs.declared.handle.Kind.TheVariants as kind
 use Rattle.con_handles.specs.declared.handle.Object.{Object}
 use Rattle.con_history.specs.Histories.{LineHistories}
 use Rattle.con_procs.specs.Procs.{ids_of, signalled}
-use Rattle.con_readers.specs.Lines.{line_after, line_progress}
+use Rattle.con_readers.specs.Lines.{line_after}
 use Rattle.con_readers.specs.Pieces.{pieces_of, joined}
 use Rattle.con_readers.specs.Reads.{settled, closed_one, all_closed}
 use Rattle.con_readers.specs.Serving.{Served as Serving, is_done, took_units, served, served_line, served_on}
@@ -48,14 +49,17 @@ AllDone (o ∷ os) = (is_done o.read ≡ true) × AllDone os
 Rests : List Open → List Record → Type 0
 Rests os rs = (rs ≡ []) ⊎ AllDone os
 
-on_left : (p : ℕ) (al : List AliasList) (line line' : Cooked) (rs : List Record) (hs : LineHistories) (later : Serving) (g : Progress) → (is_done later.read ≡ false → later.records ≡ []) → is_done (served_on p al line line' rs hs later g).read ≡ false → (served_on p al line line' rs hs later g).records ≡ []
-on_left p al line line' rs hs later (progress.Going echo) ih d = ih d
-on_left p al line line' rs hs later (progress.Done echo) ih d = absurd (true≢false d)
-on_left p al line line' rs hs later progress.Woken ih d = absurd (true≢false d)
+on_left : (p : ℕ) (al : List AliasList) (line line' : Cooked) (rs : List Record) (hs : LineHistories) (later : Serving) (masked returned : Bool) → (is_done later.read ≡ false → later.records ≡ [])
+    → is_done (served_on p al line line' rs hs later masked returned).read ≡ false → (served_on p al line line' rs hs later masked returned).records ≡ []
+on_left p al line line' rs hs later true returned ih d = absurd (true≢false d)
+on_left p al line line' rs hs later false true ih d = absurd (true≢false d)
+on_left p al line line' rs hs later false false ih d = ih d
 
 line_left : (p : ℕ) (al : List AliasList) (line : Cooked) (rs : List Record) (hs : LineHistories) → is_done (served_line p al line rs hs).read ≡ false → (served_line p al line rs hs).records ≡ []
 line_left p al line [] hs d = refl
-line_left p al line (r ∷ rs) hs d = on_left p al line (line_after line r hs) rs hs (served_line p al (line_after line r hs) rs hs) (line_progress line r hs) (line_left p al (line_after line r hs) rs hs) d
+line_left p al line (r ∷ rs) hs d =
+    on_left p al line (line_after line r hs) rs hs (served_line p al (line_after line r hs) rs hs) (is_masked line.mask r) (is_return (key_of r))
+    (line_left p al (line_after line r hs) rs hs) d
 
 units_left : (p n : ℕ) (rs : List Record) (hs : LineHistories) (us : List ℕ) → is_done (took_units p n rs hs us).read ≡ false → (took_units p n rs hs us).records ≡ []
 units_left p n rs hs [] d = refl

@@ -1,13 +1,14 @@
 -- A read that is served with what it takes, and no more, is the same.
-use Rattle.std.proofs.Common.{◌≡◌, ◌-◌, ◌==◌, ◌≤◌, ℕ, true, false, List, [], ◌∷◌, ◌++◌, zero, suc, refl, ap, ◌∙◌, sym, length, length-append, take, drop, append-nil, true≢false, arith}
+use Rattle.std.proofs.Common.{◌≡◌, ◌-◌, ◌==◌, ◌≤◌, ℕ, Bool, true, false, List, [], ◌∷◌, ◌++◌, zero, suc, refl, ap, ◌∙◌, sym, length, length-append, take, drop, append-nil, true≢false, arith}
 use Rattle.std.proofs.lemmas.List.{take-append-drop, take-take, take_at}
 use Rattle.con_alias.specs.Aliases.{AliasList}
+use Rattle.con_cooked.specs.Cooked.{is_return}
+use Rattle.con_cooked.specs.Keys.{key_of}
+use Rattle.con_cooked.specs.Mask.{is_masked}
 use Rattle.con_cooked.specs.declared.cooked.Cooked.{Cooked}
-use Rattle.con_cooked.specs.declared.progress.Progress.{Progress}
-use Rattle.con_cooked.specs.declared.progress.Progress.TheVariants as progress
 use Rattle.con_history.specs.Histories.{LineHistories}
 use Rattle.con_readers.specs.Act.{typed}
-use Rattle.con_readers.specs.Lines.{line_after, line_progress}
+use Rattle.con_readers.specs.Lines.{line_after}
 use Rattle.con_readers.specs.Pieces.{front}
 use Rattle.con_readers.specs.Serving.{is_done, took_units, Served, served, served_line, served_on}
 use Rattle.con_readers.specs.Wants.{units_of}
@@ -23,14 +24,17 @@ front_is rs f rest h =
 
 -- ---- a line
 
-on_shorter : (p : ℕ) (al : List AliasList) (line line' : Cooked) (r : Record) (rs : List Record) (hs : LineHistories) (later : Served) (g : Progress) → length later.records ≤ length rs → length (served_on p al line line' rs hs later g).records ≤ length (r ∷ rs)
-on_shorter p al line line' r rs hs later (progress.Going echo) le = omega (arith, le)
-on_shorter p al line line' r rs hs later (progress.Done echo) le = omega arith
-on_shorter p al line line' r rs hs later progress.Woken le = omega arith
+on_shorter : (p : ℕ) (al : List AliasList) (line line' : Cooked) (r : Record) (rs : List Record) (hs : LineHistories) (later : Served) (masked returned : Bool) → length later.records ≤ length rs
+    → length (served_on p al line line' rs hs later masked returned).records ≤ length (r ∷ rs)
+on_shorter p al line line' r rs hs later true returned le = omega arith
+on_shorter p al line line' r rs hs later false true le = omega arith
+on_shorter p al line line' r rs hs later false false le = omega (arith, le)
 
 shorter : (p : ℕ) (al : List AliasList) (line : Cooked) (rs : List Record) (hs : LineHistories) → length (served_line p al line rs hs).records ≤ length rs
 shorter p al line [] hs = omega arith
-shorter p al line (r ∷ rs) hs = on_shorter p al line (line_after line r hs) r rs hs (served_line p al (line_after line r hs) rs hs) (line_progress line r hs) (shorter p al (line_after line r hs) rs hs)
+shorter p al line (r ∷ rs) hs =
+    on_shorter p al line (line_after line r hs) r rs hs (served_line p al (line_after line r hs) rs hs) (is_masked line.mask r) (is_return (key_of r))
+    (shorter p al (line_after line r hs) rs hs)
 
 front_more : (r : Record) (rs rest : List Record) → length rest ≤ length rs → front (r ∷ rs) rest ≡ r ∷ front rs rest
 front_more r rs rest le =
@@ -43,19 +47,20 @@ front_one r rs = front_is (r ∷ rs) (r ∷ []) rs refl
 unfoldable pub Alone : ℕ → List AliasList → Cooked → List Record → LineHistories → Type 0
 Alone p al line rs hs = (let s = served_line p al line rs hs in served_line p al line (front rs s.records) hs ≡ record s { records = [] })
 
-alone_by : (p : ℕ) (al : List AliasList) (line : Cooked) (r : Record) (rs : List Record) (hs : LineHistories) (g : Progress) → line_progress line r hs ≡ g
+alone_by : (p : ℕ) (al : List AliasList) (line : Cooked) (r : Record) (rs : List Record) (hs : LineHistories) (masked returned : Bool) → is_masked line.mask r ≡ masked → is_return (key_of r) ≡ returned
     → length (served_line p al (line_after line r hs) rs hs).records ≤ length rs → Alone p al (line_after line r hs) rs hs → Alone p al line (r ∷ rs) hs
 unfolding Alone
-alone_by p al line r rs hs (progress.Going echo) is le ih =
+alone_by p al line r rs hs true returned m e le ih = rw m (rw (front_one r rs) (rw m refl))
+alone_by p al line r rs hs false true m e le ih = rw (m, e) (rw (front_one r rs) (rw (m, e) refl))
+alone_by p al line r rs hs false false m e le ih =
     let later : Served = served_line p al (line_after line r hs) rs hs in
-    rw is (rw (front_more r rs later.records le) (rw is (ap (λ (x : Served). record x { acts = typed p line (line_after line r hs) echo ∷ x.acts }) ih)))
-alone_by p al line r rs hs (progress.Done echo) is le ih = rw is (rw (front_one r rs) (rw is refl))
-alone_by p al line r rs hs progress.Woken is le ih = rw is (rw (front_one r rs) (rw is refl))
+    rw (m, e) (rw (front_more r rs later.records le) (rw (m, e) (ap (λ (x : Served). record x { acts = typed p line (line_after line r hs) ∷ x.acts }) ih)))
 
 pub alone : (p : ℕ) (al : List AliasList) (line : Cooked) (rs : List Record) (hs : LineHistories) → Alone p al line rs hs
 unfolding Alone
 alone p al line [] hs = refl
-alone p al line (r ∷ rs) hs = alone_by p al line r rs hs (line_progress line r hs) refl (shorter p al (line_after line r hs) rs hs) (alone p al (line_after line r hs) rs hs)
+alone p al line (r ∷ rs) hs =
+    alone_by p al line r rs hs (is_masked line.mask r) (is_return (key_of r)) refl refl (shorter p al (line_after line r hs) rs hs) (alone p al (line_after line r hs) rs hs)
 
 -- ---- units
 
@@ -140,16 +145,18 @@ takes_all p al (reads.Records n) (r ∷ rs) hs = rw (taken_records n (r ∷ rs))
 takes_all p al (reads.Done a) rs hs = tt
 
 -- it stays so while it is served
-on_proper : (p : ℕ) (al : List AliasList) (line line' : Cooked) (rs : List Record) (hs : LineHistories) (later : Served) (g : Progress) → IsProper later.read → IsProper (served_on p al line line' rs hs later g).read
+on_proper : (p : ℕ) (al : List AliasList) (line line' : Cooked) (rs : List Record) (hs : LineHistories) (later : Served) (masked returned : Bool) → IsProper later.read → IsProper (served_on p al line line' rs hs later masked returned).read
 unfolding IsProper
-on_proper p al line line' rs hs later (progress.Going echo) h = h
-on_proper p al line line' rs hs later (progress.Done echo) h = tt
-on_proper p al line line' rs hs later progress.Woken h = tt
+on_proper p al line line' rs hs later true returned h = tt
+on_proper p al line line' rs hs later false true h = tt
+on_proper p al line line' rs hs later false false h = h
 
 line_proper : (p : ℕ) (al : List AliasList) (line : Cooked) (rs : List Record) (hs : LineHistories) → IsProper (served_line p al line rs hs).read
 unfolding IsProper
 line_proper p al line [] hs = tt
-line_proper p al line (r ∷ rs) hs = on_proper p al line (line_after line r hs) rs hs (served_line p al (line_after line r hs) rs hs) (line_progress line r hs) (line_proper p al (line_after line r hs) rs hs)
+line_proper p al line (r ∷ rs) hs =
+    on_proper p al line (line_after line r hs) rs hs (served_line p al (line_after line r hs) rs hs) (is_masked line.mask r) (is_return (key_of r))
+    (line_proper p al (line_after line r hs) rs hs)
 
 units_proper : (p n : ℕ) (rs : List Record) (hs : LineHistories) (us : List ℕ) → IsProper (took_units p n rs hs us).read
 unfolding IsProper

@@ -124,7 +124,7 @@ finished_same_line s (Some n) len =
 
 followed_same : (s : State) (a : Act) → unstamped (followed s a) ≡ followed (unstamped s) a
 followed_same s (started p) = ap (λ (ns : List Noted). let t : State = record (unstamped s) { noted = ns } in t) (sym (start_same s.buffers s.noted p))
-followed_same s (typed p old new echo) = shown_same s (noted_of s.noted p) old new
+followed_same s (typed p old new) = shown_same s (noted_of s.noted p) old new
 followed_same s (passed p) = refl
 followed_same s (ended p read len) = finished_same_line s (noted_of s.noted p) len
 followed_same s (woke p line) = refl

@@ -5,16 +5,13 @@ use Rattle.std.specs.List.{list_any}
 use Rattle.con_units.specs.declared.code.Code.{Code}
 use Rattle.con_units.specs.declared.code.Code.TheVariants as code
 use Rattle.con_alias.specs.Aliases.{AliasList}
-use Rattle.con_cooked.specs.Cooked.{Moment, is_return, line_of, echo_between}
+use Rattle.con_cooked.specs.Cooked.{Moment, is_return}
 use Rattle.con_cooked.specs.Keys.{key_of}
 use Rattle.con_cooked.specs.Mask.{is_masked}
 use Rattle.con_cooked.specs.declared.cooked.Cooked.{Cooked}
-use Rattle.con_cooked.specs.declared.progress.Echo.{Echo}
-use Rattle.con_cooked.specs.declared.progress.Progress.{Progress}
-use Rattle.con_cooked.specs.declared.progress.Progress.TheVariants as progress
 use Rattle.con_history.specs.Histories.{LineHistories, lines_of}
 use Rattle.con_readers.specs.Answering.{is_line_end, line_through, EndsLine}
-use Rattle.con_readers.specs.Lines.{line_after, line_progress, line_answer}
+use Rattle.con_readers.specs.Lines.{line_after, line_answer}
 use Rattle.con_readers.specs.Pieces.{front, joined}
 use Rattle.con_readers.specs.Reads.{answer_of}
 use Rattle.con_readers.specs.Serving.{Served as Serving, is_done, took_units, served, served_line, served_on}
@@ -49,28 +46,20 @@ pub record GoesOn (line : Cooked) (rs : List Record) (hs : LineHistories) (s : S
   pub read : s.read ≡ reads.Line (line_through line rs hs)
   pub none : list_any (is_line_end line.mask) rs ≡ false
 
-abbrev chosen : Bool → Bool → Echo → Progress
-chosen masked ended e = cond masked progress.Woken (cond ended (progress.Done e) (progress.Going e))
-
-going_is : (m e : Bool) (d x : Echo) → chosen m e d ≡ progress.Going x → (m || e) ≡ false
-going_is true e d x h = cc
-going_is false true d x h = cc
-going_is false false d x h = refl
-
-pub line_goes : (line : Cooked) (r : Record) (hs : LineHistories) (x : Echo) → line_progress line r hs ≡ progress.Going x → is_line_end line.mask r ≡ false
-line_goes line r hs x is = going_is (is_masked line.mask r) (is_return (key_of r)) (echo_between (line_of line).line (line_of (line_after line r hs)).line) x is
-
-on_goes : (p : ℕ) (al : List AliasList) (line : Cooked) (r : Record) (rs : List Record) (hs : LineHistories) (later : Serving) (g : Progress) → line_progress line r hs ≡ g → (is_done later.read ≡ false → GoesOn (line_after line r hs) rs hs later)
-    → is_done (served_on p al line (line_after line r hs) rs hs later g).read ≡ false → GoesOn line (r ∷ rs) hs (served_on p al line (line_after line r hs) rs hs later g)
-on_goes p al line r rs hs later (progress.Going x) is ih d =
+on_goes : (p : ℕ) (al : List AliasList) (line : Cooked) (r : Record) (rs : List Record) (hs : LineHistories) (later : Serving) (masked returned : Bool) → is_masked line.mask r ≡ masked → is_return (key_of r) ≡ returned
+    → (is_done later.read ≡ false → GoesOn (line_after line r hs) rs hs later)
+    → is_done (served_on p al line (line_after line r hs) rs hs later masked returned).read ≡ false → GoesOn line (r ∷ rs) hs (served_on p al line (line_after line r hs) rs hs later masked returned)
+on_goes p al line r rs hs later true returned m e ih d = absurd (true≢false d)
+on_goes p al line r rs hs later false true m e ih d = absurd (true≢false d)
+on_goes p al line r rs hs later false false m e ih d =
     let g = ih d in
-    record { read = g.read; none = ap (λ (b : Bool). b || list_any (is_line_end line.mask) rs) (line_goes line r hs x is) ∙ g.none }
-on_goes p al line r rs hs later (progress.Done x) is ih d = absurd (true≢false d)
-on_goes p al line r rs hs later progress.Woken is ih d = absurd (true≢false d)
+    let here : is_line_end line.mask r ≡ false = ap (λ (b : Bool). b || is_return (key_of r)) m ∙ e in
+    record { read = g.read; none = ap (λ (b : Bool). b || list_any (is_line_end line.mask) rs) here ∙ g.none }
 
 pub goes_on : (p : ℕ) (al : List AliasList) (line : Cooked) (rs : List Record) (hs : LineHistories) → is_done (served_line p al line rs hs).read ≡ false → GoesOn line rs hs (served_line p al line rs hs)
 goes_on p al line [] hs d = record { read = refl; none = refl }
-goes_on p al line (r ∷ rs) hs d = on_goes p al line r rs hs (served_line p al (line_after line r hs) rs hs) (line_progress line r hs) refl (goes_on p al (line_after line r hs) rs hs) d
+goes_on p al line (r ∷ rs) hs d =
+    on_goes p al line r rs hs (served_line p al (line_after line r hs) rs hs) (is_masked line.mask r) (is_return (key_of r)) refl refl (goes_on p al (line_after line r hs) rs hs) d
 
 -- ---- a line, piece by piece
 

@@ -77,7 +77,7 @@ wake_one (n ∷ ns) q p = wake_by n ns q p (n.process == q) (n.process == p) (q 
 unfoldable pub woke_of : ℕ → Act → Bool
 woke_of p (woke q line) = q == p
 woke_of p (began q) = false
-woke_of p (typed q old new echo) = false
+woke_of p (typed q old new) = false
 woke_of p (passed q) = false
 woke_of p (ended q read len) = false
 
@@ -97,7 +97,7 @@ finished_note s (Some n) len p = either (shows_line s.buffers n) _ s p (told_of 
 followed_note : (s : State) (a : Act) (p : ℕ) → told_of (noted_of (followed s a).noted p) ≡ waked (woke_of p a) (told_of (noted_of s.noted p))
 unfolding woke_of waked told_of
 followed_note s (began q) p = change_same (started_on s.buffers) (λ m. refl) (λ m. refl) s.noted q p
-followed_note s (typed q old new echo) p = shown_note s (noted_of s.noted q) old new p
+followed_note s (typed q old new) p = shown_note s (noted_of s.noted q) old new p
 followed_note s (passed q) p = refl
 followed_note s (ended q read len) p = finished_note s (noted_of s.noted q) len p
 followed_note s (woke q line) p = wake_one s.noted q p

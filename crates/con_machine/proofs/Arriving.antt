@@ -46,7 +46,7 @@ finished_modes s (Some n) len = by_test (shows_line s.buffers n) refl
 
 followed_modes : (s : State) (a : Act) → ((followed s a).mode ≡ s.mode) × ((followed s a).cursor_keys ≡ s.cursor_keys)
 followed_modes s (began p) = (refl, refl)
-followed_modes s (typed p old new echo) = shown_modes s (noted_of s.noted p) old new
+followed_modes s (typed p old new) = shown_modes s (noted_of s.noted p) old new
 followed_modes s (passed p) = (refl, refl)
 followed_modes s (ended p read len) = finished_modes s (noted_of s.noted p) len
 followed_modes s (woke p line) = (refl, refl)

@@ -43,7 +43,7 @@ finished_apart s (Some n) len os rs hs al =
 
 pub followed_apart : (s : State) (a : Act) (os : List Open) (rs : List Record) (hs : LineHistories) (al : List AliasList) → followed (other s os rs hs al) a ≡ other (followed s a) os rs hs al
 followed_apart s (began p) os rs hs al = refl
-followed_apart s (typed p old new echo) os rs hs al = shown_apart s (noted_of s.noted p) old new os rs hs al
+followed_apart s (typed p old new) os rs hs al = shown_apart s (noted_of s.noted p) old new os rs hs al
 followed_apart s (passed p) os rs hs al = refl
 followed_apart s (ended p read len) os rs hs al = finished_apart s (noted_of s.noted p) len os rs hs al
 followed_apart s (woke p line) os rs hs al = refl
@@ -89,9 +89,7 @@ pub echo_follows : (s t : State) (p : ℕ) (echo : Echo) (step : ReadStep) (act 
 echo_follows s t p echo step act is of told shown = by_act (subst (λ (x : ReadStep). IsOf x act) is of)
   where
     by_act : IsOf (steps.Echo p echo) act → t ≡ followed_by s act
-    by_act one =
-        let parts = told p one.0 one.1 echo one.2 in
-        subst (λ (a : Option Act). t ≡ followed_by s a) (sym one.2) (shown one.0 one.1 parts.0 parts.1)
+    by_act one = subst (λ (a : Option Act). t ≡ followed_by s a) (sym one.2) (shown one.0 one.1 one.3 (told p one.0 one.1 one.2))
 
 -- ---- one step
 

@@ -300,7 +300,7 @@ finished_shows s (Some n) len = or_shows s (shows_line s.buffers n) (with_page s
 
 followed_shows : (s : State) (a : Act) → Shows s (followed s a)
 followed_shows s (started p) = record { is = refl; wide = refl; high = refl }
-followed_shows s (typed p old new echo) = shown_shows s (noted_of s.noted p) old new
+followed_shows s (typed p old new) = shown_shows s (noted_of s.noted p) old new
 followed_shows s (passed p) = shows s
 followed_shows s (ended p read len) = finished_shows s (noted_of s.noted p) len
 followed_shows s (woke p line) = record { is = refl; wide = refl; high = refl }

@@ -41,7 +41,7 @@ finished_held s h (Some n) len = by_test (shows_line s.buffers n) refl
 
 followed_held : (s : State) (h : List ℕ) (a : Act) → followed (record s { held = h }) a ≡ record (followed s a) { held = h }
 followed_held s h (began p) = refl
-followed_held s h (typed p old new echo) = shown_held s h (noted_of s.noted p) old new
+followed_held s h (typed p old new) = shown_held s h (noted_of s.noted p) old new
 followed_held s h (passed p) = refl
 followed_held s h (ended p read len) = finished_held s h (noted_of s.noted p) len
 followed_held s h (woke p line) = refl

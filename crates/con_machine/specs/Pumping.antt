@@ -2,8 +2,6 @@
 use Rattle.std.specs.Prelude.{◌≡◌, Option, Some, None}
 use Rattle.std.specs.Prelude.{ℕ, List}
 use Rattle.con_cooked.specs.declared.cooked.Cooked.{Cooked}
-use Rattle.con_cooked.specs.declared.progress.Echo.{Echo}
-use Rattle.con_cooked.specs.Cooked.{line_of, echo_between}
 use Rattle.con_readers.specs.Act.{Act, typed}
 use Rattle.con_readers.specs.Lines.{line_text}
 use Rattle.con_readers.specs.Reads.{Pumped, pumped, head_text}
@@ -26,7 +24,6 @@ followed_by s (Some a) = followed s a
 abbrev pub stepped : State → State
 stepped s = followed_by (with_pumped s (pumped_of s)) (pumped_of s).act
 
--- what an echo tells is what differs between two lines, and is of the text of the first read
+-- the line that took a record is the first read's
 abbrev pub IsTold : Option Act → List Open → Type 0
-IsTold act os = (p : ℕ) (old new : Cooked) (echo : Echo) → act ≡ Some (typed p old new echo)
-    → (echo ≡ echo_between (line_of old).line (line_of new).line) × (head_text os ≡ line_text new)
+IsTold act os = (p : ℕ) (old new : Cooked) → act ≡ Some (typed p old new) → head_text os ≡ line_text new

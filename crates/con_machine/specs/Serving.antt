@@ -42,7 +42,7 @@ line_seen s p f = option_map_or (λ n. if n.echoes && option_map_or (λ b. b.bir
 -- what is seen of a step of a read; of a line that a masked control ended nothing
 abbrev pub followed : State → Act → State
 followed s (began p) = record s { noted = note_changed (started_on s.buffers) s.noted p }
-followed s (typed p old new echo) = line_seen s p (λ n.
+followed s (typed p old new) = line_seen s p (λ n.
     let e = echoed (screen_at s.buffers n.buffer.0) n.origin (line_text old) (line_text new) (line_of new).line.caret in
     record (with_screen s n.buffer.0 e.screen) { noted = note_changed (λ m. record m { origin = e.origin }) s.noted n.process })
 followed s (passed p) = s

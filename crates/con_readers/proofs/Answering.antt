@@ -1,18 +1,15 @@
 -- A read of units, and one of a line, answer their pieces.
-use Rattle.std.proofs.Common.{◌≡◌, ◌==◌, ◌||◌, ℕ, Bool, true, false, cond, List, [], ◌∷◌, ◌++◌, zero, suc, refl, ap, ◌∙◌, sym}
+use Rattle.std.proofs.Common.{◌≡◌, ◌==◌, ◌||◌, ℕ, Bool, true, false, List, [], ◌∷◌, ◌++◌, zero, suc, refl, ap, ◌∙◌, sym}
 use Rattle.std.specs.List.{list_any}
 use Rattle.con_records.specs.declared.record.Record.{Record}
 use Rattle.con_history.specs.declared.histories.Histories.{Histories}
 use Rattle.con_alias.specs.Aliases.{AliasList}
 use Rattle.con_cooked.specs.declared.cooked.Cooked.{Cooked}
-use Rattle.con_cooked.specs.declared.progress.Echo.{Echo}
-use Rattle.con_cooked.specs.declared.progress.Progress.{Progress}
-use Rattle.con_cooked.specs.declared.progress.Progress.TheVariants as progress
 use Rattle.con_cooked.specs.Keys.{key_of}
 use Rattle.con_cooked.specs.Mask.{is_masked}
-use Rattle.con_cooked.specs.Cooked.{is_return, line_of, echo_between}
+use Rattle.con_cooked.specs.Cooked.{is_return}
 use Rattle.con_readers.specs.Wants.{typed_unit, units_of, rest_of}
-use Rattle.con_readers.specs.Lines.{line_after, line_progress}
+use Rattle.con_readers.specs.Lines.{line_after}
 use Rattle.con_readers.specs.Act.{Act, typed}
 use Rattle.con_readers.specs.Serving.{is_done, took_units, Served, served, served_line, served_on}
 use Rattle.con_readers.specs.Pieces.{front}
@@ -60,32 +57,9 @@ unfolding served
 units-piece p n al [] hs d = cc
 units-piece p n al (r ∷ rs) hs d = units_by p n (r ∷ rs) hs (units_of n (r ∷ rs)) refl d
 
-abbrev chosen : Bool → Bool → Echo → Progress
-chosen masked ended e = cond masked progress.Woken (cond ended (progress.Done e) (progress.Going e))
-
-going_is : (m e : Bool) (d x : Echo) → chosen m e d ≡ progress.Going x → (m || e) ≡ false
-going_is true e d x h = cc
-going_is false true d x h = cc
-going_is false false d x h = refl
-
-done_is : (m e : Bool) (d x : Echo) → chosen m e d ≡ progress.Done x → (m || e) ≡ true
-done_is true e d x h = refl
-done_is false true d x h = refl
-done_is false false d x h = cc
-
-woken_is : (m e : Bool) (d : Echo) → chosen m e d ≡ progress.Woken → (m || e) ≡ true
-woken_is true e d h = refl
-woken_is false true d h = refl
-woken_is false false d h = cc
-
-echo_is : (m e : Bool) (d x : Echo) → chosen m e d ≡ progress.Going x → d ≡ x
-echo_is true e d x h = cc
-echo_is false true d x h = cc
-echo_is false false d x h = cc
-
--- the echo of a press is that of the line before and after
-pub pressed_echo : (line : Cooked) (r : Record) (hs : Histories) (x : Echo) → line_progress line r hs ≡ progress.Going x → x ≡ echo_between (line_of line).line (line_of (line_after line r hs)).line
-pressed_echo line r hs x h = sym (echo_is (is_masked line.mask r) (is_return (key_of r)) (echo_between (line_of line).line (line_of (line_after line r hs)).line) x h)
+-- whether a record ends a line, by whether it is a masked control, and else whether it is return
+unmasked_end : (mask : ℕ) (r : Record) (returned : Bool) → is_masked mask r ≡ false → is_return (key_of r) ≡ returned → is_line_end mask r ≡ returned
+unmasked_end mask r returned m e = ap (λ (b : Bool). b || is_return (key_of r)) m ∙ e
 
 -- a record before
 goes_on : (al : List AliasList) (line : Cooked) (r : Record) (rs : List Record) (hs : Histories) (s : Served) (a : Act) → is_line_end line.mask r ≡ false → EndsWith rs s.records
@@ -99,33 +73,32 @@ goes_on al line r rs hs s a going ends e = record {
   answer = e.answer;
 }
 
-ends_by : (p : ℕ) (al : List AliasList) (line : Cooked) (r : Record) (rs : List Record) (hs : Histories) (later : Served) (g : Progress) → line_progress line r hs ≡ g → EndsWith rs later.records
-    → (is_done later.read ≡ true → EndsLine al (line_after line r hs) rs hs later) → is_done (served_on p al line (line_after line r hs) rs hs later g).read ≡ true
-    → EndsLine al line (r ∷ rs) hs (served_on p al line (line_after line r hs) rs hs later g)
-ends_by p al line r rs hs later (progress.Going x) is ends ih d =
-    goes_on al line r rs hs later (typed p line (line_after line r hs) x)
-    (going_is (is_masked line.mask r) (is_return (key_of r)) (echo_between (line_of line).line (line_of (line_after line r hs)).line) x is) ends (ih d)
-ends_by p al line r rs hs later (progress.Done x) is ends ih d = record {
+ends_by : (p : ℕ) (al : List AliasList) (line : Cooked) (r : Record) (rs : List Record) (hs : Histories) (later : Served) (masked returned : Bool) → is_masked line.mask r ≡ masked → is_return (key_of r) ≡ returned → EndsWith rs later.records
+    → (is_done later.read ≡ true → EndsLine al (line_after line r hs) rs hs later) → is_done (served_on p al line (line_after line r hs) rs hs later masked returned).read ≡ true
+    → EndsLine al line (r ∷ rs) hs (served_on p al line (line_after line r hs) rs hs later masked returned)
+ends_by p al line r rs hs later true returned m e ends ih d = record {
   before = [];
   last = r;
   piece = front_is (r ∷ rs) (r ∷ []) rs refl;
   goes = refl;
-  ends = done_is (is_masked line.mask r) (is_return (key_of r)) (echo_between (line_of line).line (line_of (line_after line r hs)).line) x is;
+  ends = ap (λ (b : Bool). b || is_return (key_of r)) m;
   answer = refl;
 }
-ends_by p al line r rs hs later progress.Woken is ends ih d = record {
+ends_by p al line r rs hs later false true m e ends ih d = record {
   before = [];
   last = r;
   piece = front_is (r ∷ rs) (r ∷ []) rs refl;
   goes = refl;
-  ends = woken_is (is_masked line.mask r) (is_return (key_of r)) (echo_between (line_of line).line (line_of (line_after line r hs)).line) is;
+  ends = unmasked_end line.mask r true m e;
   answer = refl;
 }
+ends_by p al line r rs hs later false false m e ends ih d =
+    goes_on al line r rs hs later (typed p line (line_after line r hs)) (unmasked_end line.mask r false m e) ends (ih d)
 
 line_ends : (p : ℕ) (al : List AliasList) (line : Cooked) (rs : List Record) (hs : Histories) → is_done (served_line p al line rs hs).read ≡ true → EndsLine al line rs hs (served_line p al line rs hs)
 line_ends p al line [] hs d = cc
 line_ends p al line (r ∷ rs) hs d =
-    ends_by p al line r rs hs (served_line p al (line_after line r hs) rs hs) (line_progress line r hs) refl (ends_line p al (line_after line r hs) rs hs)
+    ends_by p al line r rs hs (served_line p al (line_after line r hs) rs hs) (is_masked line.mask r) (is_return (key_of r)) refl refl (ends_line p al (line_after line r hs) rs hs)
     (λ k. line_ends p al (line_after line r hs) rs hs k) d
 
 pub line-piece : (p : ℕ) (al : List AliasList) (line : Cooked) (rs : List Record) (hs : Histories) → is_done (served p al (reads.Line line) rs hs).read ≡ true → EndsLine al line rs hs (served p al (reads.Line line) rs hs)

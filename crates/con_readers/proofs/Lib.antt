@@ -9,5 +9,4 @@ pub mod Texts
 pub mod Rest
 pub mod Answering
 pub mod Distinctness
-pub mod Echoes
 pub mod Telling

@@ -7,10 +7,11 @@ use Rattle.con_history.specs.declared.histories.Histories.{Histories}
 use Rattle.con_alias.specs.Aliases.{AliasList}
 use Rattle.con_readers.specs.declared.open.Open.{Open}
 use Rattle.con_cooked.specs.declared.cooked.Cooked.{Cooked}
-use Rattle.con_cooked.specs.declared.progress.Progress.{Progress}
-use Rattle.con_cooked.specs.declared.progress.Progress.TheVariants as progress
+use Rattle.con_cooked.specs.Cooked.{is_return}
+use Rattle.con_cooked.specs.Keys.{key_of}
+use Rattle.con_cooked.specs.Mask.{is_masked}
 use Rattle.con_readers.specs.Wants.{typed_unit, units_of, rest_of}
-use Rattle.con_readers.specs.Lines.{line_after, line_progress}
+use Rattle.con_readers.specs.Lines.{line_after}
 use Rattle.con_readers.specs.Serving.{took_units, is_done, Served, served, served_line, served_on}
 use Rattle.con_readers.specs.Reads.{settled}
 use Rattle.con_readers.specs.Pieces.{front, pieces_of, joined}
@@ -70,14 +71,17 @@ ends_rest (suc n) (r ∷ rs) =
     let b = ends_more r rs _ (ends_rest n rs) in
     elim (typed_unit r == 0) as P [ true ↦ a | false ↦ b ]
 
-ends_on : (p : ℕ) (al : List AliasList) (line line' : Cooked) (r : Record) (rs : List Record) (hs : Histories) (later : Served) (g : Progress) → EndsWith rs later.records → EndsWith (r ∷ rs) (served_on p al line line' rs hs later g).records
-ends_on p al line line' r rs hs later (progress.Going echo) h = ends_more r rs later.records h
-ends_on p al line line' r rs hs later (progress.Done echo) h = ends_more r rs rs (ends_same rs)
-ends_on p al line line' r rs hs later progress.Woken h = ends_more r rs rs (ends_same rs)
+ends_on : (p : ℕ) (al : List AliasList) (line line' : Cooked) (r : Record) (rs : List Record) (hs : Histories) (later : Served) (masked returned : Bool) → EndsWith rs later.records
+    → EndsWith (r ∷ rs) (served_on p al line line' rs hs later masked returned).records
+ends_on p al line line' r rs hs later true returned h = ends_more r rs rs (ends_same rs)
+ends_on p al line line' r rs hs later false true h = ends_more r rs rs (ends_same rs)
+ends_on p al line line' r rs hs later false false h = ends_more r rs later.records h
 
 pub ends_line : (p : ℕ) (al : List AliasList) (line : Cooked) (rs : List Record) (hs : Histories) → EndsWith rs (served_line p al line rs hs).records
 ends_line p al line [] hs = ends_same []
-ends_line p al line (r ∷ rs) hs = ends_on p al line (line_after line r hs) r rs hs (served_line p al (line_after line r hs) rs hs) (line_progress line r hs) (ends_line p al (line_after line r hs) rs hs)
+ends_line p al line (r ∷ rs) hs =
+    ends_on p al line (line_after line r hs) r rs hs (served_line p al (line_after line r hs) rs hs) (is_masked line.mask r) (is_return (key_of r))
+    (ends_line p al (line_after line r hs) rs hs)
 
 ends_units : (p n : ℕ) (rs : List Record) (hs : Histories) (us : List ℕ) → EndsWith rs (took_units p n rs hs us).records
 ends_units p n rs hs [] = ends_all rs

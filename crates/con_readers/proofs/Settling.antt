@@ -6,15 +6,18 @@ use Rattle.con_history.specs.declared.histories.Histories.{Histories}
 use Rattle.con_alias.specs.Aliases.{AliasList}
 use Rattle.con_readers.specs.declared.open.Open.{Open}
 use Rattle.con_cooked.specs.declared.cooked.Cooked.{Cooked}
-use Rattle.con_cooked.specs.declared.progress.Progress.{Progress}
-use Rattle.con_cooked.specs.declared.progress.Progress.TheVariants as progress
+use Rattle.con_cooked.specs.Cooked.{line_of, is_return, echo_between}
+use Rattle.con_cooked.specs.Keys.{key_of}
+use Rattle.con_cooked.specs.Mask.{is_masked}
+use Rattle.con_cooked.specs.declared.progress.Echo.{Echo}
 use Rattle.con_readers.specs.Wants.{units_of}
-use Rattle.con_readers.specs.Lines.{line_after, line_progress}
+use Rattle.con_readers.specs.Lines.{line_after}
 use Rattle.con_readers.specs.Act.{Act, began}
 use Rattle.con_readers.specs.Serving.{Took, took, took_units, took_one, is_done, Served, served, served_line, served_on, given_units}
 use Rattle.con_readers.specs.Reads.{Pumped, pumped, Moved, moved, Settled, settled, before, settled_after}
 use Rattle.con_readers.specs.declared.open.OpenRead.{OpenRead}
 use Rattle.con_readers.specs.declared.open.OpenRead.TheVariants as reads
+use Rattle.con_readers.proofs.OneRecord.{pressed_so}
 
 -- the serving of a read after one step
 on_from : Option Act → Served → Served
@@ -25,11 +28,12 @@ on_from (Some a) s = record s { acts = a ∷ s.acts }
 Begins : ℕ → List AliasList → Took → Served → Type 0
 Begins p al t whole = (a : Act) × ((t.act ≡ Some a) × (whole ≡ on_from (Some a) (served p al t.read t.records t.histories)))
 
-line-step : (p : ℕ) (al : List AliasList) (line line' : Cooked) (rs : List Record) (hs : Histories) (g : Progress) → Begins p al (took_one p al line line' rs hs g) (served_on p al line line' rs hs (served_line p al line' rs hs) g)
+line-step : (p : ℕ) (al : List AliasList) (line line' : Cooked) (rs : List Record) (hs : Histories) (echo : Echo) (masked returned : Bool)
+    → Begins p al (took_one p al line line' rs hs (pressed_so masked returned echo)) (served_on p al line line' rs hs (served_line p al line' rs hs) masked returned)
 unfolding Begins served on_from
-line-step p al line line' rs hs (progress.Going echo) = (_, (refl, refl))
-line-step p al line line' rs hs (progress.Done echo) = (_, (refl, refl))
-line-step p al line line' rs hs progress.Woken = (_, (refl, refl))
+line-step p al line line' rs hs echo true returned = (_, (refl, refl))
+line-step p al line line' rs hs echo false true = (_, (refl, refl))
+line-step p al line line' rs hs echo false false = (_, (refl, refl))
 
 units-step : (p n : ℕ) (al : List AliasList) (rs : List Record) (hs : Histories) (us : List ℕ) → Begins p al (took_units p n rs hs us) (given_units p n rs hs us)
 unfolding Begins served on_from
@@ -39,7 +43,8 @@ units-step p n al rs hs (u ∷ us) = (_, (refl, refl))
 -- one read that is not done and was started: its serving begins with its next step
 served-step : (p : ℕ) (al : List AliasList) (read : OpenRead) (r : Record) (rs : List Record) (hs : Histories) → is_done read ≡ false → Begins p al (took p al read (r ∷ rs) hs) (served p al read (r ∷ rs) hs)
 unfolding served Begins on_from
-served-step p al (reads.Line line) r rs hs h = line-step p al line (line_after line r hs) rs hs (line_progress line r hs)
+served-step p al (reads.Line line) r rs hs h =
+    line-step p al line (line_after line r hs) rs hs (echo_between (line_of line).line (line_of (line_after line r hs)).line) (is_masked line.mask r) (is_return (key_of r))
 served-step p al (reads.Units n) r rs hs h = units-step p n al (r ∷ rs) hs (units_of n (r ∷ rs))
 served-step p al (reads.Records n) r rs hs h = (_, (refl, refl))
 served-step p al (reads.Done a) r rs hs h = cc

@@ -1,7 +1,6 @@
 -- What a caller is told of a step.
-use Rattle.std.proofs.Common.{◌≡◌, ℕ, ◌≤◌, List, length, refl, sym, ap, ◌∙◌, subst, Option, Some, None}
+use Rattle.std.proofs.Common.{◌≡◌, ℕ, ◌≤◌, List, length, refl, sym, ap, subst, Option, Some, None}
 use Rattle.con_cooked.specs.declared.cooked.Cooked.{Cooked}
-use Rattle.con_cooked.specs.declared.progress.Echo.{Echo}
 use Rattle.con_cooked.specs.Cooked.{line_of, echo_between}
 use Rattle.con_readers.specs.Act.{Act, began, typed, passed, ended, woke, told, IsOf, IsIn}
 use Rattle.con_readers.specs.Lines.{line_text}
@@ -10,7 +9,7 @@ use Rattle.con_readers.specs.declared.step.ReadStep.{ReadStep}
 told_is : (x : Option Act) → IsOf (told x) x
 told_is None = refl
 told_is (Some (began p)) = refl
-told_is (Some (typed p old new echo)) = (old, new, refl)
+told_is (Some (typed p old new)) = (old, new, refl, refl)
 told_is (Some (passed p)) = refl
 told_is (Some (ended p read n)) = (read, refl)
 told_is (Some (woke p line)) = (line, refl)
@@ -18,9 +17,9 @@ told_is (Some (woke p line)) = (line, refl)
 pub told_by : (s : ReadStep) (x : Option Act) → s ≡ told x → IsOf s x
 told_by s x e = subst (λ (t : ReadStep). IsOf t x) (sym e) (told_is x)
 
--- an echo is of what differs between two lines, and the text is the new one
+-- where a line took a record, the text is the new one's
 Shows : Option Act → List ℕ → Type 0
-Shows x text = (p : ℕ) (old new : Cooked) (echo : Echo) → x ≡ Some (typed p old new echo) → (echo ≡ echo_between (line_of old).line (line_of new).line) × (text ≡ line_text new)
+Shows x text = (p : ℕ) (old new : Cooked) → x ≡ Some (typed p old new) → text ≡ line_text new
 
 -- what differs ends where the new line does
 Ends : Type 0
@@ -30,18 +29,14 @@ told_in : (x : Option Act) (text : List ℕ) → Ends → Shows x text → IsIn 
 unfolding Ends Shows
 told_in None text ends shows = tt
 told_in (Some (began p)) text ends shows = tt
-told_in (Some (typed p old new echo)) text ends shows =
-    let both = shows p old new echo refl in
-    (subst (λ (e : Echo). e.offset ≤ e.end) (sym both.0) (ends old new), ap (λ (e : Echo). e.end) both.0 ∙ ap length (sym both.1))
+told_in (Some (typed p old new)) text ends shows = (ends old new, ap (λ (us : List ℕ). length us) (sym (shows p old new refl)))
 told_in (Some (passed p)) text ends shows = tt
 told_in (Some (ended p read n)) text ends shows = tt
 told_in (Some (woke p line)) text ends shows = tt
 
 pub in_text : (s : ReadStep) (x : Option Act) (text : List ℕ) → s ≡ told x
     → ((old new : Cooked) → (echo_between (line_of old).line (line_of new).line).offset ≤ (echo_between (line_of old).line (line_of new).line).end)
-    → ((p : ℕ) (old new : Cooked) (echo : Echo) → x ≡ Some (typed p old new echo) → echo ≡ echo_between (line_of old).line (line_of new).line)
-    → ((p : ℕ) (old new : Cooked) (echo : Echo) → x ≡ Some (typed p old new echo) → text ≡ line_text new)
+    → ((p : ℕ) (old new : Cooked) → x ≡ Some (typed p old new) → text ≡ line_text new)
     → IsIn s text
 unfolding Ends Shows
-in_text s x text e ends echoes texts =
-    subst (λ (t : ReadStep). IsIn t text) (sym e) (told_in x text ends (λ p old new echo h. (echoes p old new echo h, texts p old new echo h)))
+in_text s x text e ends texts = subst (λ (t : ReadStep). IsIn t text) (sym e) (told_in x text ends texts)

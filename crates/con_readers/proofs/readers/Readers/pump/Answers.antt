@@ -2,7 +2,6 @@
 use Rattle.con_readers.proofs.Settling.{settled-pumped}
 use Rattle.con_readers.proofs.Work.{pump_less}
 use Rattle.con_readers.proofs.Texts.{text_after}
-use Rattle.con_readers.proofs.Echoes.{echo_after}
 use Rattle.con_readers.proofs.readers.Readers.pump.Goals as goal
 
 pub returns-clause-settles : goal.returns-clause-settles
@@ -10,9 +9,6 @@ returns-clause-settles c = settled-pumped c.args.aliases.now.programs c.args.sel
 
 pub returns-clause-less : goal.returns-clause-less
 returns-clause-less c = pump_less c.args.aliases.now.programs c.args.self.now.reads c.args.records.now.items c.args.histories.now
-
-pub returns-clause-echo : goal.returns-clause-echo
-returns-clause-echo c = echo_after c.args.aliases.now.programs c.args.self.now.reads c.args.records.now.items c.args.histories.now
 
 pub returns-clause-text : goal.returns-clause-text
 returns-clause-text c = text_after c.args.aliases.now.programs c.args.self.now.reads c.args.records.now.items c.args.histories.now
