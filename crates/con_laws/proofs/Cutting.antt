@@ -6,6 +6,7 @@ use Rattle.std.proofs.lemmas.List.{map-append}
 use Rattle.std.proofs.lemmas.List.Sums.{fold-append}
 use Rattle.con_units.specs.Split.{Split, split_after}
 use Rattle.con_units.specs.SplitLaws.{split_after-append}
+use Rattle.con_units.specs.Units.{changed_at}
 use Rattle.con_units.specs.declared.code.Code.TheVariants as code
 use Rattle.con_alias.specs.Aliases.{AliasList}
 use Rattle.con_cooked.specs.declared.cooked.Cooked.{Cooked}
@@ -16,7 +17,7 @@ use Rattle.con_mouse.specs.declared.buttons.Buttons.{Buttons}
 use Rattle.con_mouse.specs.declared.report.Report.{Report}
 use Rattle.con_procs.specs.Procs.{ids_of, signalled}
 use Rattle.con_readers.specs.Act.{Act, began, typed, passed, ended, woke}
-use Rattle.con_readers.specs.Reads.{Settled, settled, all_closed, line_aborted, changed_at, failed, is_open_line}
+use Rattle.con_readers.specs.Reads.{Settled, settled, all_closed, line_aborted, failed, is_open_line}
 use Rattle.con_readers.specs.declared.open.Open.{Open}
 use Rattle.con_records.specs.declared.record.Key.{Key}
 use Rattle.con_records.specs.declared.record.Mouse.{Mouse}

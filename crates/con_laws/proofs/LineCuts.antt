@@ -3,6 +3,7 @@ use Rattle.std.proofs.Common.{◌≡◌, ℕ, zero, suc, Bool, true, false, List
 use Rattle.std.specs.Prelude.{fold, if◌then◌else◌}
 use Rattle.std.specs.List.{position_or_len}
 use Rattle.std.proofs.lemmas.List.Sums.{fold-append}
+use Rattle.con_units.specs.Units.{changed_at}
 use Rattle.con_units.specs.declared.code.Code.TheVariants as code
 use Rattle.con_alias.specs.Aliases.{AliasList}
 use Rattle.con_cooked.specs.Cooked.{is_return}
@@ -12,7 +13,7 @@ use Rattle.con_cooked.specs.declared.cooked.Cooked.{Cooked}
 use Rattle.con_history.specs.Histories.{LineHistories}
 use Rattle.con_readers.specs.Act.{Act, began, typed, passed, ended, woke}
 use Rattle.con_readers.specs.Lines.{line_after}
-use Rattle.con_readers.specs.Reads.{Settled, settled, first_acts, line_aborted, changed_at, failed, is_open_line}
+use Rattle.con_readers.specs.Reads.{Settled, settled, first_acts, line_aborted, failed, is_open_line}
 use Rattle.con_readers.specs.Serving.{Served, is_done, served, served_line, served_on}
 use Rattle.con_readers.specs.declared.open.Open.{Open}
 use Rattle.con_readers.specs.declared.open.OpenRead.{OpenRead}

@@ -3,11 +3,12 @@ use Rattle.std.proofs.Common.{◌≡◌, ◌==◌, ◌+◌, ◌||◌, ℕ, Bool,
 use Rattle.std.specs.List.{remove, position_or_len}
 use Rattle.std.proofs.lemmas.Bool.{or_parts, eqb-true, eq-eqb}
 use Rattle.std.proofs.lemmas.List.Sums.{fold-append}
+use Rattle.con_units.specs.Units.{changed_at}
 use Rattle.con_units.specs.declared.code.Code.TheVariants as code
 use Rattle.con_alias.specs.Aliases.{AliasList}
 use Rattle.con_history.specs.Histories.{LineHistories}
 use Rattle.con_readers.specs.Pieces.{front}
-use Rattle.con_readers.specs.Reads.{settled, closed_one, all_closed, changed_at, failed, line_aborted, is_open_line, is_open, place_of, without, begun}
+use Rattle.con_readers.specs.Reads.{settled, closed_one, all_closed, failed, line_aborted, is_open_line, is_open, place_of, without, begun}
 use Rattle.con_readers.specs.Serving.{is_done, is_line, served}
 use Rattle.con_readers.specs.declared.answer.Answer.TheVariants as answers
 use Rattle.con_readers.specs.declared.open.Open.{Open}

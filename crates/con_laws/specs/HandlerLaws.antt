@@ -2,6 +2,7 @@
 use Rattle.std.proofs.Common.{◌≡◌, ◌≢◌, ℕ, zero, suc, ◌-◌, arith, sym, subst, eq-eqb, Bool, true, false, List, [], ◌∷◌, Option, Some, None, refl, ap, ◌∙◌}
 use Rattle.std.specs.Prelude.{if◌then◌else◌, ◌||◌, ◌&&◌, ◌==◌, ◌++◌, nat_le, not, slice_get, slice_set, drop}
 use Rattle.std.proofs.lemmas.Bool.Decides.{nat_tests}
+use Rattle.con_units.specs.Units.{changed_at}
 use Rattle.con_units.specs.declared.code.Code.{Code}
 use Rattle.con_units.specs.declared.code.Code.TheVariants as code
 use Rattle.con_events.specs.declared.actor.Actor.{Actor}
@@ -12,7 +13,7 @@ use Rattle.con_events.specs.declared.entry.Entry.{Entry}
 use Rattle.con_events.specs.declared.event.Event.{Event}
 use Rattle.con_events.specs.declared.event.Event.TheVariants as events
 use Rattle.con_events.specs.declared.reply.Reply.{Reply}
-use Rattle.con_procs.specs.Procs.{changed_at, rack_in, place_in, is_fresh, granted, placed, add_answer, handler_added}
+use Rattle.con_procs.specs.Procs.{rack_in, place_in, is_fresh, granted, placed, add_answer, handler_added}
 use Rattle.con_procs.specs.declared.proc.Proc.{Proc}
 use Rattle.con_procs.specs.declared.rack.Place.{Place}
 use Rattle.con_procs.specs.declared.rack.Place.TheVariants as place

@@ -5,6 +5,7 @@ use Rattle.std.specs.Prelude.{if◌then◌else◌, ◌||◌, ◌&&◌, ◌==◌,
 use Rattle.std.specs.List.{remove}
 use Rattle.std.proofs.lemmas.Bool.{eq-eqb}
 use Rattle.std.proofs.lemmas.Bool.Decides.{nat_tests}
+use Rattle.con_units.specs.Units.{changed_at}
 use Rattle.con_units.specs.declared.code.Code.TheVariants as code
 use Rattle.con_events.specs.declared.actor.Actor.{Actor}
 use Rattle.con_events.specs.declared.actor.Actor.TheVariants as actors
@@ -13,7 +14,7 @@ use Rattle.con_events.specs.declared.event.Event.{Event}
 use Rattle.con_events.specs.declared.event.Event.TheVariants as events
 use Rattle.con_events.specs.declared.event.Wanted.{Wanted}
 use Rattle.con_procs.specs.AttachedLaws.{attached_laws}
-use Rattle.con_procs.specs.Procs.{is_attached, changed, changed_at, first_pending, pending_in, proc_of}
+use Rattle.con_procs.specs.Procs.{is_attached, changed, first_pending, pending_in, proc_of}
 use Rattle.con_procs.specs.declared.proc.Proc.{Proc}
 use Rattle.con_readers.specs.Distinct.{processes_in, times_in}
 use Rattle.con_readers.specs.Reads.{is_open, without, place_of, begun}

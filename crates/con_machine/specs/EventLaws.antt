@@ -3,6 +3,7 @@ use Rattle.std.proofs.Common.{◌≡◌, ℕ, zero, suc, Bool, true, false, List
 use Rattle.std.specs.Prelude.{if◌then◌else◌, fold, ◌&&◌, ◌||◌, ◌==◌, nat_lt, nat_le, not, length, filter, is_some, slice_get}
 use Rattle.std.specs.List.{remove, position_or_len}
 use Rattle.con_units.specs.Split.{split_after}
+use Rattle.con_units.specs.Units.{changed_at}
 use Rattle.con_units.specs.declared.code.Code.{Code}
 use Rattle.con_units.specs.declared.code.Code.TheVariants as code
 use Rattle.con_units.specs.declared.view.View.{View}
@@ -35,7 +36,6 @@ use Rattle.con_readers.specs.Act.{Act, began as started, typed, passed, ended, w
 use Rattle.con_readers.specs.Distinct.{processes_in, times_in}
 use Rattle.con_readers.specs.Lines.{line_text}
 use Rattle.con_readers.specs.Reads.{settled, is_open, is_open_line, line_aborted, all_closed, failed, without, place_of, begun, answer_in}
-use Rattle.con_readers.specs.Reads as readers
 use Rattle.con_readers.specs.Serving.{is_done}
 use Rattle.con_readers.specs.declared.answer.Answer.{Answer}
 use Rattle.con_readers.specs.declared.answer.Answer.TheVariants as answers
@@ -93,7 +93,7 @@ closed_done : (os : List Open) → AreDone (all_closed os)
 closed_done [] = tt
 closed_done (o ∷ os) = (closed_is o (is_done o.read) refl, closed_done os)
 
-aborted_done : (os : List Open) (k : ℕ) → AreDone os → AreDone (readers.changed_at (failed code.Aborted) os k)
+aborted_done : (os : List Open) (k : ℕ) → AreDone os → AreDone (changed_at (failed code.Aborted) os k)
 aborted_done [] k d = tt
 aborted_done (o ∷ os) zero d = (refl, d.1)
 aborted_done (o ∷ os) (suc k) d = (d.0, aborted_done os k d.1)

@@ -2,9 +2,10 @@
 use Rattle.std.proofs.Common.{◌≡◌, ℕ, zero, suc, ◌-◌, Bool, true, false, List, [], ◌∷◌, ◌++◌, Option, None, refl, ap, ◌∙◌}
 use Rattle.std.specs.Prelude.{if◌then◌else◌, ◌==◌, nat_lt, length, take, map, is_some, slice_get, slice_set}
 use Rattle.std.proofs.lemmas.List.{length-map}
+use Rattle.con_units.specs.Units.{changed_at}
 use Rattle.con_procs.specs.AttachedLaws.{KeepsLive, attached_laws}
 use Rattle.con_procs.specs.Pending.{pended}
-use Rattle.con_procs.specs.Procs.{is_attached, signalled, told, reaches, changed, changed_at, first_pending, pending_in, rack_in, place_in, is_chained}
+use Rattle.con_procs.specs.Procs.{is_attached, signalled, told, reaches, changed, first_pending, pending_in, rack_in, place_in, is_chained}
 use Rattle.con_procs.specs.Procs.{placed, handler_removed}
 use Rattle.con_procs.specs.declared.proc.Proc.{Proc}
 use Rattle.con_procs.specs.declared.rack.Place.{Place}

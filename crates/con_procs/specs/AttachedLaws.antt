@@ -2,8 +2,9 @@
 use Rattle.std.proofs.Common.{◌≡◌, ◌≢◌, ℕ, zero, suc, ◌-◌, ◌<◌, ◌≤◌, Bool, true, false, cond, List, [], ◌∷◌, Some, refl, ap, arith}
 use Rattle.std.specs.Prelude.{◌==◌, ◌&&◌, not, map, slice_get, nat_lt}
 use Rattle.std.proofs.lemmas.Bool.Decides.{nat_tests}
+use Rattle.con_units.specs.Units.{changed_at}
 use Rattle.con_procs.specs.declared.proc.Proc.{Proc}
-use Rattle.con_procs.specs.Procs.{is_live, live_in, is_attached, signalled, told, reaches, changed, changed_at, exited}
+use Rattle.con_procs.specs.Procs.{is_live, live_in, is_attached, signalled, told, reaches, changed, exited}
 
 -- a change that leaves a process as attached as it was
 abbrev pub KeepsLive : (Proc → Proc) → Type 0

@@ -1,7 +1,8 @@
 -- The processes, the first of which has the number 1.
-use Rattle.std.specs.Prelude.{ℕ, zero, suc, ◌+◌, ◌-◌, ◌==◌, ◌&&◌, ◌||◌, Bool, true, false, not, List, [], ◌∷◌, Option, Some, None, Result, Ok, Err, option_and_then, drop, map, nat_lt, slice_get, slice_set, if◌then◌else◌, is_some, replicate}
+use Rattle.std.specs.Prelude.{ℕ, ◌+◌, ◌-◌, ◌==◌, ◌&&◌, ◌||◌, Bool, true, false, not, List, [], ◌∷◌, Option, Some, None, Result, Ok, Err, option_and_then, drop, map, nat_lt, slice_get, slice_set, if◌then◌else◌, is_some, replicate}
 use Rattle.std.specs.List.{list_any}
 use Rattle.std.specs.Option.{option_map_or}
+use Rattle.con_units.specs.Units.{changed_at}
 use Rattle.con_units.specs.declared.code.Code.{Code}
 use Rattle.con_units.specs.declared.code.Code.TheVariants as code
 use Rattle.con_procs.specs.Pending.{pended}
@@ -53,11 +54,6 @@ reaches event group p =
 -- each process that is reached has the event pending, after those that it had
 abbrev pub signalled : List Proc → ℕ → ℕ → List Proc
 signalled ps event group = map {A = Proc} (λ p. if reaches event group p then record p { pending = pended p.pending event } else p) ps
-
-abbrev pub changed_at : (Proc → Proc) → List Proc → ℕ → List Proc
-changed_at f [] k = []
-changed_at f (p ∷ ps) zero = f p ∷ ps
-changed_at f (p ∷ ps) (suc k) = p ∷ changed_at f ps k
 
 -- the process of this number, if there is one, is changed
 abbrev pub changed : (Proc → Proc) → List Proc → ℕ → List Proc

@@ -2,12 +2,13 @@
 use Rattle.std.proofs.Common.{◌≡◌, ◌==◌, ◌+◌, ◌≤◌, ◌||◌, ℕ, Bool, true, false, cond, List, [], ◌∷◌, ◌++◌, zero, suc, refl, ap, ◌∙◌, sym, arith}
 use Rattle.std.specs.List.{remove, position_or_len}
 use Rattle.std.proofs.lemmas.Bool.{eqb-true}
+use Rattle.con_units.specs.Units.{changed_at}
 use Rattle.con_units.specs.declared.code.Code.TheVariants as code
 use Rattle.con_records.specs.declared.record.Record.{Record}
 use Rattle.con_history.specs.declared.histories.Histories.{Histories}
 use Rattle.con_alias.specs.Aliases.{AliasList}
 use Rattle.con_readers.specs.Serving.{is_done, served}
-use Rattle.con_readers.specs.Reads.{pumped, moved, settled, closed_one, all_closed, changed_at, failed, line_aborted, is_open_line, is_open, place_of, without, begun}
+use Rattle.con_readers.specs.Reads.{pumped, moved, settled, closed_one, all_closed, failed, line_aborted, is_open_line, is_open, place_of, without, begun}
 use Rattle.con_readers.specs.Distinct.{processes_in, times_in, AreDistinct}
 use Rattle.con_readers.specs.declared.open.Open.{Open}
 use Rattle.con_readers.specs.declared.open.OpenRead.{OpenRead}

@@ -4,7 +4,7 @@ use Rattle.std.specs.Prelude.{slice_index_or, cond}
 use Rattle.std.specs.List.{position, position_or_len}
 use Rattle.std.proofs.lemmas.List.Sums.{prefix_len-le-length}
 use Rattle.std.proofs.lemmas.Bool.Decides.{nat_tests}
-use Rattle.con_readers.specs.Reads.{changed_at}
+use Rattle.con_units.specs.Units.{changed_at}
 use Rattle.con_readers.specs.declared.open.Open.{Open}
 use Rattle.std.specs.Prelude.{not}
 

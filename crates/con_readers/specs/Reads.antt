@@ -2,6 +2,7 @@
 use Rattle.std.specs.Prelude.{ℕ, zero, suc, ◌+◌, ◌==◌, ◌&&◌, Bool, true, false, not, List, [], ◌∷◌, ◌++◌, length, map, slice_get, if◌then◌else◌, Option, Some, None}
 use Rattle.std.specs.List.{list_any, remove, position_or_len}
 use Rattle.std.specs.Option.{option_map_or}
+use Rattle.con_units.specs.Units.{changed_at}
 use Rattle.con_units.specs.declared.code.Code.{Code}
 use Rattle.con_units.specs.declared.code.Code.TheVariants as code
 use Rattle.con_records.specs.declared.record.Record.{Record}
@@ -70,11 +71,6 @@ failed why o = record o { read = reads.Done (answers.Fail why) }
 -- each read that is not done ends, since the console closes
 abbrev pub all_closed : List Open → List Open
 all_closed os = map (λ o. if is_done o.read then o else failed code.Closed o) os
-
-abbrev pub changed_at : (Open → Open) → List Open → ℕ → List Open
-changed_at f [] k = []
-changed_at f (o ∷ os) zero = f o ∷ os
-changed_at f (o ∷ os) (suc k) = o ∷ changed_at f os k
 
 -- the first line read that is not done ends by ctrl+C
 abbrev pub line_aborted : List Open → List Open

@@ -1,7 +1,8 @@
 -- The first line read, or none.
 use Rattle.std.proofs.Common.{◌∙◌, sym, ap, slice_set, ℕ}
+use Rattle.con_units.specs.Units.{changed_at}
 use Rattle.con_units.specs.declared.code.Code.TheVariants as code
-use Rattle.con_readers.specs.Reads.{changed_at, failed}
+use Rattle.con_readers.specs.Reads.{failed}
 use Rattle.con_readers.specs.declared.open.Open.{Open}
 use Rattle.con_readers.proofs.Places.{set_changed, changed_past}
 use Rattle.con_readers.proofs.readers.abort_first_line.Goals as goal
