@@ -1,6 +1,8 @@
 -- What one entry does to the open reads, and who takes records in it.
-use Rattle.std.proofs.Common.{◌≡◌, ◌==◌, ◌||◌, ℕ, Bool, true, false, List, [], ◌∷◌, ◌++◌, refl, ap, sym, subst, Option, None, Some, Result, Ok, Err, ◌∙◌}
-use Rattle.std.specs.Prelude.{nat_lt, if◌then◌else◌}
+use Rattle.std.proofs.Common.{◌≡◌, ◌==◌, ◌||◌, ℕ, Bool, true, false, List, [], ◌∷◌, ◌++◌, refl, ap, sym, subst, true≢false, Option, None, Some, Result, Ok, Err, ◌∙◌}
+use Rattle.std.specs.Prelude.{nat_lt, option_map, if◌then◌else◌}
+use Rattle.std.specs.List.{find}
+use Rattle.std.proofs.lemmas.Bool.{or_parts, eq-eqb}
 use Rattle.con_units.specs.declared.code.Code.{Code}
 use Rattle.con_units.specs.declared.code.Code.TheVariants as code
 use Rattle.con_events.specs.declared.actor.Actor.{Actor}
@@ -14,6 +16,7 @@ use Rattle.con_handles.specs.declared.handle.Kind.TheVariants as kind
 use Rattle.con_handles.specs.declared.handle.Object.{Object}
 use Rattle.con_readers.specs.Reads.{begun, is_open}
 use Rattle.con_readers.specs.declared.answer.Answer.TheVariants as answers
+use Rattle.con_readers.specs.declared.open.Open.{Open}
 use Rattle.con_readers.specs.declared.open.OpenRead.{OpenRead}
 use Rattle.con_readers.specs.declared.open.OpenRead.TheVariants as reads
 use Rattle.con_machine.specs.State.{State, noted_of, rest_in}
@@ -22,7 +25,7 @@ use Rattle.con_machine.specs.Client.{is_fail}
 use Rattle.con_machine.specs.Reads.{began, began_line, began_units, answered_with, rest_answered, line_begun, with_read, front_of, first_note, is_empty, history_used, read_answer, records_answer, is_no_initial, line_opened, line_read, units_read}
 use Rattle.con_machine.specs.Step.{effect, step, is_outside, client_of, finished}
 use Rattle.con_laws.specs.Walks.{Begin, Begins, begin_at, begin_or, begun_by, effect_pieces, end_pieces, step_pieces}
-use Rattle.con_laws.specs.Answers.{opens, opens_text}
+use Rattle.con_laws.specs.Answers.{read_opened, opens, opens_text}
 use Rattle.con_laws.proofs.Served.{UnitsPiece, IsProper}
 use Rattle.con_laws.proofs.Woken.{NoteTold, told_of, behind_own, behind_other}
 use Rattle.con_machine.specs.declared.reads.noted.Noted.{Noted}
@@ -135,6 +138,23 @@ begin_is s p (wanted.ReadWith h n initial mask) = begin_by s p (opens_text s p h
 begin_is s p (wanted.ReadInput h n) = begin_by s p (reads.Records n) None (records_answer s p h n) (with_read s p (reads.Records n))
     (λ u e. plain_begun s p (reads.Records n) (with_read s p (reads.Records n)) (none_of (guard s p h kind.Input 1) (is_open s.reads p) (n == 0) (nat_lt 1024 n) u e) refl (some_of (guard s p h kind.Input 1) (is_open s.reads p) (n == 0) (nat_lt 1024 n) u e) refl)
 
+-- ---- the read that it opens
+
+found_last : (os : List Open) (p : ℕ) (read : OpenRead) → is_open os p ≡ false → find (λ o. o.process == p) (os ++ begun p read ∷ []) ≡ Some (begun p read)
+found_last [] p read none = rw (eq-eqb p p refl) refl
+found_last (o ∷ os) p read none = let parts = or_parts (o.process == p) (is_open os p) none in rw parts.0 (found_last os p read parts.1)
+
+opened_by : (s : State) (p : ℕ) (read : OpenRead) (told : Option NoteTold) (t : State) (fail : Bool) → fail ≡ false → BeginsBy fail s p read told t
+    → option_map (λ (o : Open). o.read) (find (λ (o : Open). o.process == p) t.reads) ≡ Some read
+unfolding BeginsBy
+opened_by s p read told t true e is = absurd (true≢false e)
+opened_by s p read told t false e is =
+    ap (λ (os : List Open). option_map (λ (o : Open). o.read) (find (λ (o : Open). o.process == p) os)) is.reads
+    ∙ ap (λ (o : Option Open). option_map (λ (x : Open). x.read) o) (found_last s.reads p read is.none)
+
+began_opens : (s : State) (p : ℕ) (w : Wanted) → is_fail (began s p w).reply ≡ false → read_opened s p w ≡ Some (opens s p w)
+began_opens s p w done = opened_by s p (opens s p w) (opens_note s p w) (began s p w).after (is_fail (began s p w).reply) done (begin_is s p w)
+
 -- ---- the last Begins after an entry
 
 unfoldable pub after_begin : Option Begin → ℕ → Begins → Begins
@@ -167,6 +187,20 @@ outside_none place s x out = rw out refl
 inside_reply : (s : State) (x : Entry) → is_outside s x.actor x.event ≡ false → (step s x.actor x.event).reply ≡ (effect s (client_of x.actor) x.event).reply
 unfolding step
 inside_reply s x out = rw out refl
+
+outside_fails : (s : State) (a : Actor) (e : Event) → is_outside s a e ≡ true → is_fail (step s a e).reply ≡ true
+unfolding step
+outside_fails s a e out = rw out refl
+
+opens_by : (s : State) (a : Actor) (w : Wanted) (out : Bool) → is_outside s a (events.Begin w) ≡ out → is_fail (step s a (events.Begin w)).reply ≡ false
+    → read_opened s (client_of a) w ≡ Some (opens s (client_of a) w)
+unfolding effect entry
+opens_by s a w true out done = absurd (true≢false (sym (outside_fails s a (events.Begin w) out) ∙ done))
+opens_by s a w false out done = began_opens s (client_of a) w (ap is_fail (sym (inside_reply s (entry a (events.Begin w)) out)) ∙ done)
+
+-- what the entry of a Begin that was not refused opens
+pub step_opens : (s : State) (a : Actor) (w : Wanted) → is_fail (step s a (events.Begin w)).reply ≡ false → read_opened s (client_of a) w ≡ Some (opens s (client_of a) w)
+step_opens s a w done = opens_by s a w (is_outside s a (events.Begin w)) refl done
 
 -- from this console on, with these last Begins
 unfoldable pub EntryGoes : Begins → ℕ → State → Entry → State → Type 0

@@ -9,6 +9,7 @@ pub mod Acts
 pub mod Takes
 pub mod Entries
 pub mod Fated
+pub mod Opened
 pub mod Peeked
 pub mod Caused
 pub mod Texted

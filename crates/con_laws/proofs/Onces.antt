@@ -17,7 +17,7 @@ use Rattle.con_readers.specs.Reads.{settled, has_done}
 use Rattle.con_readers.specs.declared.open.Open.{Open}
 use Rattle.con_records.specs.declared.record.Record.{Record}
 use Rattle.con_machine.specs.State.{State, rest_in}
-use Rattle.con_laws.specs.Answers.{opens, EndsSo}
+use Rattle.con_laws.specs.Answers.{read_opened, opens, EndsSo}
 use Rattle.con_laws.specs.AnswerWalks.{console_before, was_interrupted, was_cut_off, is_aborted, is_closed}
 use Rattle.con_laws.specs.Fates.{Taker, Begun, Interrupted, CutOff, Piece, done_for}
 use Rattle.con_laws.specs.Fates as now
@@ -36,6 +36,7 @@ use Rattle.con_laws.proofs.Fating.{arrived_same, pieces_same, fate_same, fated_s
 use Rattle.con_laws.proofs.Remaining.{left_so, text_so, aborted_so, closed_so}
 use Rattle.con_laws.proofs.Idling.{peek_leaves, begins_settled}
 use Rattle.con_laws.proofs.Rested.{left_once}
+use Rattle.con_laws.proofs.Opened.{last_opened}
 
 -- a client collects its read
 abbrev collect : ℕ → Entry
@@ -89,15 +90,22 @@ answers_so laws s h before later p place hd n at =
     subst Q (fated_so laws s h (Begun place)) (subst P (sym at.is)
     (laws.records s before later p (begin_of place (wanted.ReadInput hd n)) (last_so s h before later p place (wanted.ReadInput hd n) at) refl at.attached at.done))
 
+opened_so : (s : State) (h before later : List Entry) (p place : ℕ) (w : Wanted) → Collects s h before later p place w
+    → read_opened (run s (take place h)) p w ≡ Some (opens (run s (take place h)) p w)
+opened_so s h before later p place w at =
+    let P : List Entry → Type 0 = λ all. read_opened (run s (take place all)) p w ≡ Some (opens (run s (take place all)) p w) in
+    subst P (sym at.is) (last_opened s before (collect p ∷ later) p (begin_of place w) (last_so s h before later p place w at))
+
 texts_so : Laws → (s : State) (h : List Entry) → s.noted ≡ [] → (before later : List Entry) (p place : ℕ) (w : Wanted) (units : List ℕ) → Collects s h before later p place w
     → (step (run s before) (actors.Client p) events.Collect).reply ≡ replies.Units units
-    → texts.AnswersText (opens (run s (take place h)) p w) (asked_for w) (done_for (Begun place) (now.pieces s h)) (now.fated s h (Begun place)) units
+    → texts.AnswersText (read_opened (run s (take place h)) p w) (asked_for w) (done_for (Begun place) (now.pieces s h)) (now.fated s h (Begun place)) units
 texts_so laws s h unnoted before later p place w units at told =
     let b : Begin = begin_of place w in
     let P : List Entry → Type 0 = λ all. AnswersText (opens (console_before s all place) p w) (asked_for w) (done_for (Begun place) (pieces s all)) (fated s all (Begun place)) units in
     let Q : List Piece → Type 0 = λ ps. AnswersText (opens (console_before s h place) p w) (asked_for w) (done_for (Begun place) ps) (fated s h (Begun place)) units in
     let R : List Record → Type 0 = λ rs. AnswersText (opens (console_before s h place) p w) (asked_for w) (done_for (Begun place) (now.pieces s h)) rs units in
-    text_so (opens (run s (take place h)) p w) (asked_for w) (done_for (Begun place) (now.pieces s h)) (now.fated s h (Begun place)) units
+    text_so (read_opened (run s (take place h)) p w) (opens (run s (take place h)) p w) (asked_for w) (done_for (Begun place) (now.pieces s h)) (now.fated s h (Begun place)) units
+    (opened_so s h before later p place w at)
     (subst R (fated_so laws s h (Begun place)) (subst Q (sym (pieces_same s h)) (subst P (sym at.is)
     (laws.texts s before later p b units unnoted (last_so s h before later p place w at) at.attached at.done told))))
 

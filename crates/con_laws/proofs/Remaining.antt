@@ -1,5 +1,5 @@
 -- What is promised of what is left of a line, of a read's text, and of why it fails, is what the proofs walk.
-use Rattle.std.proofs.Common.{◌≡◌, ℕ, Bool, List, [], ◌∷◌, ◌++◌, true, false, refl, ap, ◌∙◌, sym, map, Option, Some, None, arith}
+use Rattle.std.proofs.Common.{◌≡◌, ℕ, Bool, List, [], ◌∷◌, ◌++◌, true, false, refl, ap, ◌∙◌, sym, subst, map, Option, Some, None, arith}
 use Rattle.std.specs.Prelude.{◌==◌, ◌&&◌, ◌||◌, not, option_map, if◌then◌else◌}
 use Rattle.std.specs.List.{Any, list_any, flat_map}
 use Rattle.std.specs.Option.{option_map_or}
@@ -9,6 +9,7 @@ use Rattle.con_units.specs.declared.code.Code.{Code}
 use Rattle.con_units.specs.declared.code.Code.TheVariants as code
 use Rattle.con_cooked.specs.Cooked.{Moment}
 use Rattle.con_cooked.specs.declared.cooked.Cooked.{Cooked}
+use Rattle.con_events.specs.declared.actor.Actor.{Actor}
 use Rattle.con_events.specs.declared.call.Call.{Call}
 use Rattle.con_events.specs.declared.call.Call.TheVariants as calls
 use Rattle.con_events.specs.declared.entry.Entry.{Entry}
@@ -27,7 +28,7 @@ use Rattle.con_machine.specs.Step.{step, client_of}
 use Rattle.con_machine.specs.Turns.{moved}
 use Rattle.con_machine.specs.Client.{is_fail}
 use Rattle.con_machine.specs.declared.reads.noted.Noted.{Noted}
-use Rattle.con_laws.specs.Answers.{opens, EndsSo}
+use Rattle.con_laws.specs.Answers.{read_opened, opens, EndsSo}
 use Rattle.con_laws.specs.AnswerWalks.{is_interruption, is_cut, was_interrupted, was_cut_off, is_aborted, is_closed}
 use Rattle.con_laws.specs.Fates.{Taker, How, Interrupted, CutOff, Piece, done_for}
 use Rattle.con_laws.specs.Left.{LineLeaves}
@@ -38,13 +39,14 @@ use Rattle.con_laws.specs.Rested as walked
 use Rattle.con_laws.specs.Texts.{lines_at}
 use Rattle.con_laws.specs.Texts as texts
 use Rattle.con_laws.specs.TextWalks.{presses_of, aliases_after, AnswersLine, AnswersText}
+use Rattle.con_laws.proofs.Entries.{step_opens}
 
 -- ---- what is left of a line
 
 same_number : (a b : ℕ) → (a == b) ≡ true → a ≡ b
 same_number a b e = grind (arith, nat_tests)
 
-once_same : (r : OpenRead) → walked.at_once r ≡ at_once r
+once_same : (r : OpenRead) → walked.at_once r ≡ at_once (Some r)
 once_same (reads.Done (answers.Units units)) = refl
 once_same (reads.Done (answers.Records records)) = refl
 once_same (reads.Done (answers.Fail why)) = refl
@@ -52,19 +54,28 @@ once_same (reads.Line line) = refl
 once_same (reads.Units n) = refl
 once_same (reads.Records n) = refl
 
--- of an event of client c, where c is p or not
-takes_same : (s : State) (c p hd : ℕ) (e : Event) (reply : Reply) → takes s c p hd e reply ≡ (if c == p then now.takes p hd s e reply else [])
-takes_same s c p hd (events.Begin w) reply = by (c == p) refl
+-- of an event of a client, which is p or not
+takes_same : (s : State) (a : Actor) (p hd : ℕ) (e : Event)
+    → takes s (client_of a) p hd e (step s a e).reply ≡ (if client_of a == p then now.takes p hd s e (step s a e).reply else [])
+takes_same s a p hd (events.Begin w) = by (client_of a == p) (is_fail (step s a (events.Begin w)).reply) refl refl
   where
     test : (b : Bool) (xs ys : List ℕ) → xs ≡ ys → (if b then xs else []) ≡ (if b then ys else [])
     test true xs ys e = e
     test false xs ys e = refl
 
-    by : (b : Bool) → (c == p) ≡ b → (if b && ((handle_of w == hd) && not (is_fail reply)) then walked.at_once (opens s c w) else [])
-        ≡ (if b then (if (handle_of w == hd) && not (is_fail reply) then at_once (opens s p w) else []) else [])
-    by true is = test ((handle_of w == hd) && not (is_fail reply)) _ _ (once_same (opens s c w) ∙ ap (λ (q : ℕ). at_once (opens s q w)) (same_number c p is))
-    by false is = refl
-takes_same s c p hd e reply = by (c == p)
+    never : (b : Bool) (xs ys : List ℕ) → (if b && false then xs else []) ≡ (if b && false then ys else [])
+    never true xs ys = refl
+    never false xs ys = refl
+
+    by : (b fail : Bool) → (client_of a == p) ≡ b → is_fail (step s a (events.Begin w)).reply ≡ fail
+        → (if b && ((handle_of w == hd) && not fail) then walked.at_once (opens s (client_of a) w) else [])
+        ≡ (if b then (if (handle_of w == hd) && not fail then at_once (read_opened s p w) else []) else [])
+    by true true is fails = never (handle_of w == hd) (walked.at_once (opens s (client_of a) w)) (at_once (read_opened s p w))
+    by true false is done = test ((handle_of w == hd) && true) (walked.at_once (opens s (client_of a) w)) (at_once (read_opened s p w))
+        (once_same (opens s (client_of a) w) ∙ (ap (λ (o : Option OpenRead). at_once o) (sym (step_opens s a w done))
+        ∙ ap (λ (q : ℕ). at_once (read_opened s q w)) (same_number (client_of a) p is)))
+    by false fail is fails = refl
+takes_same s a p hd e = by (client_of a == p)
   where
     by : (b : Bool) → ◌≡◌ {A = List ℕ} [] (if b then [] else [])
     by true = refl
@@ -74,7 +85,7 @@ all_takes : (s : State) (p hd : ℕ) (h : List Entry) → takes_in s p hd h ≡ 
 unfolding own
 all_takes s p hd [] = refl
 all_takes s p hd (x ∷ xs) =
-    ap (λ (us : List ℕ). us ++ takes_in (moved s x) p hd xs) (takes_same s (client_of x.actor) p hd x.event (step s x.actor x.event).reply)
+    ap (λ (us : List ℕ). us ++ takes_in (moved s x) p hd xs) (takes_same s x.actor p hd x.event)
     ∙ (ap (λ (us : List ℕ). (if client_of x.actor == p then now.takes p hd s x.event (step s x.actor x.event).reply else []) ++ us) (all_takes (moved s x) p hd xs)
     ∙ by (client_of x.actor == p))
   where
@@ -178,11 +189,14 @@ line_so line n ps rs us k = record {
   told = k.told;
 }
 
-pub text_so : (r : OpenRead) (n : ℕ) (ps : List Piece) (rs : List Record) (us : List ℕ) → AnswersText r n ps rs us → texts.AnswersText r n ps rs us
-text_so (reads.Line line) n ps rs us k = line_so line n ps rs us k
-text_so (reads.Units m) n ps rs us k = k
-text_so (reads.Done (answers.Units units)) n ps rs us k = k
-text_so r n ps rs us k = absurd k
+text_of : (r : OpenRead) (n : ℕ) (ps : List Piece) (rs : List Record) (us : List ℕ) → AnswersText r n ps rs us → texts.AnswersText (Some r) n ps rs us
+text_of (reads.Line line) n ps rs us k = line_so line n ps rs us k
+text_of (reads.Units m) n ps rs us k = k
+text_of (reads.Done (answers.Units units)) n ps rs us k = k
+text_of r n ps rs us k = absurd k
+
+pub text_so : (o : Option OpenRead) (r : OpenRead) (n : ℕ) (ps : List Piece) (rs : List Record) (us : List ℕ) → o ≡ Some r → AnswersText r n ps rs us → texts.AnswersText o n ps rs us
+text_so o r n ps rs us is k = subst (λ (x : Option OpenRead). texts.AnswersText x n ps rs us) (sym is) (text_of r n ps rs us k)
 
 -- ---- why a read fails
 

@@ -15,7 +15,7 @@ use Rattle.con_units.specs.declared.code.Code.TheVariants as code
 use Rattle.con_events.specs.declared.call.Call.TheVariants as calls
 use Rattle.con_events.specs.declared.event.Wanted.{Wanted}
 use Rattle.con_events.specs.declared.event.Wanted.TheVariants as wanted
-use Rattle.con_laws.specs.Answers.{opens, EndsSo}
+use Rattle.con_laws.specs.Answers.{read_opened, EndsSo}
 use Rattle.con_laws.specs.Remains.{IsLeft}
 use Rattle.con_laws.specs.Texts.{AnswersText, asked_for}
 use Rattle.con_laws.specs.Fates.{Taker, Begun, Earlier, Interrupted, CutOff, arrived, pieces, done_for, fate, fated, readers_from}
@@ -46,7 +46,7 @@ pub record TakenOnce (s : State) (h : List Entry) : Type 0 where
   -- they come from what was left of a line, or it asked for none, and then it took no record
   pub texts : (before later : List Entry) (p place : ℕ) (w : Wanted) (units : List ℕ) → Collects s h before later p place w
       → (step (run s before) (actors.Client p) events.Collect).reply ≡ replies.Units units
-      → AnswersText (opens (run s (take place h)) p w) (asked_for w) (done_for (Begun place) (pieces s h)) (fated s h (Begun place)) units
+      → AnswersText (read_opened (run s (take place h)) p w) (asked_for w) (done_for (Begun place) (pieces s h)) (fated s h (Begun place)) units
   -- a read answers that ctrl+C ended it (ERROR_OPERATION_ABORTED, 995) exactly where ctrl+C was signalled to all while it was the first line read that was not
   -- done, and that the console closed (ERROR_BROKEN_PIPE, 109) exactly where it closed while the read was not done
   pub failed : (before later : List Entry) (p place : ℕ) (w : Wanted) → Collects s h before later p place w

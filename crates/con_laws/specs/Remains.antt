@@ -1,5 +1,5 @@
 -- What is left of a line for further reads of a handle: whose it is, and that each unit of it is answered once.
-use Rattle.std.specs.Prelude.{flat_map, option_map, slice_get, ◌≡◌, ℕ, ◌==◌, ◌&&◌, Bool, false, not, List, [], ◌∷◌, ◌++◌, Some, if◌then◌else◌}
+use Rattle.std.specs.Prelude.{flat_map, option_map, slice_get, ◌≡◌, ℕ, ◌==◌, ◌&&◌, Bool, false, not, List, [], ◌∷◌, ◌++◌, Option, Some, if◌then◌else◌}
 use Rattle.std.specs.List.{list_any}
 use Rattle.std.specs.Option.{option_map_or}
 use Rattle.con_events.specs.declared.call.Call.TheVariants as calls
@@ -12,7 +12,7 @@ use Rattle.con_readers.specs.declared.answer.Answer.TheVariants as answers
 use Rattle.con_readers.specs.declared.open.OpenRead.{OpenRead}
 use Rattle.con_readers.specs.declared.open.OpenRead.TheVariants as reads
 use Rattle.con_machine.specs.State.{State, noted_of}
-use Rattle.con_laws.specs.Answers.{opens}
+use Rattle.con_laws.specs.Answers.{read_opened}
 use Rattle.con_machine.specs.Client.{is_fail}
 use Rattle.con_machine.specs.History.{run}
 use Rattle.con_machine.specs.Step.{step, client_of}
@@ -33,13 +33,13 @@ handle_of (wanted.ReadWith h n initial mask) = h
 handle_of (wanted.ReadInput h n) = h
 
 -- what a read that begins so answers at once
-abbrev pub at_once : OpenRead → List ℕ
-at_once (reads.Done (answers.Units units)) = units
+abbrev pub at_once : Option OpenRead → List ℕ
+at_once (Some (reads.Done (answers.Units units))) = units
 at_once _ = []
 
 -- of what was left for handle hd of client p, an event of it answers these: a read of that handle that is not refused, and is done as it begins
 abbrev pub takes : ℕ → ℕ → State → Event → Reply → List ℕ
-takes p hd s (events.Begin w) reply = if (handle_of w == hd) && not (is_fail reply) then at_once (opens s p w) else []
+takes p hd s (events.Begin w) reply = if (handle_of w == hd) && not (is_fail reply) then at_once (read_opened s p w) else []
 takes p hd s _ reply = []
 
 -- client p closes handle hd, or collects a line read of that handle, or exits

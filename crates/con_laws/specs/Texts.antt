@@ -1,5 +1,5 @@
 -- What the text of a read is, by the records that it took.
-use Rattle.std.specs.Prelude.{flat_map, ◌≡◌, ℕ, true, false, List, [], ◌∷◌, ◌++◌, map, fold, take, if◌then◌else◌}
+use Rattle.std.specs.Prelude.{flat_map, ◌≡◌, ℕ, true, false, List, [], ◌∷◌, ◌++◌, map, fold, take, Option, Some, if◌then◌else◌}
 use Rattle.std.specs.List.{list_any}
 use Rattle.con_alias.specs.Aliases.{AliasList}
 use Rattle.con_cooked.specs.Cooked.{Moment, answer_of}
@@ -45,10 +45,10 @@ pub record AnswersLine (line : Cooked) (n : ℕ) (pieces : List Piece) (records 
 
 -- what a read answers that began so, and took these records in these pieces: of a line that they ended; their units; or what
 -- it answered at once, without a record
-abbrev pub AnswersText : OpenRead → ℕ → List Piece → List Record → List ℕ → Type 0
-AnswersText (reads.Line line) n pieces records units = AnswersLine line n pieces records units
-AnswersText (reads.Units m) n pieces records units = units ≡ units_of m records
-AnswersText (reads.Done (answers.Units us)) n pieces records units = (units ≡ us) × (records ≡ [])
+abbrev pub AnswersText : Option OpenRead → ℕ → List Piece → List Record → List ℕ → Type 0
+AnswersText (Some (reads.Line line)) n pieces records units = AnswersLine line n pieces records units
+AnswersText (Some (reads.Units m)) n pieces records units = units ≡ units_of m records
+AnswersText (Some (reads.Done (answers.Units us))) n pieces records units = (units ≡ us) × (records ≡ [])
 AnswersText _ n pieces records units = ⊥
 
 -- how many units are asked for, at most

@@ -22,7 +22,7 @@ use Rattle.con_readers.specs.declared.answer.Answer.TheVariants as answers
 use Rattle.con_readers.specs.declared.open.OpenRead.{OpenRead}
 use Rattle.con_readers.specs.declared.open.OpenRead.TheVariants as reads
 use Rattle.con_screens.specs.Buffers.{Buffers, handle_released}
-use Rattle.con_machine.specs.State.{State, noted_of, without_noted, is_rest_of, rest_in, with_rest, rest_begun, id_of}
+use Rattle.con_machine.specs.State.{State, noted_of, without_noted, is_rest_of, rest_in, with_rest, id_of}
 use Rattle.con_machine.specs.Outcome.{Outcome, refused, answered, by_answer, guard, guarded, has_bit}
 use Rattle.con_machine.specs.HandleCalls.{of_output, released}
 use Rattle.con_machine.specs.declared.reads.noted.Noted.{Noted}
@@ -69,25 +69,18 @@ abbrev pub line_opened : State → ℕ → List ℕ → ℕ → OpenRead
 line_opened s p initial mask =
     reads.Line (record { program = program_of s.procs p; insert = has_bit s.mode 0x20; initial = initial; mask = mask; presses = [] })
 
+-- a line begins: it is noted, and its handle has a rest, which is empty
+abbrev pub line_begun : State → ℕ → ℕ → ℕ → List ℕ → ℕ → State
+line_begun s p h n initial mask = record (with_read s p (line_opened s p initial mask)) {
+  noted = s.noted ++ first_note s p h n initial ∷ [];
+  rests = if list_any (is_rest_of p h) s.rests then s.rests else s.rests ++ (let r : Rest = record { process = p; handle = h; units = [] } in r) ∷ [];
+}
+
 -- a read of a line, by what is left for its handle: nothing is asked for; or a line begins; or what is left answers
 abbrev pub began_line : State → ℕ → ℕ → ℕ → List ℕ → ℕ → State
-began_line s p h n initial mask =
-    let rest = rest_in s.rests p h in
-    if n == 0 then answered_with s p []
-    else if is_none (slice_get rest 0) then record (with_read s p (line_opened s p initial mask)) {
-      noted = s.noted ++ first_note s p h n initial ∷ [];
-      rests = if list_any (is_rest_of p h) s.rests then s.rests else s.rests ++ (let r : Rest = record { process = p; handle = h; units = [] } in r) ∷ [];
-    }
+began_line s p h n initial mask = let rest = rest_in s.rests p h in
+    if n == 0 then answered_with s p [] else if is_none (slice_get rest 0) then line_begun s p h n initial mask
     else record (answered_with s p (front_of n rest)) { rests = with_rest (back_of n rest) s.rests p h }
-
--- the read that a line read opens, by what is left for its handle: nothing was asked for; or a line; or what is left answers at once
-abbrev pub line_read : State → ℕ → ℕ → List ℕ → List ℕ → ℕ → OpenRead
-line_read s p n rest initial mask = if n == 0 then reads.Done (answers.Units [])
-    else if is_none (slice_get rest 0) then line_opened s p initial mask else reads.Done (answers.Units (front_of n rest))
-
--- the read that a read of units opens, without line mode
-abbrev pub units_read : ℕ → OpenRead
-units_read n = if n == 0 then reads.Done (answers.Units []) else reads.Units n
 
 -- A plain read begins with an empty text and no mask; without line mode, and where a rest answers, both are ignored. It can't begin while a read is open, or
 -- with an initial text that has a control, or more than 1,024 units, or more than the read asks for. Of a line, the program's history is used, the others of
@@ -148,11 +141,14 @@ history_used s p = record s { histories = used_by s.histories (program_of s.proc
 abbrev pub rest_answered : State → ℕ → ℕ → ℕ → List ℕ → State
 rest_answered s p h n rest = record (answered_with s p (front_of n rest)) { rests = with_rest (back_of n rest) s.rests p h }
 
-abbrev pub line_begun : State → ℕ → ℕ → ℕ → List ℕ → ℕ → State
-line_begun s p h n initial mask = record (with_read s p (line_opened s p initial mask)) {
-  noted = s.noted ++ first_note s p h n initial ∷ [];
-  rests = rest_begun s.rests p h;
-}
+-- the read that a line read opens, by what is left for its handle: nothing was asked for; or a line; or what is left answers at once
+abbrev pub line_read : State → ℕ → ℕ → List ℕ → List ℕ → ℕ → OpenRead
+line_read s p n rest initial mask = if n == 0 then reads.Done (answers.Units [])
+    else if is_none (slice_get rest 0) then line_opened s p initial mask else reads.Done (answers.Units (front_of n rest))
+
+-- the read that a read of units opens, without line mode
+abbrev pub units_read : ℕ → OpenRead
+units_read n = if n == 0 then reads.Done (answers.Units []) else reads.Units n
 
 -- a read of units, without line mode
 abbrev pub began_units : State → ℕ → ℕ → State
