@@ -25,7 +25,8 @@ IsShort line = length line ≤ 1024
 abbrev pub newest : {X : Type 0} → ℕ → List X → List X
 newest n xs = drop (length xs - n) xs
 
--- the lines with one more: an empty one is dropped, equal ones go first where that is asked for, and the oldest go past the limit
+-- the lines with one more: an empty one changes nothing; equal ones are taken out before where that is asked for, and of all then the newest stay, as many as
+-- the limit says
 abbrev pub added : Bool → ℕ → List (List ℕ) → List ℕ → List (List ℕ)
 added no_duplicates limit lines line =
     if length line == 0 then lines
@@ -69,7 +70,7 @@ used_by s program busy =
     else if nat_lt idle (length s.used) then record s { used = remove s.used idle ++ empty ∷ [] }
     else s
 
--- settings that are refused: 1 to 999 lines, 1 to 64 histories, a flag of 0 or 1
+-- settings that are refused: all but 1 to 999 lines, 1 to 64 histories and a flag of 0 or 1
 abbrev pub is_refused : HistoryInfo → Bool
 is_refused info = info.lines == 0 || nat_lt 999 info.lines || info.number == 0 || nat_lt 64 info.number || nat_lt 1 info.flag
 
