@@ -41,7 +41,7 @@ place_in recalled lines = min (unwrap_or recalled (length lines)) (length lines)
 abbrev pub recall : Edited → List (List ℕ) → ℕ → Edited
 recall e lines k = if length lines == 0 then e else record { line = recalled_as e.line (slice_index_or lines k []); recalled = Some k }
 
--- the line after a key that asks no history
+-- the line after a key that asks no history, but for escape, of which `key_pressed` tells; return and what is no key leave it as it is
 abbrev pub edited_by : LineText → LineKey → LineText
 edited_by l (key.Unit u) = typed l u
 edited_by l key.Back = if l.caret == 0 then l else erased_at l (l.caret - 1)
@@ -55,8 +55,10 @@ edited_by l key.End = record l { caret = length l.units }
 edited_by l key.Insert = record l { insert = not l.insert }
 edited_by l _ = l
 
--- the line after a key, where `lines` are those of the program's history: the one before the recalled line, one newer (the newest
--- staying, and none where none was recalled), the oldest, the newest, the rest of the newest, and the one that a search finds
+-- the line after a key, where `lines` are those of the program's history: escape empties the text, and no line counts as recalled any more; up brings the line
+-- before the recalled one (the oldest staying, and the newest where none was recalled), down one newer (the newest staying, and none where none was recalled),
+-- page up the oldest, page down the newest, each nothing where there is no line; then come the rest of the newest behind the caret, which recalls nothing, and
+-- the line that a search from before the recalled one finds by the units before the caret, which stays; any other key edits the line alone
 abbrev pub key_pressed : Edited → LineKey → List (List ℕ) → Edited
 key_pressed e key.Escape lines = record { line = record e.line { units = []; caret = 0 }; recalled = None }
 key_pressed e key.Up lines = recall e lines (place_in e.recalled lines - 1)
