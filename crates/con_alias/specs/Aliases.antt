@@ -52,7 +52,7 @@ entries_in (l ∷ ls) program = if same_units l.program program then l.entries e
 abbrev pub changed_in : (List Entry → List Entry) → List AliasList → List ℕ → List AliasList
 changed_in f programs program = changed_where (λ l. same_units l.program program) (λ l. record l { entries = f l.entries }) programs
 
--- a source that no alias can have: an empty one, or one of more than 255 units
+-- a source, or a program, of no unit or of more than 255, which no alias has; further ones are refused by `is_bad`
 abbrev pub is_no_source : List ℕ → Bool
 is_no_source source = length source == 0 || nat_lt 255 (length source)
 
