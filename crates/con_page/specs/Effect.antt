@@ -57,11 +57,11 @@ control_effect p u =
 
 -- ---- sequences without a ? and an intermediate
 
--- DECSC, SCOSC, "Simple Cursor Positioning"
+-- DECSC, "Simple Cursor Positioning", and SCOSC, "Cursor Positioning": the cursor's place is kept, and neither the pen nor a due wrap
 abbrev pub saved : Page → Page
 saved p = record p { saved_x = p.x; saved_y = p.y }
 
--- DECRC, SCORC, "Simple Cursor Positioning"
+-- DECRC, "Simple Cursor Positioning", and SCORC, "Cursor Positioning": the cursor goes to the place that was kept, and no wrap is due
 abbrev pub restored : Page → Page
 restored p = record p { x = p.saved_x; y = p.saved_y; late = false }
 
@@ -93,7 +93,7 @@ part_erased p from upto n =
 abbrev pub is_in_region : Page → Bool
 is_in_region p = nat_le (region_first p) p.y && nat_lt p.y (region_end p)
 
--- one that changes cells, and those above
+-- one that changes cells, by its first parameter, of which 0 counts as 1 but for ED and EL; any other as `setting` says
 unfoldable pub edit : Page → Csi → Page
 edit p c = let n = max (first c) 1 in
     -- CSI @: ICH, ECMA-48 8.3.64; CSI P: DCH, 8.3.26
@@ -111,7 +111,7 @@ edit p c = let n = max (first c) 1 in
     else if c.last == 0x53 then rows_up p (region_first p) (region_end p) n
     else if c.last == 0x54 then rows_down p (region_first p) (region_end p) n else setting p c
 
--- one that moves the cursor, and those above
+-- one that moves the cursor, by its first parameter, of which 0 counts as 1; any other as `edit` says
 unfoldable pub plain_effect : Page → Csi → Page
 plain_effect p c = let n = max (first c) 1 in
     -- CSI A: CUU, ECMA-48 8.3.22; CSI B: CUD, 8.3.19; CSI C: CUF, 8.3.20; CSI D: CUB, 8.3.18

@@ -91,7 +91,8 @@ region_first p = option_map_or (λ m. p.top + m.top - 1) p.margins p.top
 abbrev pub region_end : Page → ℕ
 region_end p = option_map_or (λ m. p.top + m.bottom) p.margins (p.top + p.h)
 
--- to the row below; on the last row of the buffer, or of the margins, its rows go up
+-- to the row below; without margins the buffer's rows go up on its last row; with margins theirs go up on their last row, and on the buffer's last row outside
+-- of that nothing happens
 abbrev pub down_in : Page → Option Margins → Page
 down_in p None = if p.y + 1 == p.grid.height then rows_up p 0 p.grid.height 1 else record p { y = p.y + 1 }
 down_in p (Some m) =
