@@ -30,9 +30,9 @@ words_written p at words = run_written p at (λ g word. record g { attr = plain 
 abbrev pub run_cells : Picture → Coord → ℕ → List Glyph
 run_cells p at n = take (run_count p at n) (drop (place p at) (map plain_cell p.cells))
 
--- ---- Fills, as the code and proofs name them.
+-- ---- fills
 
--- the grid after n cells of a run took one unit, or one word
+-- the grid after n cells of a run, or all where it has fewer, took one unit, or one word with plain shades
 abbrev pub unit_filled : Picture → Coord → ℕ → ℕ → Picture
 unit_filled p at n unit = units_written p at (replicate n unit)
 

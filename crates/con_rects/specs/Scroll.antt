@@ -9,8 +9,8 @@ use Rattle.con_grid.specs.Picture.{Picture}
 use Rattle.con_rects.specs.Area.{covers, used_rect}
 use Rattle.con_rects.specs.Rules.{cell_at, redrawn}
 
--- the grid after a scroll, by places less the way from the source's corner to `dest`: nothing changes outside the clip, if there is one;
--- what comes from the source is there, and what is left of it becomes `fill`
+-- the grid after a scroll: a place takes the cell that stood as far from it as the source's corner is from `dest`, where that cell lies in the part of the
+-- source that the grid has; any other place of that part becomes `fill`; all others stay, and so does what is outside the clip, if there is one
 unfoldable pub scrolled : Picture → Rect → Option Rect → Coord → Glyph → Picture
 scrolled p source clip dest fill = let used = used_rect source p.width p.height in redrawn p (λ x y.
     let from_x = pos x -ℤ (dest.x -ℤ source.left) in let from_y = pos y -ℤ (dest.y -ℤ source.top) in
