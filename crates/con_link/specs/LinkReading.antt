@@ -39,7 +39,7 @@ mirrored = record {
   more = λ fs f. map-append (λ g. (row g).2) fs (f ∷ []);
 }
 
--- a length's bytes and fewer bytes than it says, or less
+-- what stands behind a B that is no whole frame yet: nothing, or one byte; or both bytes of a length of 1 to 4,096, and fewer bytes than it says
 abbrev pub is_part_of_bytes : List ℕ → Bool
 is_part_of_bytes (high ∷ low ∷ bytes) = is_length (two high low) && nat_lt (length bytes) (two high low)
 is_part_of_bytes _ = true
@@ -53,8 +53,8 @@ abbrev pub is_less : Bool → List ℕ → Bool
 is_less second [] = true
 is_less second (tag ∷ more) = if nat_eq tag 66 then is_part_of_bytes more else is_sized second tag && nat_lt (length more) 4
 
--- The bytes up to the one that shows this fault: another first byte than a frame has, a length or a size that is none, or, at the link's end, the first bytes
--- of a frame.
+-- The bytes up to the one that shows this fault: a first byte that no frame has; a B and a length that is none; an R, or an A where there may be a second
+-- terminal, and a size that is none; or the first bytes of a frame, one at least and not all, where nothing is left of the link, if that is told.
 abbrev pub ShowsBy : (R : LinkReading) → FrameFault → List ℕ → Option (List ℕ) → Type 0
 ShowsBy R kinds.Tag text left = (tag : ℕ) × (text ≡ tag ∷ []) × ((f : R.One) (more : List ℕ) → R.spelling f ≡ tag ∷ more → ⊥)
 ShowsBy R kinds.Length text left = (high low : ℕ) × (text ≡ 66 ∷ high ∷ low ∷ []) × (is_length (two high low) ≡ false)
@@ -62,7 +62,10 @@ ShowsBy R kinds.Size text left =
     (tag a b c d : ℕ) × (text ≡ tag ∷ a ∷ b ∷ c ∷ d ∷ []) × IsTrue (is_sized R.second tag) × (is_size (two a b) (two c d) ≡ false)
 ShowsBy R kinds.Cut text left = (text ≡ [] → ⊥) × IsTrue (is_less R.second text) × IfSome left (λ rest. rest ≡ [])
 
--- What was taken from the link, and what is left of it, for each answer. The place is that of the first byte taken.
+-- What was taken from the link, and what is left of it, for each answer. The place is that of the first byte taken. A frame took its own bytes, the link's end
+-- none, where nothing is left, if that is told; a fault took those up to the one that shows it; a failure and want of memory took nothing, or the first bytes
+-- of a frame and not all. All these lie within 16,777,216 bytes of the link; too long is the byte behind them, before which nothing of a frame was taken, or
+-- the first bytes and not all.
 abbrev pub AnswersBy : (R : LinkReading) → Result R.One LinkFault → ℕ → List ℕ → Option (List ℕ) → Type 0
 AnswersBy R (Ok frame) place text left = (text ≡ R.spelling frame) × IsTrue (R.is_one frame) × IsEnd (R.plain frame) left × (place + length text ≤ 16777216)
 AnswersBy R (Err (faults.Bad at kind)) place text left = (at ≡ place) × ShowsBy R kind text left × (place + length text ≤ 16777216)
