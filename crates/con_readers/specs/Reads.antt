@@ -72,6 +72,10 @@ failed why o = record o { read = reads.Done (answers.Fail why) }
 abbrev pub all_closed : List Open → List Open
 all_closed os = map (λ o. if is_done o.read then o else failed code.Closed o) os
 
+-- a line read that is not done
+abbrev pub is_open_line : Open → Bool
+is_open_line o = is_line o.read
+
 -- the first line read that is not done ends by ctrl+C
 abbrev pub line_aborted : List Open → List Open
 line_aborted os = changed_at (failed code.Aborted) os (position_or_len (λ o. is_line o.read) os)
@@ -100,9 +104,6 @@ first_acts o acts = if o.started then acts else began o.process ∷ acts
 
 abbrev pub closed_one : Open → Open
 closed_one o = if is_done o.read then o else failed code.Closed o
-
-abbrev pub is_open_line : Open → Bool
-is_open_line o = is_line o.read
 
 -- the open reads in the order in which they began, and for how many more there is room
 pub record Queued : Type 0 where
