@@ -53,10 +53,15 @@ readers_send =
     (sendable, crosses, cooked_editedline.the_send, readers_wantsrecords.the_send, readers_wantsunits.the_send, records_taken.the_send, units_units.the_send)
     depth 40
 
+-- what a console has of clients, of its input and its lines, and of what is shown
+ruleset clients_send = (handles_handles.the_send, procs_procs.the_send, machine_notes.the_send, machine_rests.the_send)
+
+ruleset lines_send = (records_records.the_send, history_histories.the_send, alias_aliases.the_send, vtin_keyreader.the_send)
+
+ruleset shown_send = (machine_title.the_send, units_view.the_send, machine_seen.the_send)
+
 pub console_send : IsSend console.the_row
-console_send =
-    search
-    (sendable, crosses, handles_handles.the_send, procs_procs.the_send, machine_notes.the_send, machine_rests.the_send, records_records.the_send, history_histories.the_send, alias_aliases.the_send, vtin_keyreader.the_send, machine_title.the_send, units_view.the_send, machine_seen.the_send, screens_send, readers_send) depth 40
+console_send = search (sendable, crosses, clients_send, lines_send, shown_send, screens_send, readers_send) depth 40
 
 pub splitter_sync : IsSync splitter.the_row
 splitter_sync = search (sendable, crosses) depth 40
@@ -82,7 +87,12 @@ readers_sync =
     (sendable, crosses, cooked_editedline.the_sync, readers_wantsrecords.the_sync, readers_wantsunits.the_sync, records_taken.the_sync, units_units.the_sync)
     depth 40
 
+-- what a console has of clients, of its input and its lines, and of what is shown
+ruleset clients_sync = (handles_handles.the_sync, procs_procs.the_sync, machine_notes.the_sync, machine_rests.the_sync)
+
+ruleset lines_sync = (records_records.the_sync, history_histories.the_sync, alias_aliases.the_sync, vtin_keyreader.the_sync)
+
+ruleset shown_sync = (machine_title.the_sync, units_view.the_sync, machine_seen.the_sync)
+
 pub console_sync : IsSync console.the_row
-console_sync =
-    search
-    (sendable, crosses, handles_handles.the_sync, procs_procs.the_sync, machine_notes.the_sync, machine_rests.the_sync, records_records.the_sync, history_histories.the_sync, alias_aliases.the_sync, vtin_keyreader.the_sync, machine_title.the_sync, units_view.the_sync, machine_seen.the_sync, screens_sync, readers_sync) depth 40
+console_sync = search (sendable, crosses, clients_sync, lines_sync, shown_sync, screens_sync, readers_sync) depth 40
