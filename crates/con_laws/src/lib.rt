@@ -6,8 +6,9 @@
 //! - [`cuts`], [`settled`] and [`stamps`]: however bytes are cut; what changes nothing; that stamps of rows are told by nobody but the painter.
 //!
 //! In `specs/`, `Rounds` has what it is to go by rounds, `Whole` what a whole session leaves, `Fates`, `Answers`, `Texts`, `Remains` and `Once` what
-//! became of records, and `RoundWords`, `Walks`, `AnswerWalks`, `TextWalks`, `Left` and `Rested` the same as the proofs walk it; `TerminalRuns` what a terminal shows that plays a stream, `Cut`, `Settled`, `Presence`, `Opens` and `Unstamped` what the other
-//! laws say; the files `..Laws` are for the crates above.
+//! became of records, and `RoundWords`, `Walks`, `AnswerWalks`, `TextWalks`, `Left` and `Rested` the same as the proofs walk it; `TerminalRuns` what
+//! a terminal shows that plays a stream, `Cut`, `Settled`, `Presence`, `Opens` and `Unstamped` what the other laws say; the files `..Laws` are for
+//! the crates above.
 #![tactic(auto)]
 
 pub mod cuts;
