@@ -1,5 +1,5 @@
 -- The arguments of a call, of which those with the same kinds are alike.
-use Rattle.std.specs.Prelude.{ℕ, List, [], ◌∷◌}
+use Rattle.std.specs.Prelude.{List, [], ◌∷◌}
 use Rattle.con_events.specs.declared.args.Args.{Args}
 use Rattle.con_events.specs.declared.args.Args.TheVariants as args
 use Rattle.con_events.specs.Arg.{Arg, Number, Signed, OneUnit, Flag, Text, Area, Clip, WordsOf, WordList, Records}

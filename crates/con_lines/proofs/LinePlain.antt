@@ -1,5 +1,5 @@
 -- Lines are plain: they are read as they were written, and end at their line feed.
-use Rattle.std.proofs.Common.{ℕ, zero, suc, ◌+◌, ◌/◌, ◌%◌, ◌<◌, List, [], ◌∷◌, map, refl, arith, Some, None}
+use Rattle.std.proofs.Common.{ℕ, suc, ◌+◌, ◌/◌, ◌%◌, ◌<◌, List, [], ◌∷◌, map, refl, arith, Some, None}
 use Rattle.std.specs.Prelude.{ℤ, pos, negsuc, decimal, nat_lt, codes, if◌then◌else◌}
 use Rattle.std.specs.Char.{digit_char}
 use Rattle.std.specs.Str.{IsUtf8}
@@ -22,13 +22,12 @@ use Rattle.con_events.specs.declared.call.Call.TheVariants as call
 use Rattle.con_events.specs.declared.call.Words.TheVariants.{One, Each}
 use Rattle.con_events.specs.declared.event.Event.{Event}
 use Rattle.con_events.specs.declared.event.Event.TheVariants as event
-use Rattle.con_events.specs.declared.event.Wanted.{Wanted}
 use Rattle.con_events.specs.declared.event.Wanted.TheVariants.{Read, ReadInput, ReadWith}
 use Rattle.con_events.specs.declared.reply.Reply.{Reply}
 use Rattle.con_events.specs.declared.reply.Reply.TheVariants as reply
 use Rattle.con_events.specs.Arg.{Arg, Number, Signed, OneUnit, Flag, Text, Area, Clip, WordsOf, WordList, Records}
 use Rattle.con_events.specs.Fits.{AreUnits, IsSmall, RectFits, RecordFits, RecordsFit, ArgFits, ArgsFit}
-use Rattle.con_events.specs.Table.{name_of, args_of}
+use Rattle.con_events.specs.Table.{name_of}
 use Rattle.con_events.specs.declared.form.Form.{Form}
 use Rattle.con_lines.specs.declared.said.Said.{Said}
 use Rattle.con_lines.specs.Form.{event_spelled, event_name, form_of}

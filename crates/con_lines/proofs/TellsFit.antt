@@ -1,5 +1,5 @@
 -- What a line tells fits: it is within what types keep, and of its event's form.
-use Rattle.std.proofs.Common.{◌≡◌, refl, subst, arith, ℕ, ◌*◌, ◌+◌, ◌-◌, ◌<◌, List, [], ◌∷◌, length, Option, Some, None, Bool, true, false, nat_lt, nat_le}
+use Rattle.std.proofs.Common.{◌≡◌, refl, subst, arith, ℕ, ◌*◌, ◌+◌, ◌-◌, ◌<◌, List, [], ◌∷◌, length, Option, Some, None, true, nat_lt, nat_le}
 use Rattle.std.specs.Prelude.{ℤ, pos, negsuc, IsTrue, IfSome, int_le, ◌&&◌, ◌==◌, option_map, option_and_then, if◌then◌else◌, codes}
 use Rattle.std.specs.Int.{is_in_range}
 use Rattle.std.specs.Str.{bytes_eq}

@@ -1,5 +1,5 @@
 -- What is left of an array of values, and lists that are built from the front.
-use Rattle.std.specs.Prelude.{ℕ, List, [], ◌∷◌, ◌++◌, Option, Some, None}
+use Rattle.std.specs.Prelude.{List, [], ◌∷◌, ◌++◌, Option, Some, None}
 use Rattle.serde_json.specs.declared.value.Value.{Value}
 
 abbrev pub front : List Value → Option Value

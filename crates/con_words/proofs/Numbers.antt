@@ -1,14 +1,12 @@
 -- The numbers that the code reads digit by digit are those that the words spell.
-use Rattle.std.proofs.Common.{◌≡◌, ◌∙◌, ℕ, zero, suc, ◌+◌, ◌-◌, ◌*◌, ◌≤◌, ◌<◌, Bool, true, false, cond, ◌&&◌, ◌||◌, ◌==◌, List, [], ◌∷◌, Option, Some, None, refl, sym, ap, arith}
-use Rattle.std.specs.Prelude.{map, nat_le, codes, slice_index, option_and_then}
+use Rattle.std.proofs.Common.{◌≡◌, ◌∙◌, ℕ, ◌+◌, ◌-◌, ◌*◌, ◌≤◌, ◌<◌, Bool, true, false, cond, ◌&&◌, ◌||◌, ◌==◌, List, [], ◌∷◌, Option, Some, None, refl, arith}
+use Rattle.std.specs.Prelude.{map, nat_le, option_and_then}
 use Rattle.std.specs.Char.{is_ascii_digit}
-use Rattle.std.specs.Int.{is_in_range}
 use Rattle.std.specs.Int.Digits.{number_from_digits_after}
 use Rattle.std.specs.List.{list_all}
-use Rattle.std.specs.Str.{bytes_eq}
 use Rattle.std.proofs.lemmas.Bool.Decides.{nat_tests}
 use Rattle.con_words.specs.Words.{number_in}
-use Rattle.con_words.specs.Spelling.{is_first, is_digit, digit_of, number_of, side_of, with_digit, spelled_after, zero_alone, seed_of}
+use Rattle.con_words.specs.Spelling.{is_first, is_digit, digit_of, side_of, spelled_after, zero_alone, seed_of}
 
 -- what digits spell behind a number that was begun
 abbrev value : ℕ → List ℕ → ℕ
