@@ -1,27 +1,20 @@
--- The last line of a report, where the status alone tells it.
-use Rattle.std.specs.Prelude.{◌≡◌, ℕ, ◌==◌, List, [], Option, Some, None, codes, if◌then◌else◌}
-use Rattle.con_outside.specs.Outside.{then_written, WroteFront}
-use Rattle.con_lines.specs.Ending.{Ending, worded, ending_text}
+-- How a report goes, whole or in part, and a last line alone.
+use Rattle.std.specs.Prelude.{◌≡◌, ◌⊎◌, ℕ, ◌==◌, List, Option, if◌then◌else◌}
+use Rattle.con_outside.specs.Outside.{then_written, WrotePart}
+use Rattle.con_lines.specs.Ending.{Ending, status_of, ending_text}
 use Rattle.con_lines.specs.Line.{ended}
 
--- what the last line of a status says, where there is one
-abbrev pub ending_at : ℕ → Option Ending
-ending_at status =
-    if status == 2 then Some (worded 2 (codes "usage"))
-    else if status == 4 then Some (worded 4 (codes "link"))
-    else if status == 5 then Some (worded 5 (codes "term"))
-    else if status == 10 then Some (worded 10 (codes "too long"))
-    else None
+-- the status where the report failed: of several causes the call's own comes first
+abbrev pub lost_status : ℕ → ℕ
+lost_status told = if told == 0 then 6 else told
 
--- its bytes, with the line feed
-abbrev pub line_for : Option Ending → List ℕ
-line_for None = []
-line_for (Some ending) = ended (ending_text ending)
+-- How a report of this text goes, by the status: all of it was written, and the status is this one; or a part, since the report failed; or a part, by 9, for
+-- want of memory.
+abbrev pub Reported : ℕ → ℕ → List ℕ → Option (List ℕ) → Option (List ℕ) → Type 0 → Type 0
+Reported status told text before now failed =
+    ((status ≡ told) × (now ≡ then_written before text))
+    ⊎ (((status ≡ lost_status told) × WrotePart text before now × failed) ⊎ ((status ≡ 9) × WrotePart text before now))
 
-abbrev pub end_line : ℕ → List ℕ
-end_line status = line_for (ending_at status)
-
--- the last line was written, whole unless the report failed
-pub record Told (line : List ℕ) (before now : Option (List ℕ)) (failed : Type 0) : Type 0 where
-  pub front : WroteFront line before now
-  pub whole : ¬ failed → now ≡ then_written before line
+-- a last line alone
+abbrev pub Tells : ℕ → Ending → Option (List ℕ) → Option (List ℕ) → Type 0 → Type 0
+Tells status last before now failed = Reported status (status_of last) (ended (ending_text last)) before now failed

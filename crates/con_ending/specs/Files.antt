@@ -1,12 +1,11 @@
 -- A session's file, and how a call ends that has no session.
 use Rattle.std.specs.Prelude.{◌≡◌, ◌⊎◌, ℕ, ◌≤◌, List, length, Option, IfSome, Some, None, Ok, Err, codes}
 use Rattle.con_events.specs.Session.{Clients}
-use Rattle.con_outside.specs.Outside.{then_written, WroteFront, WrotePart}
 use Rattle.con_outside.specs.Named.{IsTooLong}
 use Rattle.con_document.specs.Document.{IsDocument, json_of}
 use Rattle.con_document.specs.Units.{text_units}
-use Rattle.con_lines.specs.Ending.{Ending, worded, status_of, ending_of, ending_text}
-use Rattle.con_lines.specs.Line.{ended}
+use Rattle.con_ending.specs.Ending.{Tells}
+use Rattle.con_lines.specs.Ending.{Ending, worded, ending_of}
 use Rattle.con_ending.specs.declared.file.Unrun.{Unrun}
 use Rattle.con_ending.specs.declared.file.Unrun.TheVariants as unrun
 use Rattle.std.specs.Str.{encode_utf8_all}
@@ -41,27 +40,13 @@ ending_for too_long = worded 3 (codes "length")
 ending_for (no_json bytes) = worded 3 (codes "json")
 ending_for (no_session bytes at) = worded 3 (encode_utf8_all (utf16_lossy_chars (text_units at)))
 
--- a last line alone: whole unless the report failed; or there was no memory for it
-abbrev pub Tells : ℕ → Ending → Option (List ℕ) → Option (List ℕ) → Type 0 → Type 0
-Tells status last before now failed =
-    ((status ≡ status_of last) × WroteFront (ended (ending_text last)) before now × (¬ failed → now ≡ then_written before (ended (ending_text last))))
-    ⊎ ((status ≡ 9) × WrotePart (ended (ending_text last)) before now)
-
--- Nothing was taken or written; the last line alone, unless the report failed; or there was no memory, for the session or for that line.
-pub record NotRun (status : ℕ) (files : Option (List ℕ → Option (List ℕ))) (name : List ℕ) (files_failed : Type 0)
-    (before left old now before_report report' : Option (List ℕ)) (failed : Type 0) : Type 0 where
-  pub nothing_taken : left ≡ before
-  pub nothing_written : now ≡ old
-  pub told : ((status ≡ 9) × (report' ≡ before_report))
-      ⊎ ((why : Reason) × Holds files name files_failed why × Tells status (ending_for why) before_report report' failed)
-
 -- ---- a session or none
 
--- there is no session; or the file is one, of which this came
-abbrev pub OfFile : (Clients → Type 0) → ℕ → Option (List ℕ → Option (List ℕ)) → List ℕ → Type 0 → Option (List ℕ)
-    → Option (List ℕ) → Option (List ℕ) → Option (List ℕ) → Option (List ℕ) → Option (List ℕ) → Type 0 → Type 0
-OfFile Came status files name files_failed before left old now before_report report' failed =
-    NotRun status files name files_failed before left old now before_report report' failed
+-- There was no memory, and nothing was written; or there is no session, and the last line alone says why; or the file is one, of which this came. Without a
+-- session this much stays as it was.
+abbrev pub OfFile : (Clients → Type 0) → Type 0 → ℕ → Option (List ℕ → Option (List ℕ)) → List ℕ → Type 0 → Option (List ℕ) → Option (List ℕ) → Type 0 → Type 0
+OfFile Came Stays status files name files_failed before now failed =
+    (Stays × (((status ≡ 9) × (now ≡ before)) ⊎ ((why : Reason) × Holds files name files_failed why × Tells status (ending_for why) before now failed)))
     ⊎ ((bytes : List ℕ) × (session : Clients) × IsFile files name bytes × IsDocument bytes (Ok session) × Came session)
 
 -- ---- the code's own words

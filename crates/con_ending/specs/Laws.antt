@@ -1,14 +1,26 @@
--- A last line that is not whole.
-use Rattle.std.proofs.Common.{◌≡◌, ◌≢◌, ℕ, zero, ◌<◌, List, [], ◌∷◌, length, Option, sym, ◌∙◌, arith}
+-- How a report goes, from how it was written.
+use Rattle.std.proofs.Common.{◌≡◌, ◌<◌, ◌⊎◌, inl, inr, refl, sym, subst, ℕ, zero, List, [], ◌∷◌, length, Option, arith}
+use Rattle.std.specs.Prelude.{Result, Ok, Err, OnOk, OnErr}
 use Rattle.con_outside.specs.Laws.{then_written-none}
-use Rattle.con_outside.specs.Outside.{WrotePart}
+use Rattle.con_outside.specs.Outside.{then_written, WrotePart}
+use Rattle.con_outside.specs.declared.traits.Fault.{Fault}
+use Rattle.con_outside.specs.declared.traits.Fault.TheVariants as faults
 use Rattle.con_lines.specs.Line.{ended}
-use Rattle.con_ending.specs.Ending.{end_line}
+use Rattle.con_ending.specs.Ending.{Reported, lost_status}
 
--- the status is that of want of memory, so the line of another status is not whole
-pub part_of : (before now : Option (List ℕ)) (s told : ℕ) → s ≡ 9 → 9 ≢ told → (¬ (s ≡ told) → WrotePart (end_line told) before now)
-    → WrotePart (end_line told) before now
-part_of before now s told e other part = part (λ f. other (sym e ∙ f))
+-- the status of a call that wrote its report so
+abbrev pub status_after : Result (Unit {0}) Fault → ℕ → ℕ
+status_after (Ok done) told = told
+status_after (Err faults.Failed) told = lost_status told
+status_after (Err faults.OutOfMemory) told = 9
+
+-- what a write that is whole, or a part, makes of the report
+pub reported_by : (written : Result (Unit {0}) Fault) (status told : ℕ) (text : List ℕ) (before now : Option (List ℕ)) (failed : Type 0)
+    → status ≡ status_after written told → OnOk written (now ≡ then_written before text) → OnErr written (WrotePart text before now)
+    → (written ≡ Err faults.Failed → failed) → Reported status told text before now failed
+reported_by (Ok done) status told text before now failed is whole part fault = inl (is, whole)
+reported_by (Err faults.Failed) status told text before now failed is whole part fault = inr (inl (is, part, fault refl))
+reported_by (Err faults.OutOfMemory) status told text before now failed is whole part fault = inr (inr (is, part))
 
 ends_later : (text : List ℕ) → 0 < length (ended text)
 ends_later [] = omega arith

@@ -1,9 +1,10 @@
 //! The last line of a report.
 
-ghost use Rattle.std.specs.Prelude.{◌≡◌, ℕ, ◌+◌, ◌<◌, ◌≤◌, ◌≢◌, ◌⊎◌, List, take, IfSome, option_map};
-ghost use Rattle.con_outside.specs.Outside.{Rose, then_written, WroteFront, WrotePart};
-ghost use Rattle.con_lines.specs.Ending.{ending_of};
-ghost use Rattle.con_ending.specs.Ending.{ending_at, end_line};
+ghost use Rattle.std.specs.Prelude.{◌≡◌, ◌≤◌};
+ghost use Rattle.con_outside.specs.Outside.{Rose};
+ghost use Rattle.con_lines.specs.Ending.{ending_of, status_of};
+ghost use Rattle.con_ending.specs.Ending.{Tells};
+ghost use Rattle.con_ending.specs.Laws.{status_after};
 
 use con_outside::{Fault, Sink};
 use con_trace::{EndLine, write_end};
@@ -26,34 +27,40 @@ pub const TOO_LONG: u8 = 10;
 /// The second terminal of `mirror` failed.
 pub const MIRROR: u8 = 12;
 
-// The last line that a status has.
-fn line_of(status: u8) -> Option<EndLine>
-    ensures line { option_map ending_of result ≡ ending_at status }
-    ensures memory { IfSome result (λ _. status ≢ MEMORY) }
+/// The status that a last line tells.
+pub fn status_told(last: &EndLine) -> u8
+    ensures { result ≡ status_of (ending_of last.now) }
 {
-    match status {
-        USAGE => Some(EndLine::Word(USAGE, "usage")),
-        LINK => Some(EndLine::Word(LINK, "link")),
-        TERMINAL => Some(EndLine::Word(TERMINAL, "term")),
-        TOO_LONG => Some(EndLine::Word(TOO_LONG, "too long")),
-        _ => None,
+    match last {
+        EndLine::Plain(status) => *status,
+        EndLine::Word(status, _) => *status,
+        EndLine::Path(_) => 3,
+        EndLine::Frame(_, _) => 8,
     }
 }
 
-/// Writes the last line of a report, and answers the status, or [`MEMORY`] where there was none for the whole line.
-pub fn finish<R: Sink>(alloc: Global, report: &mut R, status: u8) -> u8
-    ensures status { (result ≡ status) ⊎ (result ≡ MEMORY) }
-    ensures front { WroteFront (end_line status) (R.written report.old) (R.written report.new) }
-    ensures whole { result ≡ status → ¬ (Rose (R.faults report.old) (R.faults report.new))
-        → R.written report.new ≡ then_written (R.written report.old) (end_line status) }
-    ensures part { result ≢ status → WrotePart (end_line status) (R.written report.old) (R.written report.new) }
-    ensures never_falls { R.faults report.old ≤ R.faults report.new }
+/// The status of a call that wrote its report so: what the report tells, [`REPORT`] in place of 0 where the report failed, or [`MEMORY`].
+pub fn status_after(written: Result<(), Fault>, told: u8) -> u8
+    ensures { result ≡ status_after written told }
 {
-    let Some(line) = line_of(status) else {
-        return status;
-    };
-    match write_end(alloc, report, &line) {
-        Ok(()) | Err(Fault::Failed) => status,
+    match written {
+        Ok(()) => told,
+        Err(Fault::Failed) => {
+            if told == DONE {
+                REPORT
+            } else {
+                told
+            }
+        }
         Err(Fault::OutOfMemory) => MEMORY,
     }
+}
+
+/// Writes a last line alone, and answers its status, or [`MEMORY`] where there was none for it.
+pub fn close<R: Sink>(alloc: Global, report: &mut R, last: &EndLine) -> u8
+    ensures tells { Tells result (ending_of last.now) (R.written report.old) (R.written report.new) (Rose (R.faults report.old) (R.faults report.new)) }
+    ensures never_falls { R.faults report.old ≤ R.faults report.new }
+{
+    let written = write_end(alloc, report, last);
+    status_after(written, status_told(last))
 }

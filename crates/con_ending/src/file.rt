@@ -1,15 +1,15 @@
-//! The session of a file, and a last line alone.
+//! The session of a file, or why there is none.
 
 ghost use Rattle.std.specs.Prelude.{◌≡◌, ◌≤◌, ℕ, List, Ok, IfOk, IfErr};
 ghost use Rattle.con_outside.specs.Outside.{Rose};
 ghost use Rattle.con_document.specs.Document.{IsDocument};
-ghost use Rattle.con_lines.specs.Ending.{ending_of, status_of};
-ghost use Rattle.con_ending.specs.Files.{IsFile, Explains, Misread, Tells};
+ghost use Rattle.con_lines.specs.Ending.{ending_of};
+ghost use Rattle.con_ending.specs.Files.{IsFile, Explains, Misread};
 
 use con_events::Session;
-use con_outside::{Fault, Files, Found, Sink};
+use con_outside::{Fault, Files, Found};
 use con_script::{SessionFault, read_session};
-use con_trace::{EndLine, write_end};
+use con_trace::EndLine;
 use std::alloc::Global;
 
 /// Why there is no session.
@@ -60,28 +60,5 @@ pub fn session_of<F: Files>(alloc: Global, name: &str, files: &mut F) -> Result<
     match bytes_of(alloc, name, files) {
         Ok(bytes) => session_in(alloc, bytes.as_slice()),
         Err(unrun) => Err(unrun),
-    }
-}
-
-/// The status that a last line tells.
-pub fn status_told(last: &EndLine) -> u8
-    ensures { result ≡ status_of (ending_of last.now) }
-{
-    match last {
-        EndLine::Plain(status) => *status,
-        EndLine::Word(status, _) => *status,
-        EndLine::Path(_) => 3,
-        EndLine::Frame(_, _) => 8,
-    }
-}
-
-/// Writes a last line alone, and answers its status, or 9 where there was no memory for it.
-pub fn close<R: Sink>(alloc: Global, report: &mut R, last: &EndLine) -> u8
-    ensures tells { Tells result (ending_of last.now) (R.written report.old) (R.written report.new) (Rose (R.faults report.old) (R.faults report.new)) }
-    ensures never_falls { R.faults report.old ≤ R.faults report.new }
-{
-    match write_end(alloc, report, last) {
-        Ok(()) | Err(Fault::Failed) => status_told(last),
-        Err(Fault::OutOfMemory) => 9,
     }
 }

@@ -1,10 +1,10 @@
 //! How a call ends: the statuses that every form has, the last line of a report that tells one, and the session of a file, or why there is none.
 //!
-//! - [`finish`] writes the last line of a status, where it has one, and answers the status; [`close`] writes a last line alone.
+//! - [`close`] writes a last line alone, and answers its status; [`status_after`] is the status of a call that wrote its report.
 //! - [`bytes_of`] reads the file of a name, [`session_in`] the session that bytes are, [`session_of`] both; [`Unrun`] says why there is none.
 //!
-//! In `specs/`, `Ending` has the last lines, `Files` what a file is, the reasons for which there is no session, and how such a call ends; `Laws` how
-//! parts of a line go together.
+//! In `specs/`, `Ending` says how a report goes, `Files` what a file is, the reasons for which there is no session, and how such a call ends; `Laws` has
+//! the code's own words, and what a write makes of a report.
 //!
 //! Never promised: that there is memory for a line or a session.
 #![tactic(auto)]
@@ -12,5 +12,7 @@
 pub mod ending;
 pub mod file;
 
-pub use ending::{DONE, LINK, MEMORY, MIRROR, REPORT, TERMINAL, TOO_LONG, USAGE, finish};
-pub use file::{Unrun, bytes_of, close, session_in, session_of, status_told};
+pub use ending::{
+    DONE, LINK, MEMORY, MIRROR, REPORT, TERMINAL, TOO_LONG, USAGE, close, status_after, status_told,
+};
+pub use file::{Unrun, bytes_of, session_in, session_of};
