@@ -1,11 +1,11 @@
--- A session's file, and how a call ends that has no session.
+-- A session's file, and how a call of one ends.
 use Rattle.std.specs.Prelude.{◌≡◌, ◌⊎◌, ℕ, ◌≤◌, List, length, Option, IfSome, Some, None, Ok, Err, codes}
 use Rattle.con_events.specs.Session.{Clients}
 use Rattle.con_outside.specs.Named.{IsTooLong}
 use Rattle.con_document.specs.Document.{IsDocument, json_of}
 use Rattle.con_document.specs.Units.{text_units}
-use Rattle.con_ending.specs.Ending.{Tells}
 use Rattle.con_lines.specs.Ending.{Ending, worded, ending_of}
+use Rattle.con_ending.specs.Ending.{Tells}
 use Rattle.con_ending.specs.declared.file.Unrun.{Unrun}
 use Rattle.con_ending.specs.declared.file.Unrun.TheVariants as unrun
 use Rattle.std.specs.Str.{encode_utf8_all}
@@ -42,8 +42,8 @@ ending_for (no_session bytes at) = worded 3 (encode_utf8_all (utf16_lossy_chars 
 
 -- ---- a session or none
 
--- There was no memory, and nothing was written; or there is no session, and the last line alone says why; or the file is one, of which this came. Without a
--- session this much stays as it was.
+-- Without a session this much stays as it was, and there was no memory, and nothing was reported, or the last line alone says why there is none. Or the file
+-- is one, of which this came.
 abbrev pub OfFile : (Clients → Type 0) → Type 0 → ℕ → Option (List ℕ → Option (List ℕ)) → List ℕ → Type 0 → Option (List ℕ) → Option (List ℕ) → Type 0 → Type 0
 OfFile Came Stays status files name files_failed before now failed =
     (Stays × (((status ≡ 9) × (now ≡ before)) ⊎ ((why : Reason) × Holds files name files_failed why × Tells status (ending_for why) before now failed)))

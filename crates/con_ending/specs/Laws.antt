@@ -1,5 +1,5 @@
--- How a report goes, from how it was written.
-use Rattle.std.proofs.Common.{◌≡◌, ◌<◌, ◌⊎◌, inl, inr, refl, sym, subst, ℕ, zero, List, [], ◌∷◌, length, Option, arith}
+-- The status of a call by how its report was written, and how the report goes then.
+use Rattle.std.proofs.Common.{◌≡◌, ◌<◌, inl, inr, refl, ℕ, zero, List, [], ◌∷◌, length, Option, arith}
 use Rattle.std.specs.Prelude.{Result, Ok, Err, OnOk, OnErr}
 use Rattle.con_outside.specs.Laws.{then_written-none}
 use Rattle.con_outside.specs.Outside.{then_written, WrotePart}
@@ -8,13 +8,13 @@ use Rattle.con_outside.specs.declared.traits.Fault.TheVariants as faults
 use Rattle.con_lines.specs.Line.{ended}
 use Rattle.con_ending.specs.Ending.{Reported, lost_status}
 
--- the status of a call that wrote its report so
+-- the status of a call that wrote its report so, where the report tells this one
 abbrev pub status_after : Result (Unit {0}) Fault → ℕ → ℕ
 status_after (Ok done) told = told
 status_after (Err faults.Failed) told = lost_status told
 status_after (Err faults.OutOfMemory) told = 9
 
--- what a write that is whole, or a part, makes of the report
+-- What a write makes of the report: it is whole, or a part of it where the write is refused, which is a failure but for want of memory.
 pub reported_by : (written : Result (Unit {0}) Fault) (status told : ℕ) (text : List ℕ) (before now : Option (List ℕ)) (failed : Type 0)
     → status ≡ status_after written told → OnOk written (now ≡ then_written before text) → OnErr written (WrotePart text before now)
     → (written ≡ Err faults.Failed → failed) → Reported status told text before now failed

@@ -1,5 +1,5 @@
--- What a reader must believe: the last line, and a session's file.
+-- What a reader must believe: how a report goes, and a session's file.
 pub mod Ending
 pub mod Files
--- Laws of these words, for the crates above.
+-- The code's own words, and laws of them for the crates above.
 pub mod Laws

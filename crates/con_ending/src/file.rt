@@ -1,9 +1,8 @@
 //! The session of a file, or why there is none.
 
-ghost use Rattle.std.specs.Prelude.{◌≡◌, ◌≤◌, ℕ, List, Ok, IfOk, IfErr};
+ghost use Rattle.std.specs.Prelude.{◌≤◌, ℕ, List, Ok, IfOk, IfErr};
 ghost use Rattle.con_outside.specs.Outside.{Rose};
 ghost use Rattle.con_document.specs.Document.{IsDocument};
-ghost use Rattle.con_lines.specs.Ending.{ending_of};
 ghost use Rattle.con_ending.specs.Files.{IsFile, Explains, Misread};
 
 use con_events::Session;
