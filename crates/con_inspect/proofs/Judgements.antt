@@ -14,7 +14,7 @@ use Rattle.con_audit.specs.Audit.{Given, IsAudited}
 use Rattle.con_audit.specs.declared.verdict.Verdict.{Verdict}
 use Rattle.con_audit.specs.declared.verdict.Verdict.TheVariants as verdicts
 use Rattle.con_inspect.specs.Four.{Four, four_of, listed, AreFiles, AreThere, LacksFirst, HasLong, Bars, IsSessions}
-use Rattle.con_inspect.specs.Finding.{Finds, given, kinds, status_by, status_found}
+use Rattle.con_inspect.specs.Finding.{Finds, given, kinds, status_found}
 use Rattle.con_inspect.specs.Auditing.{Judged, IsJudged, OneJudgement, barred, found, status_for}
 use Rattle.con_inspect.specs.declared.finding.Finding.{Finding}
 use Rattle.con_inspect.specs.declared.finding.Finding.TheVariants as findings
@@ -36,7 +36,8 @@ not_wrong law text t n r wrong = law (history_of t) r.0 n r.3 r.1 (subst (IsWron
 -- ---- one verdict
 
 module _ (audits : OneAnswer) (tells : ReportTells) (none : NoneIsWrong) where
-  one_status : (g : Given) (v w : Verdict) → length g.link ≤ 16777216 → IsAudited g v → IsAudited g w → status_by v ≡ status_by w
+  one_status : (g : Given) (v w : Verdict) → length g.link ≤ 16777216 → IsAudited g v → IsAudited g w
+      → status_found (findings.Audited v) ≡ status_found (findings.Audited w)
   one_status g verdicts.Yes verdicts.Yes few a b = refl
   one_status g verdicts.Yes (verdicts.No k w) few a b = absurd (yes_or_no audits g k w few a b)
   one_status g (verdicts.No k w) verdicts.Yes few a b = absurd (yes_or_no audits g k w few b a)

@@ -2,11 +2,12 @@
 use Rattle.std.proofs.Common.{◌≡◌, ◌⊎◌, inl, inr, refl, ℕ, ◌≤◌, arith, List, [], ◌∷◌, length, Option, Some, None}
 use Rattle.std.specs.Prelude.{codes}
 use Rattle.con_trace.specs.Audit.{a_run, no_run}
+use Rattle.con_ending.specs.Ending.{lost_status}
 use Rattle.con_ending.specs.Files.{missing, too_long, no_json}
 use Rattle.con_audit.specs.declared.verdict.What.TheVariants as what
 use Rattle.con_audit.specs.declared.verdict.Verdict.TheVariants as verdicts
 use Rattle.con_inspect.specs.Four.{AreFiles, Bars, four_of}
-use Rattle.con_inspect.specs.Finding.{status_lost, told}
+use Rattle.con_inspect.specs.Finding.{told}
 use Rattle.con_inspect.specs.Auditing.{AreARun, IsComplete, barred, found, status_for}
 use Rattle.con_inspect.specs.declared.finding.Finding.TheVariants as findings
 
@@ -56,10 +57,10 @@ yes_status : status_for (found (findings.Audited verdicts.Yes)) ≡ 0
 yes_status = refl
 
 -- where the line could not be written
-yes_lost : status_lost (findings.Audited verdicts.Yes) ≡ 6
+yes_lost : lost_status (status_for (found (findings.Audited verdicts.Yes))) ≡ 6
 yes_lost = refl
 
-no_lost : status_lost (findings.Audited (verdicts.No 2 what.Shows)) ≡ 13
+no_lost : lost_status (status_for (found (findings.Audited (verdicts.No 2 what.Shows)))) ≡ 13
 no_lost = refl
 
 -- ---- lines

@@ -1,17 +1,18 @@
 -- How an audit of four files ends.
 use Rattle.std.specs.Prelude.{◌≡◌, ◌⊎◌, ℕ, List, Option, Some, Ok}
 use Rattle.con_events.specs.Session.{Clients}
-use Rattle.con_outside.specs.Outside.{then_written, WrotePart}
+use Rattle.con_outside.specs.Outside.{then_written}
 use Rattle.con_document.specs.Document.{IsDocument}
 use Rattle.con_trace.specs.Audit.{a_run, found_text}
-use Rattle.con_lines.specs.Ending.{status_of}
+use Rattle.con_lines.specs.Ending.{status_of, ending_text}
 use Rattle.con_lines.specs.Line.{ended}
 use Rattle.con_trace.specs.Report.{IsReport}
 use Rattle.con_trace.specs.declared.trace.Trace.{Trace}
-use Rattle.con_ending.specs.Files.{Reason, Tells, ending_for}
+use Rattle.con_ending.specs.Ending.{Reported}
+use Rattle.con_ending.specs.Files.{Reason, ending_for}
 use Rattle.con_audit.specs.Headline.{IsRun}
 use Rattle.con_inspect.specs.Four.{Four, four_of, AreFiles, Bars}
-use Rattle.con_inspect.specs.Finding.{given, Finds, told, status_found, status_lost}
+use Rattle.con_inspect.specs.Finding.{given, Finds, told, status_found}
 use Rattle.con_inspect.specs.declared.finding.Finding.{Finding}
 
 -- ---- what is found of files by name
@@ -26,23 +27,17 @@ IsJudged files names failed (barred why) = Bars files names failed why
 IsJudged files names failed (found f) = (four : Four) × AreFiles files names four × (session : Clients) × IsDocument four.session (Ok session)
     × Finds session four f
 
+-- ---- how it is told
+
 -- the status, where there is memory and the report does not fail
 abbrev pub status_for : Judged → ℕ
 status_for (barred why) = status_of (ending_for why)
 status_for (found f) = status_found f
 
--- ---- how it is told
-
--- the line of what was found, whole; cut, since the report failed; or cut, since there was no memory
-abbrev pub Reports : ℕ → Finding → Option (List ℕ) → Option (List ℕ) → Type 0 → Type 0
-Reports status f before now failed =
-    ((status ≡ status_found f) × (now ≡ then_written before (ended (found_text (told f)))))
-    ⊎ ((status ≡ status_lost f) × failed × WrotePart (ended (found_text (told f))) before now)
-    ⊎ ((status ≡ 9) × WrotePart (ended (found_text (told f))) before now)
-
-abbrev pub IsTold : ℕ → Judged → Option (List ℕ) → Option (List ℕ) → Type 0 → Type 0
-IsTold status (barred why) before now failed = Tells status (ending_for why) before now failed
-IsTold status (found f) before now failed = Reports status f before now failed
+-- the one line that says so, with its line feed
+abbrev pub line_for : Judged → List ℕ
+line_for (barred why) = ended (ending_text (ending_for why))
+line_for (found f) = ended (found_text (told f))
 
 -- ---- all of it
 
@@ -54,8 +49,9 @@ AreARun files names = (four : Four) × AreFiles files names four × (session : C
 
 pub record Audits (status : ℕ) (files : Option (List ℕ
     → Option (List ℕ))) (names : Four) (files_failed : Type 0) (before now : Option (List ℕ)) (failed : Type 0) : Type 0 where
-  -- there was no memory, and nothing was written; or what was found is told
-  pub told : ((status ≡ 9) × (now ≡ before)) ⊎ ((judged : Judged) × IsJudged files names files_failed judged × IsTold status judged before now failed)
+  -- there was no memory, and nothing was written; or what was found is told, whole or in part
+  pub told : ((status ≡ 9) × (now ≡ before))
+      ⊎ ((judged : Judged) × IsJudged files names files_failed judged × Reported status (status_for judged) (line_for judged) before now failed)
   -- with status 0 a yes was written, whole
   pub line : status ≡ 0 → now ≡ then_written before (ended (found_text a_run))
   -- where the answer is yes, the bytes of the files are a run

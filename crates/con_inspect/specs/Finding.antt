@@ -55,19 +55,6 @@ told (findings.WrongLine n) = no_run n (codes "line")
 told (findings.OtherStatus count) = no_run count (codes "whole")
 told (findings.Audited v) = told_verdict v
 
-abbrev pub status_by : Verdict → ℕ
-status_by verdicts.Yes = 0
-status_by (verdicts.No place w) = 13
-
 abbrev pub status_found : Finding → ℕ
-status_found (findings.Audited v) = status_by v
+status_found (findings.Audited verdicts.Yes) = 0
 status_found _ = 13
-
--- where the report of the audit failed
-abbrev pub lost_by : Verdict → ℕ
-lost_by verdicts.Yes = 6
-lost_by (verdicts.No place w) = 13
-
-abbrev pub status_lost : Finding → ℕ
-status_lost (findings.Audited v) = lost_by v
-status_lost _ = 13

@@ -2,7 +2,8 @@
 
 ghost use Rattle.std.specs.Prelude.{◌≡◌, ◌≤◌, IfOk, IfErr};
 ghost use Rattle.con_outside.specs.Outside.{Rose};
-ghost use Rattle.con_inspect.specs.Auditing.{Judged, HasAudited, IsComplete, IsJudged, Reports};
+ghost use Rattle.con_ending.specs.Ending.{Reported};
+ghost use Rattle.con_inspect.specs.Auditing.{Judged, HasAudited, IsComplete, IsJudged, line_for, status_for};
 ghost use Rattle.con_inspect.specs.Four.{four_of, Barred};
 
 use crate::files::read_files;
@@ -10,22 +11,19 @@ use crate::finding::Finding;
 use crate::judging::judge;
 use crate::laws::one_judgement;
 use con_audit::yes_is_a_run;
-use con_ending::{MEMORY, Unrun, close};
-use con_outside::{Fault, Files, Sink};
+use con_ending::{MEMORY, Unrun, close, status_after};
+use con_outside::{Files, Sink};
 use con_trace::write_audit;
 use std::alloc::Global;
 
 // Writes the line of what was found, and answers the status.
 fn tell<R: Sink>(alloc: Global, finding: Finding, report: &mut R) -> u8
-    ensures told { Reports result finding (R.written report.old) (R.written report.new) (Rose (R.faults report.old) (R.faults report.new)) }
-    ensures failed { result ≡ 6 → Rose (R.faults report.old) (R.faults report.new) }
+    ensures told { Reported result (status_for (Judged.found finding)) (line_for (Judged.found finding)) (R.written report.old) (R.written report.new)
+        (Rose (R.faults report.old) (R.faults report.new)) }
     ensures never_falls { R.faults report.old ≤ R.faults report.new }
 {
-    match write_audit(alloc, report, &finding.line()) {
-        Ok(()) => finding.status(),
-        Err(Fault::Failed) => finding.status_lost(),
-        Err(Fault::OutOfMemory) => MEMORY,
-    }
+    let written = write_audit(alloc, report, &finding.line());
+    status_after(written, finding.status())
 }
 
 // What is found of the files of these names, or why there is nothing to audit.

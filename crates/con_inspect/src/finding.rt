@@ -2,10 +2,10 @@
 
 ghost use Rattle.std.specs.Prelude.{◌≡◌};
 ghost use Rattle.con_trace.specs.Audit.{found_of};
-ghost use Rattle.con_inspect.specs.Finding.{told, told_verdict, status_found, status_lost, word_of};
+ghost use Rattle.con_inspect.specs.Finding.{told, told_verdict, status_found, word_of};
 
 use con_audit::{Verdict, What};
-use con_ending::{DONE, REPORT};
+use con_ending::DONE;
 use con_trace::AuditLine;
 
 /// The files are no run.
@@ -73,16 +73,6 @@ impl Finding {
     {
         match self {
             Finding::Audited(Verdict::Yes) => DONE,
-            _ => NO_RUN,
-        }
-    }
-
-    /// Its status where its line could not be written.
-    pub fn status_lost(self) -> u8
-        ensures { result ≡ status_lost self }
-    {
-        match self {
-            Finding::Audited(Verdict::Yes) => REPORT,
             _ => NO_RUN,
         }
     }
