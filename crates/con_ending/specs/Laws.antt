@@ -1,5 +1,5 @@
 -- The status of a call by how its report was written, and how the report goes then.
-use Rattle.std.proofs.Common.{◌≡◌, ◌<◌, inl, inr, refl, ℕ, zero, List, [], ◌∷◌, length, Option, arith}
+use Rattle.std.proofs.Common.{◌≡◌, ◌≢◌, ◌<◌, inl, inr, refl, sym, subst, ◌∙◌, ℕ, zero, List, [], ◌∷◌, length, Option, arith}
 use Rattle.std.specs.Prelude.{Result, Ok, Err, OnOk, OnErr}
 use Rattle.con_outside.specs.Laws.{then_written-none}
 use Rattle.con_outside.specs.Outside.{then_written, WrotePart}
@@ -21,6 +21,26 @@ pub reported_by : (written : Result (Unit {0}) Fault) (status told : ℕ) (text 
 reported_by (Ok done) status told text before now failed is whole part fault = inl (is, whole)
 reported_by (Err faults.Failed) status told text before now failed is whole part fault = inr (inl (is, part, fault refl))
 reported_by (Err faults.OutOfMemory) status told text before now failed is whole part fault = inr (inr (is, part))
+
+-- the same, where the bytes that were written are the text
+pub reported_of : (written : Result (Unit {0}) Fault) (status told : ℕ) (bytes text : List ℕ) (before now : Option (List ℕ)) (failed : Type 0)
+    → bytes ≡ text → status ≡ status_after written told → OnOk written (now ≡ then_written before bytes) → OnErr written (WrotePart bytes before now)
+    → (written ≡ Err faults.Failed → failed) → Reported status told text before now failed
+reported_of written status told bytes text before now failed same is whole part fault =
+    subst (λ (xs : List ℕ). Reported status told xs before now failed) same (reported_by written status told bytes before now failed is whole part fault)
+
+-- a report that tells 0 has failed where the status is 6
+pub lost_by : (written : Result (Unit {0}) Fault) (status : ℕ) (failed : Type 0) → status ≡ status_after written 0
+    → (written ≡ Err faults.Failed → failed) → status ≡ 6 → failed
+lost_by (Ok done) status failed is fault e = let bad : 0 ≡ 6 = sym is ∙ e in absurd (omega arith)
+lost_by (Err faults.Failed) status failed is fault e = fault refl
+lost_by (Err faults.OutOfMemory) status failed is fault e = let bad : 9 ≡ 6 = sym is ∙ e in absurd (omega arith)
+
+-- no status comes with it but 0, 6 and 9
+pub never_after : (written : Result (Unit {0}) Fault) (status n : ℕ) → status ≡ status_after written 0 → status ≡ n → 0 ≢ n → 6 ≢ n → 9 ≢ n → ⊥
+never_after (Ok done) status n is e told lost memory = told (sym is ∙ e)
+never_after (Err faults.Failed) status n is e told lost memory = lost (sym is ∙ e)
+never_after (Err faults.OutOfMemory) status n is e told lost memory = memory (sym is ∙ e)
 
 ends_later : (text : List ℕ) → 0 < length (ended text)
 ends_later [] = omega arith
