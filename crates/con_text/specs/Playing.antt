@@ -1,12 +1,12 @@
 -- How playing ends.
-use Rattle.std.specs.Prelude.{◌≡◌, ℕ, ◌≤◌, ◌⊎◌, ◌||◌, Bool, List, [], length, Option, IfSome, IsTrue, nat_eq, flat_map}
+use Rattle.std.specs.Prelude.{◌≡◌, ℕ, ◌≤◌, ◌⊎◌, List, [], length, Option, IfSome, codes, flat_map}
 use Rattle.con_text.specs.Encoded.{unit_bytes}
-use Rattle.con_outside.specs.Outside.{then_written, WroteFront, WrotePart}
 use Rattle.con_units.specs.declared.place.Size.{Size}
 use Rattle.con_term.specs.Page.{Page, blank_page}
 use Rattle.con_dump.specs.Dump.{dump}
 use Rattle.con_term.specs.Play.{play}
-use Rattle.con_ending.specs.Ending.{end_line, Told}
+use Rattle.con_lines.specs.Ending.{worded}
+use Rattle.con_ending.specs.Ending.{Reported, Tells}
 use Rattle.con_text.specs.Link.{IsTooLong}
 
 -- the text was read to the link's end, and is not too long
@@ -21,18 +21,13 @@ dump_bytes screen = flat_map unit_bytes (dump screen)
 abbrev pub dump_after : Size → List ℕ → List ℕ
 dump_after size text = flat_map unit_bytes (dump (play (record { page = blank_page size.w size.h; bytes = []; units = [] }) text).page)
 
--- How far playing came without memory: nothing was written; or a part of the dump, the link being read whole; or a part of a
--- last line.
-abbrev pub PlayedPart : Size → List ℕ → Option (List ℕ) → Option (List ℕ) → Option (List ℕ) → Type 0
-PlayedPart size text left before now =
-    ((now ≡ before) × (length text ≤ 16781312)) ⊎ ((IsWhole text left × WrotePart (dump_after size text) before now)
-    ⊎ (((length text ≤ 16777216) × WrotePart (end_line 4) before now) ⊎ (IsTooLong text × WrotePart (end_line 10) before now)))
-
--- The text that was taken from the link, what is left of it, and what the report has, for each status that comes.
-pub record Played (status : ℕ) (size : Size) (text : List ℕ) (left before now : Option (List ℕ)) (failed : Type 0) : Type 0 where
-  pub comes : IsTrue (nat_eq status 0 || nat_eq status 4 || nat_eq status 6 || nat_eq status 9 || nat_eq status 10)
-  pub done : status ≡ 0 → IsWhole text left × (now ≡ then_written before (dump_after size text))
-  pub report_failed : status ≡ 6 → IsWhole text left × WroteFront (dump_after size text) before now
-  pub link_failed : status ≡ 4 → (length text ≤ 16777216) × Told (end_line 4) before now failed
-  pub too_long : status ≡ 10 → IsTooLong text × Told (end_line 10) before now failed
-  pub memory : status ≡ 9 → PlayedPart size text left before now
+-- What may have happened, by what was taken from the link and what is left of it, and by what the report has:
+-- - there was no memory (9), and nothing was written; at most one piece more than a link may have was taken;
+-- - the link was read to its end, and the report is the dump, whole (0), or a part of it, since the report failed (6) or there was no memory (9);
+-- - the link failed (4) or has too many bytes (10), and the last line alone tells which.
+abbrev pub Played : ℕ → Size → List ℕ → Option (List ℕ) → Option (List ℕ) → Option (List ℕ) → Type 0 → Type 0
+Played status size text left before now failed =
+    ((status ≡ 9) × (now ≡ before) × (length text ≤ 16781312))
+    ⊎ ((IsWhole text left × Reported status 0 (dump_after size text) before now failed)
+    ⊎ (((length text ≤ 16777216) × Tells status (worded 4 (codes "link")) before now failed)
+    ⊎ (IsTooLong text × Tells status (worded 10 (codes "too long")) before now failed)))

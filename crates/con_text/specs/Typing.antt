@@ -1,6 +1,6 @@
 -- A text that is typed, and how typing ends.
-use Rattle.std.specs.Prelude.{◌≡◌, ℕ, ◌≤◌, ◌⊎◌, ◌||◌, Bool, List, [], ◌∷◌, ◌++◌, length, map, take, Option, IsSomeAnd, IsTrue, nat_eq, flat_map}
-use Rattle.con_outside.specs.Outside.{then_written, WroteFront, WrotePart}
+use Rattle.std.specs.Prelude.{◌≡◌, ℕ, ◌≤◌, ◌⊎◌, List, [], ◌∷◌, ◌++◌, length, map, take, Option, IsSomeAnd, codes, flat_map}
+use Rattle.con_outside.specs.Outside.{then_written, WrotePart}
 use Rattle.con_units.specs.Split.{split, split_after}
 use Rattle.con_units.specs.Utf8.{utf8}
 use Rattle.con_term.specs.Terminal.{Terminal, IsTerminal, Shows}
@@ -11,7 +11,8 @@ use Rattle.con_screens.specs.Buffer.{new_screen, buffer_written}
 use Rattle.con_screens.specs.Buffers.{Buffers, buffer_at, first_buffers, with_buffer}
 use Rattle.con_screens.specs.Lending.{screen_left}
 use Rattle.con_screens.specs.View.{view_of}
-use Rattle.con_ending.specs.Ending.{end_line, Told}
+use Rattle.con_lines.specs.Ending.{worded}
+use Rattle.con_ending.specs.Ending.{Tells}
 use Rattle.con_text.specs.Link.{IsTooLong}
 use Rattle.con_text.specs.Playing.{IsWhole}
 
@@ -67,24 +68,16 @@ IsFrame text frame = let s = text_typed text in
     IsSomeAnd (buffer_at s s.active) (λ b. (t : Terminal) → IsTerminal 80 25 t → Shows (play t frame) (view_of b.shown.page))
     × ((t : Terminal) → IsTerminal 80 25 t → printed t frame ≤ 2000)
 
--- a front of such a frame was written
-abbrev pub WroteFrame : List ℕ → Option (List ℕ) → Option (List ℕ) → Type 0
-WroteFrame text before now = (frame : List ℕ) × IsFrame text frame × WroteFront frame before now
-
--- How far typing came without memory: nothing was written; or a front of the frame, the link being read whole, and then perhaps a
--- part of the last line; or a part of another last line.
-abbrev pub TypedPart : List ℕ → Option (List ℕ) → Option (List ℕ) → Option (List ℕ) → Option (List ℕ) → Option (List ℕ) → Type 0
-TypedPart text left before now before_report report =
-    ((now ≡ before) × (report ≡ before_report) × (length text ≤ 16781312))
-    ⊎ ((IsWhole text left × WroteFrame text before now × ((report ≡ before_report) ⊎ WrotePart (end_line 5) before_report report))
-    ⊎ ((now ≡ before) × (((length text ≤ 16777216) × WrotePart (end_line 4) before_report report)
-    ⊎ (IsTooLong text × WrotePart (end_line 10) before_report report))))
-
--- The text that was taken from the link, what is left of it, and what the terminal and the report have, for each status that comes.
-pub record Typed (status : ℕ) (text : List ℕ) (left before now before_report report : Option (List ℕ)) (failed : Type 0) : Type 0 where
-  pub comes : IsTrue (nat_eq status 0 || nat_eq status 4 || nat_eq status 5 || nat_eq status 9 || nat_eq status 10)
-  pub done : status ≡ 0 → IsWhole text left × (report ≡ before_report) × ((frame : List ℕ) × IsFrame text frame × (now ≡ then_written before frame))
-  pub term_failed : status ≡ 5 → IsWhole text left × WroteFrame text before now × Told (end_line 5) before_report report failed
-  pub link_failed : status ≡ 4 → (length text ≤ 16777216) × (now ≡ before) × Told (end_line 4) before_report report failed
-  pub too_long : status ≡ 10 → IsTooLong text × (now ≡ before) × Told (end_line 10) before_report report failed
-  pub memory : status ≡ 9 → TypedPart text left before now before_report report
+-- What may have happened, by what was taken from the link and what is left of it, and by what the terminal and the report have:
+-- - there was no memory (9), and nothing was written; at most one piece more than a link may have was taken;
+-- - the link was read to its end, and a frame of the text was written: all of it, and nothing else (0); or a part of it, and then there was no memory for the
+--   rest (9), or the terminal failed, and the last line alone tells that (5);
+-- - nothing was written to the terminal, since the link failed (4) or has too many bytes (10), and the last line alone tells which.
+abbrev pub Typed : ℕ → List ℕ → Option (List ℕ) → Option (List ℕ) → Option (List ℕ) → Option (List ℕ) → Option (List ℕ) → Type 0 → Type 0
+Typed status text left before now before_report report failed =
+    ((status ≡ 9) × (now ≡ before) × (report ≡ before_report) × (length text ≤ 16781312))
+    ⊎ ((IsWhole text left × ((frame : List ℕ) × IsFrame text frame
+        × (((status ≡ 0) × (now ≡ then_written before frame) × (report ≡ before_report))
+        ⊎ (WrotePart frame before now × (((status ≡ 9) × (report ≡ before_report)) ⊎ Tells status (worded 5 (codes "term")) before_report report failed)))))
+    ⊎ ((now ≡ before) × (((length text ≤ 16777216) × Tells status (worded 4 (codes "link")) before_report report failed)
+    ⊎ (IsTooLong text × Tells status (worded 10 (codes "too long")) before_report report failed))))

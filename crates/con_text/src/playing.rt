@@ -7,8 +7,9 @@ ghost use Rattle.con_text.specs.Playing.{Played};
 use crate::reading::{Listener, ReadEnd, read_link};
 use crate::text::encoded;
 use con_dump::dump;
-use con_ending::{DONE, LINK, MEMORY, REPORT, TOO_LONG, finish};
-use con_outside::{Fault, Sink, Source, write_whole};
+use con_ending::{DONE, LINK, MEMORY, REPORT, TOO_LONG, close, status_after};
+use con_lines::EndLine;
+use con_outside::{Sink, Source, write_whole};
 use con_term::Terminal;
 use con_units::{OutOfMemory, Size};
 use std::alloc::Global;
@@ -56,17 +57,13 @@ pub fn host_play<I: Source, R: Sink>(alloc: Global, size: Size, link: &mut I, re
         return MEMORY;
     };
     match read_link(link, &mut terminal) {
-        ReadEnd::Failed => return finish(alloc, report, LINK),
-        ReadEnd::TooLong => return finish(alloc, report, TOO_LONG),
+        ReadEnd::Failed => return close(alloc, report, &EndLine::Word(LINK, "link")),
+        ReadEnd::TooLong => return close(alloc, report, &EndLine::Word(TOO_LONG, "too long")),
         ReadEnd::Memory => return MEMORY,
         ReadEnd::End => {}
     }
     let Ok(bytes) = dumped(alloc, &terminal) else {
         return MEMORY;
     };
-    match write_whole(report, bytes.as_slice()) {
-        Ok(()) => DONE,
-        Err(Fault::Failed) => REPORT,
-        Err(Fault::OutOfMemory) => MEMORY,
-    }
+    status_after(write_whole(report, bytes.as_slice()), DONE)
 }

@@ -11,7 +11,8 @@ ghost use Rattle.con_text.specs.Typing.{Typing, opening, ended, ShowsBuffers, Pr
 use crate::framing::frame;
 use crate::reading::{Listener, ReadEnd, read_link};
 use con_dump::decode;
-use con_ending::{DONE, LINK, MEMORY, TERMINAL, TOO_LONG, finish};
+use con_ending::{DONE, LINK, MEMORY, TERMINAL, TOO_LONG, close};
+use con_lines::EndLine;
 use con_outside::{Fault, Sink, Source, write_whole};
 use con_screen::Answers;
 use con_screens::Screens;
@@ -151,8 +152,8 @@ pub fn host_type<I: Source, O: Sink, R: Sink>(
         return MEMORY;
     };
     match read_link(link, &mut typist) {
-        ReadEnd::Failed => return finish(alloc, report, LINK),
-        ReadEnd::TooLong => return finish(alloc, report, TOO_LONG),
+        ReadEnd::Failed => return close(alloc, report, &EndLine::Word(LINK, "link")),
+        ReadEnd::TooLong => return close(alloc, report, &EndLine::Word(TOO_LONG, "too long")),
         ReadEnd::Memory => return MEMORY,
         ReadEnd::End => {}
     }
@@ -161,7 +162,7 @@ pub fn host_type<I: Source, O: Sink, R: Sink>(
     };
     match write_whole(term, bytes.as_slice()) {
         Ok(()) => DONE,
-        Err(Fault::Failed) => finish(alloc, report, TERMINAL),
+        Err(Fault::Failed) => close(alloc, report, &EndLine::Word(TERMINAL, "term")),
         Err(Fault::OutOfMemory) => MEMORY,
     }
 }
