@@ -1,5 +1,5 @@
 -- How the top call ends, by what the words ask for.
-use Rattle.std.proofs.Common.{◌≡◌, ℕ, List, [], Option, Some, None, refl, sym, subst, ap, ◌∙◌, rules, arith, ◌≤◌, length, ◌⊎◌, inl, inr}
+use Rattle.std.proofs.Common.{◌≡◌, ℕ, List, [], Option, Some, None, refl, sym, subst, ap, ◌∙◌, arith, ◌≤◌, length, ◌⊎◌, inl, inr}
 use Rattle.con_units.specs.declared.place.Size.{Size}
 use Rattle.con_outside.specs.Outside.{then_left, then_written, WroteFront, WrotePart}
 use Rattle.con_outside.specs.Laws.{then_left-none}
@@ -7,9 +7,9 @@ use Rattle.con_ending.specs.Ending.{end_line}
 use Rattle.con_host.specs.Generating.{Generated}
 use Rattle.con_host.specs.Hosting.{Hosted, Refused}
 use Rattle.con_host.specs.Mirroring.{HasMirrored}
-use Rattle.con_text.specs.Playing.{Played, PlayedPart}
+use Rattle.con_text.specs.Playing.{Played}
 use Rattle.con_host.specs.Sessions.{HasRun, Soloed}
-use Rattle.con_text.specs.Typing.{Typed, TypedPart}
+use Rattle.con_text.specs.Typing.{Typed}
 use Rattle.con_inspect.specs.Auditing.{Audits, HasAudited}
 use Rattle.con_inspect.specs.Four.{Four, four_of}
 use Rattle.con_words.specs.Words.{Asked, typing, playing, running, solo, mirroring, generating, auditing}
@@ -44,12 +44,10 @@ no_form s asked files files_failed racks before old second before_report report 
 
 -- there was no memory, and nothing was written
 no_playing : (size : Size) (text : List ℕ) (left before : Option (List ℕ)) (failed : Type 0) → length text ≤ 16781312 → Played 9 size text left before before failed
-no_playing size text left before failed few =
-    let all : PlayedPart size text left before before = inl (refl, few) in search rules
+no_playing size text left before failed few = inl (refl, refl, few)
 
 no_typing : (text : List ℕ) (left before report : Option (List ℕ)) (failed : Type 0) → length text ≤ 16781312 → Typed 9 text left before before report report failed
-no_typing text left before report failed few =
-    let all : TypedPart text left before before report report = inl (refl, refl, few) in search rules
+no_typing text left before report failed few = inl (refl, refl, refl, few)
 
 no_audit : (files : Option (List ℕ → Option (List ℕ))) (session link stream trace : List ℕ) (files_failed : Type 0) (before : Option (List ℕ)) (failed : Type 0) → HasAudited 9 files session link stream trace files_failed before before failed
 no_audit files session link stream trace files_failed before failed = record {

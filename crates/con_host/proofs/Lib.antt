@@ -2,6 +2,7 @@ pub mod Hosts
 pub mod SessionLemmas
 pub mod TellLemmas
 pub mod Generations
+pub mod Statuses
 pub mod Certain
 pub mod Foretelling
 pub mod Reasons

@@ -1,6 +1,6 @@
 -- How a generated session ends: from its number to the bytes of the terminal and of the report.
-use Rattle.std.specs.Prelude.{◌≡◌, ℕ, ◌⊎◌, ◌||◌, Bool, List, [], Option, Some, IsTrue, nat_eq}
-use Rattle.con_outside.specs.Outside.{then_written, WroteFront, WrotePart}
+use Rattle.std.specs.Prelude.{◌≡◌, ℕ, ◌⊎◌, List, [], Option, Some, codes}
+use Rattle.con_outside.specs.Outside.{then_written, WrotePart}
 use Rattle.con_events.specs.declared.end.End.TheVariants as ends
 use Rattle.con_events.specs.declared.entry.Entry.{Entry}
 use Rattle.con_events.specs.declared.reply.Reply.{Reply}
@@ -8,7 +8,8 @@ use Rattle.con_machine.specs.Follows.{session_start}
 use Rattle.con_laws.specs.Once.{TakenOnce}
 use Rattle.con_script.specs.Generated.{session_drawn}
 use Rattle.con_session.specs.Outcome.{IsSoloOutcome}
-use Rattle.con_ending.specs.Ending.{end_line, Told}
+use Rattle.con_lines.specs.Ending.{worded}
+use Rattle.con_ending.specs.Ending.{Reported, Tells}
 use Rattle.con_host.specs.Summary.{summary_text}
 
 -- The session of a number has run to its end, by turns, without handlers, over a link of no bytes: its history, its replies, the ends of its frames, and the
@@ -26,21 +27,14 @@ pub record GeneratedRun (seed : ℕ) : Type 0 where
 abbrev pub summary_of : (seed : ℕ) → GeneratedRun seed → List ℕ
 summary_of seed r = summary_text (session_drawn seed) r.entries r.replies r.stream
 
-abbrev pub is_gen_status : ℕ → Bool
-is_gen_status n = nat_eq n 0 || nat_eq n 5 || nat_eq n 6 || nat_eq n 9
-
--- How far it came without memory: nothing was written; or a front of the stream, and then perhaps a part of the last line; or the whole stream, and a part of
--- the summary.
-abbrev pub GeneratedPart : ℕ → Option (List ℕ) → Option (List ℕ) → Option (List ℕ) → Option (List ℕ) → Type 0
-GeneratedPart seed old now before report =
-    ((now ≡ old) × (report ≡ before))
-    ⊎ ((run : GeneratedRun seed) × ((WroteFront run.stream old now × ((report ≡ before) ⊎ WrotePart (end_line 5) before report))
-    ⊎ ((now ≡ then_written old run.stream) × WrotePart (summary_of seed run) before report)))
-
--- What the terminal and the report have, for each status that comes.
-pub record Generated (status seed : ℕ) (old now before report : Option (List ℕ)) (failed : Type 0) : Type 0 where
-  pub comes : IsTrue (is_gen_status status)
-  pub done : status ≡ 0 → (run : GeneratedRun seed) × (now ≡ then_written old run.stream) × (report ≡ then_written before (summary_of seed run))
-  pub term_failed : status ≡ 5 → (run : GeneratedRun seed) × WroteFront run.stream old now × Told (end_line 5) before report failed
-  pub report_failed : status ≡ 6 → (run : GeneratedRun seed) × (now ≡ then_written old run.stream) × WroteFront (summary_of seed run) before report
-  pub memory : status ≡ 9 → GeneratedPart seed old now before report
+-- What may have happened, by what the terminal and the report have:
+-- - there was no memory (9), and nothing was written;
+-- - the session has run, the terminal has its whole stream, and the report is its summary, whole (0), or a part of it, since the report failed (6) or there was
+--   no memory (9);
+-- - the session has run, and the terminal has a part of its stream: there was no memory for the rest (9), or the terminal failed, and the last line alone tells
+--   that (5).
+abbrev pub Generated : ℕ → ℕ → Option (List ℕ) → Option (List ℕ) → Option (List ℕ) → Option (List ℕ) → Type 0 → Type 0
+Generated status seed old now before report failed =
+    ((status ≡ 9) × (now ≡ old) × (report ≡ before))
+    ⊎ ((run : GeneratedRun seed) × (((now ≡ then_written old run.stream) × Reported status 0 (summary_of seed run) before report failed)
+    ⊎ (WrotePart run.stream old now × (((status ≡ 9) × (report ≡ before)) ⊎ Tells status (worded 5 (codes "term")) before report failed))))

@@ -9,12 +9,13 @@ ghost use Rattle.con_host.specs.Generating.{Generated, GeneratedRun, summary_of}
 ghost use Rattle.con_host.specs.Summary.{summary_text};
 
 use crate::summary::summary;
-use con_ending::{DONE, MEMORY, REPORT, TERMINAL, finish};
+use con_ending::{DONE, MEMORY, REPORT, TERMINAL, close, status_after};
 use con_events::{End, Session};
 use con_laws::once::each_record_is_taken_once;
 use con_outside::{Fault, Sink, SureSink, SureSource, write_whole};
 use con_script::generated;
 use con_session::{Outcome, run_solo};
+use con_trace::EndLine;
 use con_units::{Bytes, OutOfMemory};
 use std::alloc::Global;
 
@@ -83,12 +84,8 @@ pub fn host_gen<O: Sink, R: Sink>(alloc: Global, seed: u32, term: &mut O, report
     };
     match write_whole(term, run.stream.as_slice()) {
         Ok(()) => {}
-        Err(Fault::Failed) => return finish(alloc, report, TERMINAL),
+        Err(Fault::Failed) => return close(alloc, report, &EndLine::Word(TERMINAL, "term")),
         Err(Fault::OutOfMemory) => return MEMORY,
     }
-    match write_whole(report, run.summary.as_slice()) {
-        Ok(()) => DONE,
-        Err(Fault::Failed) => REPORT,
-        Err(Fault::OutOfMemory) => MEMORY,
-    }
+    status_after(write_whole(report, run.summary.as_slice()), DONE)
 }

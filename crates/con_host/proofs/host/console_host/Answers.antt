@@ -1,4 +1,4 @@
-use Rattle.std.proofs.Common.{◌≡◌, None, Some, map, string_bytes, ap, sym, subst, ◌∙◌, List, ℕ}
+use Rattle.std.proofs.Common.{◌≡◌, None, Some, map, string_bytes, ap, sym, subst, ◌∙◌, List, [], ℕ, arith}
 use Rattle.std.specs.Prelude.{option_map}
 use Rattle.con_host.specs.Foretold.{IsSession}
 use Rattle.con_words.specs.Asked.{asked_of}
@@ -6,6 +6,7 @@ use Rattle.con_inspect.specs.Auditing.{IsComplete}
 use Rattle.con_outside.specs.Outside.{Rose}
 use Rattle.con_words.specs.Words.{auditing, form_of, mirroring, running, solo}
 use Rattle.con_host.proofs.Hosts.{no_form, no_words, same_four, same_mirror, same_name, same_run}
+use Rattle.con_host.proofs.Statuses.{done_by, done_within, generated_comes, long_by, played_comes, typed_comes}
 use Rattle.con_host.proofs.host.console_host.Goals as goal
 
 pub returns-in-Ok-None-clause-outcome : goal.returns-in-Ok-None-clause-outcome
@@ -49,3 +50,28 @@ returns-in-Ok-Some-Audit-clause-audit_complete g c session link stream trace for
     let asked : Some (auditing here.session.now here.link.now here.stream.now here.trace.now) ≡ form_of (map string_bytes c.args.words.now) = ap (option_map asked_of) (sym (here.field-0-is ∙ ap Some here.field-0-0-is)) ∙ here.ensures.form in
     let same = same_four (form_of (map string_bytes c.args.words.now)) here.session.now here.link.now here.stream.now here.trace.now session link stream trace asked form in
     subst (λ four. IsComplete c.host_audit.result (g.F.Files.files c.args.files.now) four (Rose (g.F.Files.faults c.args.files.now) (g.F.Files.faults c.host_audit.new.files)) (Rose (g.R.Sink.faults c.args.report.now) (g.R.Sink.faults c.host_audit.new.report))) same c.host_audit.ensures.complete
+
+pub returns-in-Ok-Some-Type-clause-type_complete : goal.returns-in-Ok-Some-Type-clause-type_complete
+returns-in-Ok-Some-Type-clause-type_complete g c form link term report =
+    let came = c.host_type.ensures.outcome in
+    done_within _ 4 5 came.0 _ _ came.1 (typed_comes _ came.0 _ _ _ _ _ _ came.2) (λ e. link (c.host_type.ensures.link_failed e)) (λ e. term (c.host_type.ensures.term_failed e))
+
+pub returns-in-Ok-Some-Type-clause-too_long : goal.returns-in-Ok-Some-Type-clause-too_long
+returns-in-Ok-Some-Type-clause-too_long g c e =
+    let came = c.host_type.ensures.outcome in
+    (came.0, came.1, long_by _ 4 5 came.0 (typed_comes _ came.0 _ _ _ _ _ _ came.2) e (omega arith) (omega arith))
+
+pub returns-in-Ok-Some-Play-clause-play_complete : goal.returns-in-Ok-Some-Play-clause-play_complete
+returns-in-Ok-Some-Play-clause-play_complete g c size form link term report =
+    let came = c.host_play.ensures.outcome in
+    done_within _ 4 6 came.0 _ _ came.1 (played_comes _ c.in-Ok-Some-Play.size came.0 _ _ _ _ came.2) (λ e. link (c.host_play.ensures.link_failed e)) (λ e. report (c.host_play.ensures.report_failed e))
+
+pub returns-in-Ok-Some-Play-clause-too_long : goal.returns-in-Ok-Some-Play-clause-too_long
+returns-in-Ok-Some-Play-clause-too_long g c e =
+    let came = c.host_play.ensures.outcome in
+    (came.0, came.1, long_by _ 4 6 came.0 (played_comes _ c.in-Ok-Some-Play.size came.0 _ _ _ _ came.2) e (omega arith) (omega arith))
+
+pub returns-in-Ok-Some-Gen-clause-gen_complete : goal.returns-in-Ok-Some-Gen-clause-gen_complete
+returns-in-Ok-Some-Gen-clause-gen_complete g c seed form term report =
+    let comes = generated_comes _ _ _ _ _ _ _ c.host_gen.ensures.outcome in
+    done_by _ 5 6 [] comes (λ e. term (c.host_gen.ensures.term_failed e)) (λ e. report (c.host_gen.ensures.report_failed e)) (omega arith)
