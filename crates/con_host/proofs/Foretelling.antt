@@ -23,7 +23,7 @@ use Rattle.con_events.specs.declared.reply.Reply.{Reply}
 use Rattle.con_session.specs.Outcome.{HasSentBy, LeavesBy}
 use Rattle.con_lines.specs.Ending.{status_of}
 use Rattle.con_host.specs.Foretold.{ForetellsBy, HasNoFrameBy, StandsBy}
-use Rattle.con_host.specs.Sessions.{IsStatus, ending_after}
+use Rattle.con_host.specs.Sessions.{ending_after}
 use Rattle.con_host.proofs.Certain.{Certain, IsTold}
 
 abbrev spelled : (R : LinkReading) → List R.One → List ℕ
@@ -189,23 +189,14 @@ ran_foretold R laws link ends.Memory frames text rest sent fine is h s = absurd 
 
 -- ---- by status
 
--- all was done, or it failed, or the link says so: the status is that, or there was no memory
-settles : (s : ℕ) (end : End) → IsStatus s end → (s ≡ 4 → ⊥) → (s ≡ 5 → ⊥) → (s ≡ 6 → ⊥) → (s ≡ 9) ⊎ (IsSaid end × (s ≡ status_of (ending_after end)))
-settles s end is link term report = elim is [
-  | inl e ↦ by_end end e
-  | inr rest ↦ elim rest [
-    | inl e ↦ inl e
-    | inr e ↦ absurd (report e.0)
-  ]
-]
-  where
-    by_end : (d : End) → s ≡ status_of (ending_after d) → (s ≡ 9) ⊎ (IsSaid d × (s ≡ status_of (ending_after d)))
-    by_end ends.Done e = inr (tt, e)
-    by_end (ends.Bad place kind) e = inr (tt, e)
-    by_end ends.TooLong e = inr (tt, e)
-    by_end ends.Term e = absurd (term e)
-    by_end ends.Link e = absurd (link e)
-    by_end ends.Memory e = inl e
+-- where neither the link nor the terminal failed, the link says the end, or there was no memory
+settles : (end : End) → (end ≡ ends.Link → ⊥) → (end ≡ ends.Term → ⊥) → (status_of (ending_after end) ≡ 9) ⊎ IsSaid end
+settles ends.Done link term = inr tt
+settles (ends.Bad place kind) link term = inr tt
+settles ends.TooLong link term = inr tt
+settles ends.Term link term = absurd (term refl)
+settles ends.Link link term = absurd (link refl)
+settles ends.Memory link term = inl refl
 
 some_is : (a b : List ℕ) → Some a ≡ Some b → a ≡ b
 some_is a b e = ap (λ o. unwrap_or o a) e
@@ -214,12 +205,15 @@ bytes_are : (link taken rest : List ℕ) (before : Option (List ℕ)) → before
 bytes_are link taken rest before e f = some_is _ _ (sym f ∙ e)
 
 -- a session that ran has the end that the bytes say, or there was no memory
-status_foretold : (R : LinkReading) → Certain R → (s : ℕ) (end e : End) (frames : List R.One) (text link : List ℕ) (before left : Option (List ℕ)) (sent : List Event) → IsStatus s end → list_all R.is_one frames ≡ true → before ≡ then_left (spelled R frames ++ text) left
-    → HasSentBy R end frames text left sent → before ≡ Some link → ForetellsBy R link e → (s ≡ 4 → ⊥) → (s ≡ 5 → ⊥) → (s ≡ 6 → ⊥) → (s ≡ status_of (ending_after e)) ⊎ (s ≡ 9)
-status_foretold R laws s end e frames text link before None sent is fine taken h f foretells l t r = let bad : None ≡ Some link = sym taken ∙ f in absurd (cc)
-status_foretold R laws s end e frames text link before (Some rest) sent is fine taken h f foretells l t r = elim (settles s end is l t r) [
-  | inl m ↦ inr m
-  | inr p ↦ inl (p.1 ∙ ap (λ d. status_of (ending_after d)) (one_foretold R laws link end e (ran_foretold R laws link end frames text rest sent fine (bytes_are link (spelled R frames ++ text) rest before taken f) h p.0) foretells))
+status_foretold : (R : LinkReading) → Certain R → (s : ℕ) (end e : End) (frames : List R.One) (text link : List ℕ) (before left : Option (List ℕ)) (sent : List Event) → (s ≡ status_of (ending_after end)) ⊎ (s ≡ 9) → list_all R.is_one frames ≡ true → before ≡ then_left (spelled R frames ++ text) left
+    → HasSentBy R end frames text left sent → before ≡ Some link → ForetellsBy R link e → (end ≡ ends.Link → ⊥) → (end ≡ ends.Term → ⊥) → (s ≡ status_of (ending_after e)) ⊎ (s ≡ 9)
+status_foretold R laws s end e frames text link before None sent is fine taken h f foretells l t = let bad : None ≡ Some link = sym taken ∙ f in absurd (cc)
+status_foretold R laws s end e frames text link before (Some rest) sent is fine taken h f foretells l t = elim is [
+  | inl told' ↦ elim (settles end l t) [
+    | inl m ↦ inr (told' ∙ m)
+    | inr p ↦ inl (told' ∙ ap (λ d. status_of (ending_after d)) (one_foretold R laws link end e (ran_foretold R laws link end frames text rest sent fine (bytes_are link (spelled R frames ++ text) rest before taken f) h p) foretells))
+  ]
+  | inr m ↦ inr m
 ]
 
 eight : (end : End) → 8 ≡ status_of (ending_after end) → (place : ℕ) × (kind : FrameFault) × (end ≡ ends.Bad place kind)
@@ -230,15 +224,6 @@ eight ends.TooLong e = let bad : 8 ≡ 10 = e in absurd (omega arith)
 eight (ends.Bad place kind) e = (place, kind, refl)
 eight ends.Memory e = let bad : 8 ≡ 9 = e in absurd (omega arith)
 
-ended_bad : (s : ℕ) (end : End) → IsStatus s end → s ≡ 8 → (place : ℕ) × (kind : FrameFault) × (end ≡ ends.Bad place kind)
-ended_bad s end is e = elim is [
-  | inl f ↦ eight end (sym e ∙ f)
-  | inr rest ↦ elim rest [
-    | inl f ↦ let bad : 8 ≡ 9 = sym e ∙ f in absurd (omega arith)
-    | inr f ↦ let bad : 8 ≡ 6 = sym e ∙ f.0 in absurd (omega arith)
-  ]
-]
-
 ten : (end : End) → 10 ≡ status_of (ending_after end) → end ≡ ends.TooLong
 ten ends.Done e = let bad : 10 ≡ 0 = e in absurd (omega arith)
 ten ends.Term e = let bad : 10 ≡ 5 = e in absurd (omega arith)
@@ -247,42 +232,33 @@ ten ends.TooLong e = refl
 ten (ends.Bad place kind) e = let bad : 10 ≡ 8 = e in absurd (omega arith)
 ten ends.Memory e = let bad : 10 ≡ 9 = e in absurd (omega arith)
 
-ended_long : (s : ℕ) (end : End) → IsStatus s end → s ≡ 10 → end ≡ ends.TooLong
-ended_long s end is e = elim is [
-  | inl f ↦ ten end (sym e ∙ f)
-  | inr rest ↦ elim rest [
-    | inl f ↦ let bad : 10 ≡ 9 = sym e ∙ f in absurd (omega arith)
-    | inr f ↦ let bad : 10 ≡ 6 = sym e ∙ f.0 in absurd (omega arith)
-  ]
-]
-
 -- the status of a link without a frame at a place
-no_frame_there : (R : LinkReading) (s : ℕ) (end : End) (frames : List R.One) (text : List ℕ) (before left : Option (List ℕ)) (sent : List Event) → IsStatus s end → list_all R.is_one frames ≡ true → before ≡ then_left (spelled R frames ++ text) left
-    → HasSentBy R end frames text left sent → s ≡ 8 → IfSome before (HasNoFrameBy R)
-no_frame_there R s end frames text before None sent is fine taken h e = subst (λ b. IfSome b (HasNoFrameBy R)) (sym taken) tt
-no_frame_there R s end frames text before (Some rest) sent is fine taken h e =
-    let bad = ended_bad s end is e in
+no_frame_there : (R : LinkReading) (end : End) (frames : List R.One) (text : List ℕ) (before left : Option (List ℕ)) (sent : List Event) → list_all R.is_one frames ≡ true → before ≡ then_left (spelled R frames ++ text) left
+    → HasSentBy R end frames text left sent → 8 ≡ status_of (ending_after end) → IfSome before (HasNoFrameBy R)
+no_frame_there R end frames text before None sent fine taken h e = subst (λ b. IfSome b (HasNoFrameBy R)) (sym taken) tt
+no_frame_there R end frames text before (Some rest) sent fine taken h e =
+    let bad = eight end e in
     let sent' : HasSentBy R (ends.Bad bad.0 bad.1) frames text (Some rest) sent = subst (λ d. HasSentBy R d frames text (Some rest) sent) bad.2 h in
     subst (λ b. IfSome b (HasNoFrameBy R)) (sym taken) (bad.0, bad.1, stopped R ((spelled R frames ++ text) ++ rest) (faults.Bad bad.0 bad.1) frames text rest fine sent'.0.0 refl sent'.1)
 
 -- the status of a link with too many bytes
-much_taken : (R : LinkReading) → Certain R → (s : ℕ) (end : End) (frames : List R.One) (text : List ℕ) (before left : Option (List ℕ)) (sent : List Event) → IsStatus s end → before ≡ then_left (spelled R frames ++ text) left → HasSentBy R end frames text left sent → s ≡ 10
+much_taken : (R : LinkReading) → Certain R → (end : End) (frames : List R.One) (text : List ℕ) (before left : Option (List ℕ)) (sent : List Event) → before ≡ then_left (spelled R frames ++ text) left → HasSentBy R end frames text left sent → 10 ≡ status_of (ending_after end)
     → (taken : List ℕ) × (before ≡ then_left taken left) × (16777216 < length taken)
-much_taken R laws s end frames text before left sent is taken h e =
-    let sent' : HasSentBy R ends.TooLong frames text left sent = subst (λ d. HasSentBy R d frames text left sent) (ended_long s end is e) h in
+much_taken R laws end frames text before left sent taken h e =
+    let sent' : HasSentBy R ends.TooLong frames text left sent = subst (λ d. HasSentBy R d frames text left sent) (ten end e) h in
     let most = laws.long (length (spelled R frames)) text left sent'.1 in
     (spelled R frames ++ text, taken, omega (arith, most, length-append (spelled R frames) text))
 
 -- ---- of what a session left
 
 pub left_foretold : (R : LinkReading) (More : List R.One → List Entry → Type 0) → Certain R → (s : ℕ) (session : Clients) (racks : List (List ℕ)) (h : List Entry) (rs : List Reply) (es : List ℕ) (end e : End) (link : List ℕ) (before left old now : Option (List ℕ))
-    → LeavesBy R More session racks h rs es end before left old now → IsStatus s end → before ≡ Some link → ForetellsBy R link e → (s ≡ 4 → ⊥) → (s ≡ 5 → ⊥) → (s ≡ 6 → ⊥) → (s ≡ status_of (ending_after e)) ⊎ (s ≡ 9)
-left_foretold R More laws s session racks h rs es end e link before left old now o is known says l t r = status_foretold R laws s end e o.frames o.text link before left _ is o.frames' o.taken o.side known says l t r
+    → LeavesBy R More session racks h rs es end before left old now → (s ≡ status_of (ending_after end)) ⊎ (s ≡ 9) → before ≡ Some link → ForetellsBy R link e → (end ≡ ends.Link → ⊥) → (end ≡ ends.Term → ⊥) → (s ≡ status_of (ending_after e)) ⊎ (s ≡ 9)
+left_foretold R More laws s session racks h rs es end e link before left old now o is known says l t = status_foretold R laws s end e o.frames o.text link before left _ is o.frames' o.taken o.side known says l t
 
-pub left_no_frame : (R : LinkReading) (More : List R.One → List Entry → Type 0) (s : ℕ) (session : Clients) (racks : List (List ℕ)) (h : List Entry) (rs : List Reply) (es : List ℕ) (end : End) (before left old now : Option (List ℕ)) → LeavesBy R More session racks h rs es end before left old now
-    → IsStatus s end → s ≡ 8 → IfSome before (HasNoFrameBy R)
-left_no_frame R More s session racks h rs es end before left old now o is e = no_frame_there R s end o.frames o.text before left _ is o.frames' o.taken o.side e
+pub left_no_frame : (R : LinkReading) (More : List R.One → List Entry → Type 0) (session : Clients) (racks : List (List ℕ)) (h : List Entry) (rs : List Reply) (es : List ℕ) (end : End) (before left old now : Option (List ℕ)) → LeavesBy R More session racks h rs es end before left old now
+    → 8 ≡ status_of (ending_after end) → IfSome before (HasNoFrameBy R)
+left_no_frame R More session racks h rs es end before left old now o e = no_frame_there R end o.frames o.text before left _ o.frames' o.taken o.side e
 
-pub left_too_much : (R : LinkReading) (More : List R.One → List Entry → Type 0) → Certain R → (s : ℕ) (session : Clients) (racks : List (List ℕ)) (h : List Entry) (rs : List Reply) (es : List ℕ) (end : End) (before left old now : Option (List ℕ)) → LeavesBy R More session racks h rs es end before left old now
-    → IsStatus s end → s ≡ 10 → (taken : List ℕ) × (before ≡ then_left taken left) × (16777216 < length taken)
-left_too_much R More laws s session racks h rs es end before left old now o is e = much_taken R laws s end o.frames o.text before left _ is o.taken o.side e
+pub left_too_much : (R : LinkReading) (More : List R.One → List Entry → Type 0) → Certain R → (session : Clients) (racks : List (List ℕ)) (h : List Entry) (rs : List Reply) (es : List ℕ) (end : End) (before left old now : Option (List ℕ)) → LeavesBy R More session racks h rs es end before left old now
+    → 10 ≡ status_of (ending_after end) → (taken : List ℕ) × (before ≡ then_left taken left) × (16777216 < length taken)
+left_too_much R More laws session racks h rs es end before left old now o e = much_taken R laws end o.frames o.text before left _ o.taken o.side e

@@ -1,11 +1,12 @@
 -- How the top call ends, by what the words ask for.
-use Rattle.std.proofs.Common.{◌≡◌, ℕ, List, [], Option, Some, None, refl, sym, subst, ap, ◌∙◌, arith, ◌≤◌, length, ◌⊎◌, inl, inr}
+use Rattle.std.proofs.Common.{◌≡◌, ℕ, List, [], Option, Some, None, refl, sym, subst, ap, ◌∙◌, arith, ◌≤◌, length, codes, inl, inr}
 use Rattle.con_units.specs.declared.place.Size.{Size}
-use Rattle.con_outside.specs.Outside.{then_left, then_written, WroteFront, WrotePart}
+use Rattle.con_outside.specs.Outside.{then_left}
 use Rattle.con_outside.specs.Laws.{then_left-none}
-use Rattle.con_ending.specs.Ending.{end_line}
+use Rattle.con_lines.specs.Ending.{worded}
+use Rattle.con_ending.specs.Ending.{Tells}
 use Rattle.con_host.specs.Generating.{Generated}
-use Rattle.con_host.specs.Hosting.{Hosted, Refused}
+use Rattle.con_host.specs.Hosting.{Hosted}
 use Rattle.con_host.specs.Mirroring.{HasMirrored}
 use Rattle.con_text.specs.Playing.{Played}
 use Rattle.con_host.specs.Sessions.{HasRun, Soloed}
@@ -14,24 +15,14 @@ use Rattle.con_inspect.specs.Auditing.{Audits, HasAudited}
 use Rattle.con_inspect.specs.Four.{Four, four_of}
 use Rattle.con_words.specs.Words.{Asked, typing, playing, running, solo, mirroring, generating, auditing}
 use Rattle.con_host.proofs.Generations.{no_memory as no_generating}
-use Rattle.con_ending.specs.Laws.{part_of, nothing_yet}
+use Rattle.con_ending.specs.Laws.{nothing_yet}
 use Rattle.con_host.proofs.SessionLemmas.{no_memory as no_running, no_turns}
 use Rattle.con_host.proofs.Mirrors.{no_mirror}
 
-pub refused : (s : ℕ) (left now before_report report : Option (List ℕ)) (failed : Type 0) → (s ≡ 2) ⊎ (s ≡ 9) → WroteFront (end_line 2) before_report report
-    → (s ≡ 2 → ¬ failed → report ≡ then_written before_report (end_line 2)) → (¬ (s ≡ 2) → WrotePart (end_line 2) before_report report) → Refused s left left now now before_report report failed
-refused s left now before_report report failed which front whole part = record {
-  comes = which;
-  nothing_taken = refl;
-  nothing_written = refl;
-  told = λ e. record { front = front; whole = whole e };
-  memory = λ e. part_of before_report report s 2 e (omega arith) part;
-}
-
-pub no_form : (s : ℕ) (asked : Option Asked) (files : Option (List ℕ → Option (List ℕ))) (files_failed : Type 0) (racks : List (List ℕ)) (before old second before_report report : Option (List ℕ)) (failed second_failed : Type 0) → None ≡ asked → Refused s before before old old before_report report failed
+pub no_form : (s : ℕ) (asked : Option Asked) (files : Option (List ℕ → Option (List ℕ))) (files_failed : Type 0) (racks : List (List ℕ)) (before old second before_report report : Option (List ℕ)) (failed second_failed : Type 0) → None ≡ asked → Tells s (worded 2 (codes "usage")) before_report report failed
     → Hosted s asked files files_failed racks before before old old second second before_report report failed second_failed
 no_form s asked files files_failed racks before old second before_report report failed second_failed is says = record {
-  usage = λ _. says;
+  usage = λ _. (refl, refl, says);
   typed = λ e. absurd (cc);
   played = λ size e. absurd (cc);
   ran = λ name e. absurd (cc);
@@ -62,13 +53,7 @@ no_audit files session link stream trace files_failed before failed = record {
 -- there was no memory for the words
 pub no_words : (asked : Option Asked) (files : Option (List ℕ → Option (List ℕ))) (files_failed : Type 0) (racks : List (List ℕ)) (before old second before_report : Option (List ℕ)) (failed second_failed : Type 0) → Hosted 9 asked files files_failed racks before before old old second second before_report before_report failed second_failed
 no_words asked files files_failed racks before old second before_report failed second_failed = record {
-  usage = λ _. record {
-    comes = inr refl;
-    nothing_taken = refl;
-    nothing_written = refl;
-    told = λ e. let bad : 9 ≡ 2 = e in absurd (omega arith);
-    memory = λ _. nothing_yet _ before_report;
-  };
+  usage = λ _. (refl, refl, inr (inr (refl, nothing_yet _ before_report)));
   typed = λ _. ([], then_left-none before, no_typing [] before old before_report failed (omega arith));
   played = λ size _. (refl, ([], then_left-none before, no_playing size [] before before_report failed (omega arith)));
   ran = λ name _. no_running files name files_failed racks before old before_report failed;

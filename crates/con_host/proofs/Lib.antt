@@ -7,6 +7,5 @@ pub mod Certain
 pub mod Foretelling
 pub mod Reasons
 pub mod Reports
-pub mod Tells
 pub mod Mirrors
 pub mod ReadBacks

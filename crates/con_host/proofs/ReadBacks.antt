@@ -1,8 +1,8 @@
 -- A session's report as its reader has it.
-use Rattle.std.proofs.Common.{◌≡◌, ◌⊎◌, inl, inr, refl, sym, subst, ap, ap₂, ◌∙◌, arith, ℕ, suc, ◌+◌, ◌≤◌, Bool, true, false, List, [], ◌∷◌, length, map, Option}
+use Rattle.std.proofs.Common.{◌≡◌, inl, inr, refl, sym, subst, ap, ap₂, ◌∙◌, arith, ℕ, suc, ◌+◌, ◌≤◌, Bool, true, false, List, [], ◌∷◌, length, map, Option}
 use Rattle.std.specs.Prelude.{if◌then◌else◌}
 use Rattle.con_link.specs.LinkReading.{LinkReading}
-use Rattle.con_outside.specs.Outside.{then_written, WroteFront, WrotePart}
+use Rattle.con_outside.specs.Outside.{WroteFront}
 use Rattle.con_events.specs.Session.{Clients}
 use Rattle.con_events.specs.declared.end.End.{End}
 use Rattle.con_events.specs.declared.end.End.TheVariants as ends
@@ -13,7 +13,6 @@ use Rattle.con_events.specs.declared.reply.Reply.{Reply}
 use Rattle.con_events.specs.declared.reply.Reply.TheVariants as replies
 use Rattle.con_machine.specs.Follows.{session_start}
 use Rattle.con_machine.specs.History.{replies_of}
-use Rattle.con_laws.specs.Rounds.{is_memory}
 use Rattle.con_machine.specs.State.{State}
 use Rattle.con_machine.specs.Step.{step}
 use Rattle.con_machine.specs.Turns.{is_paint, paints}
@@ -25,8 +24,8 @@ use Rattle.con_forms.specs.Formed.{reported}
 use Rattle.con_forms.specs.Kept.{EndKeeps, Kept}
 use Rattle.con_forms.specs.Laws.{AllAreTold, AreSaid, EachIsTold, HistoriesFit, answers}
 use Rattle.con_forms.specs.Told.{history_told, is_told, told}
-use Rattle.con_host.specs.Mirroring.{IsMirrorStatus, mirror_ending}
-use Rattle.con_host.specs.Sessions.{IsFrontOfReport, IsStatus, ReadBack, ReadsAs, ending_after, trace_of}
+use Rattle.con_host.specs.Mirroring.{mirror_ending}
+use Rattle.con_host.specs.Sessions.{IsFrontOfReport, ReadBack, ReadsAs, ending_after, trace_of}
 use Rattle.con_host.specs.Telling.{ended_report, lines_text, told_report}
 use Rattle.con_host.proofs.TellLemmas.{report_cut, whole_is_told}
 
@@ -139,63 +138,3 @@ read_back R More session racks h rs es end before left old now last was is fit a
       all' = λ m. each h rs es many (l.ends' m ∙ all_pictures h);
       of_report = front_by are (is_told h rs es) h rs es last was is refl whole some ends wrote;
     }
-
--- ---- where each Paint has its end
-
-pub sound : (s : ℕ) (end : End) → IsStatus s end → ¬ (s ≡ 9) → is_memory end ≡ false
-sound s ends.Done is other = refl
-sound s ends.Term is other = refl
-sound s ends.Link is other = refl
-sound s ends.TooLong is other = refl
-sound s (ends.Bad place kind) is other = refl
-sound s ends.Memory is other = elim is [
-  | inl e ↦ absurd (other e)
-  | inr rest ↦ elim rest [
-    | inl e ↦ absurd (other e)
-    | inr e ↦ absurd (cc)
-  ]
-]
-
-other_end : (end : End) → ¬ (end ≡ ends.Memory) → is_memory end ≡ false
-other_end ends.Done k = refl
-other_end ends.Term k = refl
-other_end ends.Link k = refl
-other_end ends.TooLong k = refl
-other_end (ends.Bad place kind) k = refl
-other_end ends.Memory k = absurd (k refl)
-
-pub sound_cut : (s : ℕ) (end : End) → IsStatus s end → (s ≡ 6) ⊎ ((s ≡ 9) × ¬ (end ≡ ends.Memory)) → is_memory end ≡ false
-sound_cut s end is which = elim which [
-  | inl e ↦ sound s end is (λ f. let bad : 6 ≡ 9 = sym e ∙ f in absurd (omega arith))
-  | inr e ↦ other_end end e.1
-]
-
--- with a second terminal: by the status, or by 12, at which all was done
-pub sound_mirror : (s : ℕ) (end : End) (lost : Bool) → IsMirrorStatus s end lost → ¬ (s ≡ 9) → is_memory end ≡ false
-sound_mirror s ends.Done lost is other = refl
-sound_mirror s ends.Term lost is other = refl
-sound_mirror s ends.Link lost is other = refl
-sound_mirror s ends.TooLong lost is other = refl
-sound_mirror s (ends.Bad place kind) lost is other = refl
-sound_mirror s ends.Memory lost is other = elim is [
-  | inl e ↦ absurd (other e)
-  | inr rest ↦ elim rest [
-    | inl e ↦ absurd (other e)
-    | inr e ↦ absurd (cc)
-  ]
-]
-
-pub sound_mirror_cut : (s : ℕ) (end : End) (lost : Bool) → IsMirrorStatus s end lost → (s ≡ 6) ⊎ ((s ≡ 9) × ¬ (end ≡ ends.Memory)) → is_memory end ≡ false
-sound_mirror_cut s end lost is which = elim which [
-  | inl e ↦ sound_mirror s end lost is (λ f. let bad : 6 ≡ 9 = sym e ∙ f in absurd (omega arith))
-  | inr e ↦ other_end end e.1
-]
-
--- what holds of the whole report holds of it as far as it is told
-pub as_told : (h : List Entry) (rs : List Reply) (es : List ℕ) (last : Ending) (before now : Option (List ℕ)) → is_told h rs es ≡ true → now ≡ then_written before (ended_report h rs es last)
-    → now ≡ then_written before (told_report h rs es last)
-as_told h rs es last before now t is = is ∙ ap (then_written before) (sym (whole_is_told h rs es last t))
-
-pub cut_as_told : (h : List Entry) (rs : List Reply) (es : List ℕ) (last : Ending) (before now : Option (List ℕ)) → is_told h rs es ≡ true → WrotePart (ended_report h rs es last) before now
-    → WrotePart (told_report h rs es last) before now
-cut_as_told h rs es last before now t w = subst (λ x. WrotePart x before now) (sym (whole_is_told h rs es last t)) w

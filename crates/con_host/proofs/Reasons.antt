@@ -1,13 +1,16 @@
 -- Why no session runs, and what is never why.
-use Rattle.std.proofs.Common.{◌≡◌, inl, inr, sym, subst, ap, ◌∙◌, arith, ℕ, ◌<◌, ◌≤◌, List, length, Option, Some, None}
-use Rattle.std.specs.Prelude.{IfSome, Result, Ok, Err, unwrap_or}
+use Rattle.std.proofs.Common.{◌≡◌, refl, sym, subst, ap, ◌∙◌, arith, ℕ, ◌<◌, ◌≤◌, Bool, true, false, List, length, Option, Some, None}
+use Rattle.std.specs.Prelude.{◌||◌, nat_eq, IfSome, Result, Ok, Err, unwrap_or}
 use Rattle.con_events.specs.Session.{Clients}
 use Rattle.con_outside.specs.Named.{IsTooLong}
 use Rattle.con_document.specs.Document.{IsDocument, json_of}
 use Rattle.con_document.specs.StepLaws.{no_document, one_document}
-use Rattle.con_lines.specs.Ending.{Ending, status_of}
+use Rattle.con_lines.specs.Ending.{Ending, ending_text, status_of}
+use Rattle.con_lines.specs.Line.{ended}
+use Rattle.con_ending.specs.Ending.{Tells}
+use Rattle.con_ending.specs.Files.{Holds, IsFile, Reason, missing, unread, too_long, no_json, no_session, ending_for}
 use Rattle.con_host.specs.Foretold.{IsSession}
-use Rattle.con_ending.specs.Files.{Holds, IsFile, Reason, missing, unread, too_long, no_json, no_session, Tells, ending_for}
+use Rattle.con_host.proofs.Reports.{apart, failed_at, is_cut, told_at}
 
 some_is : (a b : List ℕ) → Some a ≡ Some b → a ≡ b
 some_is a b e = ap (λ o. unwrap_or o a) e
@@ -37,38 +40,21 @@ no_reason files name failed session (no_session bytes w) is sure h = no_fault is
 
 -- ---- no such status
 
-eight_for : (why : Reason) → 8 ≡ status_of (ending_for why) → ⊥
-eight_for missing e = let bad : 8 ≡ 7 = e in absurd (omega arith)
-eight_for unread e = let bad : 8 ≡ 7 = e in absurd (omega arith)
-eight_for too_long e = let bad : 8 ≡ 3 = e in absurd (omega arith)
-eight_for (no_json bytes) e = let bad : 8 ≡ 3 = e in absurd (omega arith)
-eight_for (no_session bytes w) e = let bad : 8 ≡ 3 = e in absurd (omega arith)
+-- the last line tells 3 or 7
+abbrev is_why : ℕ → Bool
+is_why n = nat_eq n 3 || nat_eq n 7
 
-ten_for : (why : Reason) → 10 ≡ status_of (ending_for why) → ⊥
-ten_for missing e = let bad : 10 ≡ 7 = e in absurd (omega arith)
-ten_for unread e = let bad : 10 ≡ 7 = e in absurd (omega arith)
-ten_for too_long e = let bad : 10 ≡ 3 = e in absurd (omega arith)
-ten_for (no_json bytes) e = let bad : 10 ≡ 3 = e in absurd (omega arith)
-ten_for (no_session bytes w) e = let bad : 10 ≡ 3 = e in absurd (omega arith)
+says : (why : Reason) → is_why (status_of (ending_for why)) ≡ true
+says missing = refl
+says unread = refl
+says too_long = refl
+says (no_json bytes) = refl
+says (no_session bytes w) = refl
 
-by_last : (n s : ℕ) (why : Reason) (last : Ending) (before now : Option (List ℕ)) (failed : Type 0) → last ≡ ending_for why → Tells s last before now failed → s ≡ n → (n ≡ 9 → ⊥) → (n ≡ status_of (ending_for why) → ⊥) → ⊥
-by_last n s why last before now failed is t e nine other = elim t [
-  | inl f ↦ other (sym e ∙ (f.0 ∙ ap status_of is))
-  | inr f ↦ nine (sym e ∙ f.0)
-]
+pub never : (n s : ℕ) (why : Reason) (last : Ending) (before now : Option (List ℕ)) (failed : Type 0) → is_cut n ≡ false → is_why n ≡ false → last ≡ ending_for why → Tells s last before now failed → s ≡ n → ⊥
+never n s why last before now failed whole other is t e =
+    apart is_why (status_of (ending_for why)) n (says why) other (sym (told_at s (status_of last) (ended (ending_text last)) before now failed t n whole e ∙ ap status_of is))
 
-pub never_eight : (s : ℕ) (why : Reason) (last : Ending) (before now : Option (List ℕ)) (failed : Type 0) → last ≡ ending_for why → Tells s last before now failed → s ≡ 8 → ⊥
-never_eight s why last before now failed is t e = by_last 8 s why last before now failed is t e (λ f. absurd (omega (arith, f))) (eight_for why)
-
-pub never_ten : (s : ℕ) (why : Reason) (last : Ending) (before now : Option (List ℕ)) (failed : Type 0) → last ≡ ending_for why → Tells s last before now failed → s ≡ 10 → ⊥
-never_ten s why last before now failed is t e = by_last 10 s why last before now failed is t e (λ f. absurd (omega (arith, f))) (ten_for why)
-
-twelve_for : (why : Reason) → 12 ≡ status_of (ending_for why) → ⊥
-twelve_for missing e = let bad : 12 ≡ 7 = e in absurd (omega arith)
-twelve_for unread e = let bad : 12 ≡ 7 = e in absurd (omega arith)
-twelve_for too_long e = let bad : 12 ≡ 3 = e in absurd (omega arith)
-twelve_for (no_json bytes) e = let bad : 12 ≡ 3 = e in absurd (omega arith)
-twelve_for (no_session bytes w) e = let bad : 12 ≡ 3 = e in absurd (omega arith)
-
-pub never_twelve : (s : ℕ) (why : Reason) (last : Ending) (before now : Option (List ℕ)) (failed : Type 0) → last ≡ ending_for why → Tells s last before now failed → s ≡ 12 → ⊥
-never_twelve s why last before now failed is t e = by_last 12 s why last before now failed is t e (λ f. absurd (omega (arith, f))) (twelve_for why)
+pub failed_by : (s : ℕ) (why : Reason) (last : Ending) (before now : Option (List ℕ)) (failed : Type 0) → last ≡ ending_for why → Tells s last before now failed → s ≡ 6 → failed
+failed_by s why last before now failed is t e =
+    failed_at s (status_of last) (ended (ending_text last)) before now failed t (λ six. apart is_why (status_of (ending_for why)) 6 (says why) refl (sym (ap status_of is) ∙ six)) e

@@ -1,39 +1,35 @@
--- Statuses of a session's end.
-use Rattle.std.proofs.Common.{◌≡◌, inl, inr, refl, sym, subst, ◌∙◌, arith, ℕ, List, Option}
+-- Statuses of a session's end, and a call that has no session.
+use Rattle.std.proofs.Common.{◌≡◌, inl, inr, refl, sym, subst, ap, ◌∙◌, arith, ℕ, Bool, true, false, List, Option}
+use Rattle.std.specs.Prelude.{◌||◌, nat_eq}
 use Rattle.con_events.specs.Session.{Clients}
 use Rattle.con_events.specs.declared.end.End.{End}
 use Rattle.con_events.specs.declared.end.End.TheVariants as ends
+use Rattle.con_laws.specs.Rounds.{is_memory}
 use Rattle.con_lines.specs.declared.ending.EndLine.{EndLine}
 use Rattle.con_lines.specs.Ending.{ending_of, status_of}
-use Rattle.con_ending.specs.Files.{Explains, NotRun, Reason, missing, unread, too_long, no_json, no_session, OfFile, Tells, ending_for}
-use Rattle.con_host.specs.Sessions.{IsStatus, HasRun, Soloed, ending_after, failed_after}
+use Rattle.con_ending.specs.Ending.{Reported, Tells}
+use Rattle.con_ending.specs.Files.{Explains, OfFile, ending_for}
 use Rattle.con_ending.specs.declared.file.Unrun.TheVariants as unrun
+use Rattle.con_host.specs.Sessions.{HasRun, Ran, RanByTurns, Soloed, ending_after}
+use Rattle.con_host.proofs.Reasons.{never}
+use Rattle.con_host.proofs.Reports.{apart, told_at}
+
+-- the statuses that a session's end has
+abbrev pub is_end : ℕ → Bool
+is_end n = nat_eq n 0 || nat_eq n 4 || nat_eq n 5 || nat_eq n 8 || nat_eq n 9 || nat_eq n 10
+
+pub end_says : (end : End) → is_end (status_of (ending_after end)) ≡ true
+end_says ends.Done = refl
+end_says ends.Term = refl
+end_says ends.Link = refl
+end_says ends.TooLong = refl
+end_says (ends.Bad place kind) = refl
+end_says ends.Memory = refl
 
 pub never_six : (end : End) → status_of (ending_after end) ≡ 6 → ⊥
-never_six ends.Done e = let bad : 0 ≡ 6 = e in absurd (omega arith)
-never_six ends.Term e = let bad : 5 ≡ 6 = e in absurd (omega arith)
-never_six ends.Link e = let bad : 4 ≡ 6 = e in absurd (omega arith)
-never_six ends.TooLong e = let bad : 10 ≡ 6 = e in absurd (omega arith)
-never_six (ends.Bad place kind) e = let bad : 8 ≡ 6 = e in absurd (omega arith)
-never_six ends.Memory e = let bad : 9 ≡ 6 = e in absurd (omega arith)
+never_six end e = apart is_end (status_of (ending_after end)) 6 (end_says end) refl e
 
-pub never_done : (end : End) → failed_after end ≡ 0 → ⊥
-never_done ends.Done e = let bad : 6 ≡ 0 = e in absurd (omega arith)
-never_done ends.Term e = let bad : 5 ≡ 0 = e in absurd (omega arith)
-never_done ends.Link e = let bad : 4 ≡ 0 = e in absurd (omega arith)
-never_done ends.TooLong e = let bad : 10 ≡ 0 = e in absurd (omega arith)
-never_done (ends.Bad place kind) e = let bad : 8 ≡ 0 = e in absurd (omega arith)
-never_done ends.Memory e = let bad : 9 ≡ 0 = e in absurd (omega arith)
-
-pub failed_is : (end : End) → IsStatus (failed_after end) end
-failed_is ends.Done = inr (inr (refl, refl))
-failed_is ends.Term = inl refl
-failed_is ends.Link = inl refl
-failed_is ends.TooLong = inl refl
-failed_is (ends.Bad place kind) = inl refl
-failed_is ends.Memory = inl refl
-
-four : (end : End) → 4 ≡ status_of (ending_after end) → end ≡ ends.Link
+pub four : (end : End) → 4 ≡ status_of (ending_after end) → end ≡ ends.Link
 four ends.Done e = let bad : 4 ≡ 0 = e in absurd (omega arith)
 four ends.Term e = let bad : 4 ≡ 5 = e in absurd (omega arith)
 four ends.Link e = refl
@@ -41,7 +37,7 @@ four ends.TooLong e = let bad : 4 ≡ 10 = e in absurd (omega arith)
 four (ends.Bad place kind) e = let bad : 4 ≡ 8 = e in absurd (omega arith)
 four ends.Memory e = let bad : 4 ≡ 9 = e in absurd (omega arith)
 
-five : (end : End) → 5 ≡ status_of (ending_after end) → end ≡ ends.Term
+pub five : (end : End) → 5 ≡ status_of (ending_after end) → end ≡ ends.Term
 five ends.Done e = let bad : 5 ≡ 0 = e in absurd (omega arith)
 five ends.Term e = refl
 five ends.Link e = let bad : 5 ≡ 4 = e in absurd (omega arith)
@@ -49,95 +45,50 @@ five ends.TooLong e = let bad : 5 ≡ 10 = e in absurd (omega arith)
 five (ends.Bad place kind) e = let bad : 5 ≡ 8 = e in absurd (omega arith)
 five ends.Memory e = let bad : 5 ≡ 9 = e in absurd (omega arith)
 
-pub ended_link : (s : ℕ) (end : End) → IsStatus s end → s ≡ 4 → end ≡ ends.Link
-ended_link s end is e = elim is [
-  | inl f ↦ four end (sym e ∙ f)
-  | inr rest ↦ elim rest [
-    | inl f ↦ let bad : 4 ≡ 9 = sym e ∙ f in absurd (omega arith)
-    | inr f ↦ let bad : 4 ≡ 6 = sym e ∙ f.0 in absurd (omega arith)
-  ]
-]
+pub memory_end : (end : End) → is_memory end ≡ true → end ≡ ends.Memory
+memory_end ends.Done e = absurd (cc)
+memory_end ends.Term e = absurd (cc)
+memory_end ends.Link e = absurd (cc)
+memory_end ends.TooLong e = absurd (cc)
+memory_end (ends.Bad place kind) e = absurd (cc)
+memory_end ends.Memory e = refl
 
-pub ended_term : (s : ℕ) (end : End) → IsStatus s end → s ≡ 5 → end ≡ ends.Term
-ended_term s end is e = elim is [
-  | inl f ↦ five end (sym e ∙ f)
-  | inr rest ↦ elim rest [
-    | inl f ↦ let bad : 5 ≡ 9 = sym e ∙ f in absurd (omega arith)
-    | inr f ↦ let bad : 5 ≡ 6 = sym e ∙ f.0 in absurd (omega arith)
-  ]
-]
+pub memory_nine : (end : End) → is_memory end ≡ true → status_of (ending_after end) ≡ 9
+memory_nine end e = ap (λ (d : End). status_of (ending_after d)) (memory_end end e)
+
+-- ---- no session
 
 -- there was no memory before the session ran
-none_ran : (Came : Clients → Type 0) (files : Option (List ℕ → Option (List ℕ))) (name : List ℕ) (files_failed : Type 0) (before old before_report : Option (List ℕ)) (failed : Type 0) → OfFile Came 9 files name files_failed before before old old before_report before_report failed
-none_ran Came files name files_failed before old before_report failed = inl (record { nothing_taken = refl; nothing_written = refl; told = inl (refl, refl) })
-
 pub no_memory : (files : Option (List ℕ → Option (List ℕ))) (name : List ℕ) (files_failed : Type 0) (racks : List (List ℕ)) (before old before_report : Option (List ℕ)) (failed : Type 0) → HasRun 9 files name files_failed racks before before old old before_report before_report failed
-no_memory files name files_failed racks before old before_report failed = none_ran _ files name files_failed before old before_report failed
+no_memory files name files_failed racks before old before_report failed = inl ((refl, refl), inl (refl, refl))
 
 pub no_turns : (files : Option (List ℕ → Option (List ℕ))) (name : List ℕ) (files_failed : Type 0) (racks : List (List ℕ)) (before old before_report : Option (List ℕ)) (failed : Type 0) → Soloed 9 files name files_failed racks before before old old before_report before_report failed
-no_turns files name files_failed racks before old before_report failed = none_ran _ files name files_failed before old before_report failed
+no_turns files name files_failed racks before old before_report failed = inl ((refl, refl), inl (refl, refl))
 
 -- a last line alone
-pub told_alone : (Came : Clients → Type 0) (s : ℕ) (files : Option (List ℕ → Option (List ℕ))) (name : List ℕ) (files_failed : Type 0) (before old before_report report : Option (List ℕ)) (failed : Type 0) (last : EndLine)
-    → Explains files name files_failed (unrun.Told last) → Tells s (ending_of last) before_report report failed → OfFile Came s files name files_failed before before old old before_report report failed
-told_alone Came s files name files_failed before old before_report report failed last why tells = inl (record {
-  nothing_taken = refl;
-  nothing_written = refl;
-  told = inr (why.0, why.1, subst (λ ending. Tells s ending before_report report failed) why.2 tells);
-})
+pub told_alone : (Came : Clients → Type 0) (Stays : Type 0) (s : ℕ) (files : Option (List ℕ → Option (List ℕ))) (name : List ℕ) (files_failed : Type 0) (before now : Option (List ℕ)) (failed : Type 0) (last : EndLine)
+    → Stays → Explains files name files_failed (unrun.Told last) → Tells s (ending_of last) before now failed → OfFile Came Stays s files name files_failed before now failed
+told_alone Came Stays s files name files_failed before now failed last stays why tells = inl (stays, inr (why.0, why.1, subst (λ ending. Tells s ending before now failed) why.2 tells))
 
 -- ---- a session is a form
 
-two : (end : End) → 2 ≡ status_of (ending_after end) → ⊥
-two ends.Done e = let bad : 2 ≡ 0 = e in absurd (omega arith)
-two ends.Term e = let bad : 2 ≡ 5 = e in absurd (omega arith)
-two ends.Link e = let bad : 2 ≡ 4 = e in absurd (omega arith)
-two ends.TooLong e = let bad : 2 ≡ 10 = e in absurd (omega arith)
-two (ends.Bad place kind) e = let bad : 2 ≡ 8 = e in absurd (omega arith)
-two ends.Memory e = let bad : 2 ≡ 9 = e in absurd (omega arith)
-
-two_for : (why : Reason) → 2 ≡ status_of (ending_for why) → ⊥
-two_for missing e = let bad : 2 ≡ 7 = e in absurd (omega arith)
-two_for unread e = let bad : 2 ≡ 7 = e in absurd (omega arith)
-two_for too_long e = let bad : 2 ≡ 3 = e in absurd (omega arith)
-two_for (no_json bytes) e = let bad : 2 ≡ 3 = e in absurd (omega arith)
-two_for (no_session bytes w) e = let bad : 2 ≡ 3 = e in absurd (omega arith)
-
-two_nine : (s : ℕ) → s ≡ 2 → s ≡ 9 → ⊥
-two_nine s e f = let bad : 2 ≡ 9 = sym e ∙ f in absurd (omega arith)
-
-two_six : (s : ℕ) → s ≡ 2 → s ≡ 6 → ⊥
-two_six s e f = let bad : 2 ≡ 6 = sym e ∙ f in absurd (omega arith)
-
-pub two_ran : (s : ℕ) (end : End) → s ≡ 2 → IsStatus s end → ⊥
-two_ran s end e is = elim is [
-  | inl f ↦ two end (sym e ∙ f)
-  | inr rest ↦ elim rest [
-    | inl f ↦ two_nine s e f
-    | inr f ↦ two_six s e f.0
+pub of_form : (Came : Clients → Type 0) (Stays : Type 0) (s : ℕ) (files : Option (List ℕ → Option (List ℕ))) (name : List ℕ) (files_failed : Type 0) (before now : Option (List ℕ)) (failed : Type 0)
+    → OfFile Came Stays s files name files_failed before now failed → ((session : Clients) → Came session → s ≡ 2 → ⊥) → s ≡ 2 → ⊥
+of_form Came Stays s files name files_failed before now failed o ran e = elim o [
+  | inl n ↦ elim n.1 [
+    | inl f ↦ let bad : 2 ≡ 9 = sym e ∙ f.0 in absurd (omega arith)
+    | inr w ↦ never 2 s w.0 (ending_for w.0) before now failed refl refl refl w.2 e
   ]
+  | inr r ↦ ran r.1 r.4 e
 ]
 
-two_told : (s : ℕ) (why : Reason) (before now : Option (List ℕ)) (failed : Type 0) → s ≡ 2 → Tells s (ending_for why) before now failed → ⊥
-two_told s why before now failed e t = elim t [
-  | inl f ↦ two_for why (sym e ∙ f.0)
-  | inr f ↦ two_nine s e f.0
-]
-
-pub two_not_run : (s : ℕ) (files : Option (List ℕ → Option (List ℕ))) (name : List ℕ) (files_failed : Type 0) (before left old now before_report report : Option (List ℕ)) (failed : Type 0) → s ≡ 2 → NotRun s files name files_failed before left old now before_report report failed → ⊥
-two_not_run s files name files_failed before left old now before_report report failed e n = elim n.told [
-  | inl f ↦ two_nine s e f.0
-  | inr w ↦ two_told s w.0 before_report report failed e w.2
-]
+two_told : (s : ℕ) (end : End) (text : List ℕ) (before now : Option (List ℕ)) (failed : Type 0) → Reported s (status_of (ending_after end)) text before now failed → s ≡ 2 → ⊥
+two_told s end text before now failed r e = apart is_end (status_of (ending_after end)) 2 (end_says end) refl (sym (told_at s (status_of (ending_after end)) text before now failed r 2 refl e))
 
 pub no_usage : (s : ℕ) (files : Option (List ℕ → Option (List ℕ))) (name : List ℕ) (files_failed : Type 0) (racks : List (List ℕ)) (before left old now before_report report : Option (List ℕ)) (failed : Type 0) → HasRun s files name files_failed racks before left old now before_report report failed → s ≡ 2 → ⊥
-no_usage s files name files_failed racks before left old now before_report report failed t e = elim t [
-  | inl n ↦ two_not_run s files name files_failed before left old now before_report report failed e n
-  | inr r ↦ two_ran s r.4.end e r.4.status_is
-]
+no_usage s files name files_failed racks before left old now before_report report failed t = of_form (λ session. Ran s session racks before left old now before_report report failed) _ s files name files_failed before_report report failed t
+    (λ session r. two_told s r.end _ before_report report failed r.reported)
 
 pub no_usage_of_turns : (s : ℕ) (files : Option (List ℕ → Option (List ℕ))) (name : List ℕ) (files_failed : Type 0) (racks : List (List ℕ)) (before left old now before_report report : Option (List ℕ)) (failed : Type 0) → Soloed s files name files_failed racks before left old now before_report report failed → s ≡ 2 → ⊥
-no_usage_of_turns s files name files_failed racks before left old now before_report report failed t e = elim t [
-  | inl n ↦ two_not_run s files name files_failed before left old now before_report report failed e n
-  | inr r ↦ two_ran s r.4.ran.end e r.4.ran.status_is
-]
+no_usage_of_turns s files name files_failed racks before left old now before_report report failed t = of_form (λ session. RanByTurns s session racks before left old now before_report report failed) _ s files name files_failed before_report report failed t
+    (λ session r. two_told s r.ran.end _ before_report report failed r.ran.reported)

@@ -1,8 +1,9 @@
 -- What the top call does, by its words.
-use Rattle.std.specs.Prelude.{◌≡◌, ◌≢◌, ℕ, ◌⊎◌, List, Option, Some, None}
+use Rattle.std.specs.Prelude.{◌≡◌, ◌≢◌, ℕ, List, Option, Some, None, codes}
 use Rattle.con_units.specs.declared.place.Size.{Size}
-use Rattle.con_outside.specs.Outside.{WrotePart, then_left}
-use Rattle.con_ending.specs.Ending.{end_line, Told}
+use Rattle.con_outside.specs.Outside.{then_left}
+use Rattle.con_lines.specs.Ending.{worded}
+use Rattle.con_ending.specs.Ending.{Tells}
 use Rattle.con_host.specs.Generating.{Generated}
 use Rattle.con_host.specs.Mirroring.{HasMirrored}
 use Rattle.con_text.specs.Playing.{Played}
@@ -11,20 +12,13 @@ use Rattle.con_text.specs.Typing.{Typed}
 use Rattle.con_inspect.specs.Auditing.{HasAudited}
 use Rattle.con_words.specs.Words.{Asked, typing, playing, running, solo, mirroring, generating, auditing}
 
--- Words that are no form: the line that says so was written, or there was no memory for it.
-pub record Refused (status : ℕ) (before left old now before_report report : Option (List ℕ)) (failed : Type 0) : Type 0 where
-  pub comes : (status ≡ 2) ⊎ (status ≡ 9)
-  pub nothing_taken : left ≡ before
-  pub nothing_written : now ≡ old
-  pub told : status ≡ 2 → Told (end_line 2) before_report report failed
-  pub memory : status ≡ 9 → WrotePart (end_line 2) before_report report
-
 -- By what the words ask for, whose statuses are those of its record: what the link had left before and after, what the terminal has, what the second
 -- terminal has, and what the report has; `failed` says that the report failed, `second_failed` that the second terminal did, `files_failed` that the files did.
 pub record Hosted (status : ℕ) (asked : Option Asked) (files : Option (List ℕ
     → Option (List ℕ))) (files_failed : Type 0) (racks : List (List ℕ))
     (before left old now was written before_report report : Option (List ℕ)) (failed second_failed : Type 0) : Type 0 where
-  pub usage : asked ≡ None → Refused status before left old now before_report report failed
+  -- words that are no form: the line that says so, alone
+  pub usage : asked ≡ None → (left ≡ before) × (now ≡ old) × Tells status (worded 2 (codes "usage")) before_report report failed
   pub typed : asked ≡ Some typing → (text : List ℕ) × (before ≡ then_left text left) × Typed status text left old now before_report report failed
   pub played : (size : Size) → asked ≡ Some (playing size) → (now ≡ old)
       × ((text : List ℕ) × (before ≡ then_left text left) × Played status size text left before_report report failed)

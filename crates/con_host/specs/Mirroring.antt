@@ -1,40 +1,31 @@
 -- How a session of a file with a second terminal ends: from the bytes of its file and of its link to those of both terminals and of the report.
-use Rattle.std.specs.Prelude.{◌≡◌, ◌⊎◌, ℕ, Bool, true, false, List, Option, Ok, codes}
+use Rattle.std.specs.Prelude.{◌≡◌, ◌⊎◌, ℕ, Bool, true, List, Option, codes}
 use Rattle.con_events.specs.Session.{Clients}
 use Rattle.con_events.specs.declared.end.End.{End}
 use Rattle.con_events.specs.declared.end.End.TheVariants as ends
 use Rattle.con_events.specs.declared.entry.Entry.{Entry}
 use Rattle.con_events.specs.declared.reply.Reply.{Reply}
-use Rattle.con_outside.specs.Outside.{then_written, WroteFront}
-use Rattle.con_document.specs.Document.{IsDocument}
+use Rattle.con_outside.specs.Outside.{then_written}
 use Rattle.con_machine.specs.Follows.{session_start}
 use Rattle.con_laws.specs.Once.{TakenOnce}
 use Rattle.con_session.specs.Second.{IsMirrorOutcome}
 use Rattle.con_lines.specs.Ending.{Ending, worded, status_of}
 use Rattle.con_host.specs.Telling.{told_report}
-use Rattle.con_host.specs.Sessions.{IsCut, ReadBack, ending_after, failed_after}
-use Rattle.con_ending.specs.Files.{IsFile, NotRun}
+use Rattle.con_host.specs.Sessions.{ReadBack, ending_after}
+use Rattle.con_ending.specs.Ending.{Reported}
+use Rattle.con_ending.specs.Files.{OfFile}
 
 -- the last line of a session that ended so, and whether its second terminal failed: where all else was done, the line says that
 abbrev pub mirror_ending : End → Bool → Ending
 mirror_ending ends.Done true = worded 12 (codes "mirror")
 mirror_ending end lost = ending_after end
 
--- the status where the report failed: of several causes the session's comes first, and then the second terminal's
-abbrev pub mirror_failed_after : End → Bool → ℕ
-mirror_failed_after ends.Done true = 12
-mirror_failed_after end lost = failed_after end
-
 -- the report of a history with its answers and ends, up to this end
 abbrev pub mirror_report : List Entry → List Reply → List ℕ → End → Bool → List ℕ
 mirror_report h rs es end lost = told_report h rs es (mirror_ending end lost)
 
--- the status that its last line tells; 9 for want of memory for the report; 6 where all was done, the second terminal did not fail, and the report did
-abbrev pub IsMirrorStatus : ℕ → End → Bool → Type 0
-IsMirrorStatus status end lost = (status ≡ status_of (mirror_ending end lost)) ⊎ ((status ≡ 9) ⊎ ((status ≡ 6) × (end ≡ ends.Done) × (lost ≡ false)))
-
 -- The session ran by turns, with a second terminal: one history, with all that such a session leaves, A and D being frames that count as Ask; the second
--- terminal's stream with its ends, and whether it was lost; and the report, which is whole unless the report failed or there was no memory for it.
+-- terminal's stream with its ends, and whether it was lost; and the report, or a part of it, where the report failed or there was no memory.
 pub record RanMirrored (status : ℕ) (session : Clients) (racks : List (List ℕ))
     (before left old now was written before_report report' : Option (List ℕ)) (failed second_failed : Type 0) : Type 0 where
   pub entries : List Entry
@@ -45,19 +36,13 @@ pub record RanMirrored (status : ℕ) (session : Clients) (racks : List (List �
   pub lost : Bool
   pub outcome : IsMirrorOutcome session racks entries replies ends' end seconds lost before left old now was written
   pub once : TakenOnce (session_start session racks) entries
-  pub status_is : IsMirrorStatus status end lost
-  pub front : WroteFront (mirror_report entries replies ends' end lost) before_report report'
-  pub whole : ¬ (status ≡ 9) → ¬ failed → report' ≡ then_written before_report (mirror_report entries replies ends' end lost)
-  pub done : status ≡ 0 → report' ≡ then_written before_report (mirror_report entries replies ends' end lost)
-  pub cut : IsCut status end (mirror_report entries replies ends' end lost) before_report report'
+  pub reported : Reported status (status_of (mirror_ending end lost)) (mirror_report entries replies ends' end lost) before_report report' failed
   pub read : ReadBack entries replies ends' end (mirror_ending end lost) before_report report'
   -- all built bytes of the second terminal's stream were written with 0 and 6, and with every other status but 9, unless it failed
   pub shown : ¬ (status ≡ 9) → (status ≡ 0) ⊎ ((status ≡ 6) ⊎ ¬ second_failed) → written ≡ then_written was outcome.leaves.more.built
 
--- There is no session, and nothing was written to the second terminal; or the file is one, of which this came.
 abbrev pub HasMirrored : ℕ → Option (List ℕ → Option (List ℕ)) → List ℕ → Type 0 → List (List ℕ) → Option (List ℕ) → Option (List ℕ)
     → Option (List ℕ) → Option (List ℕ) → Option (List ℕ) → Option (List ℕ) → Option (List ℕ) → Option (List ℕ) → Type 0 → Type 0 → Type 0
 HasMirrored status files name files_failed racks before left old now was written before_report report' failed second_failed =
-    (NotRun status files name files_failed before left old now before_report report' failed × (written ≡ was))
-    ⊎ ((bytes : List ℕ) × (session : Clients) × IsFile files name bytes × IsDocument bytes (Ok session)
-    × RanMirrored status session racks before left old now was written before_report report' failed second_failed)
+    OfFile (λ session. RanMirrored status session racks before left old now was written before_report report' failed second_failed)
+    ((left ≡ before) × (now ≡ old) × (written ≡ was)) status files name files_failed before_report report' failed

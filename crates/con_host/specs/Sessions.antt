@@ -1,21 +1,22 @@
 -- How a session of a file ends, by threads and by turns: from the bytes of its file and of its link to those of the terminal and of the report.
-use Rattle.std.specs.Prelude.{◌≡◌, ◌⊎◌, ℕ, true, false, List, Option, codes}
+use Rattle.std.specs.Prelude.{◌≡◌, ℕ, true, false, List, Option, codes}
 use Rattle.con_events.specs.Session.{Clients}
 use Rattle.con_events.specs.declared.end.End.{End}
 use Rattle.con_events.specs.declared.end.End.TheVariants as ends
 use Rattle.con_events.specs.declared.entry.Entry.{Entry}
 use Rattle.con_events.specs.declared.reply.Reply.{Reply}
-use Rattle.con_outside.specs.Outside.{then_written, WroteFront, WrotePart}
+use Rattle.con_outside.specs.Outside.{WroteFront}
 use Rattle.con_machine.specs.Follows.{session_start}
 use Rattle.con_laws.specs.Once.{TakenOnce}
 use Rattle.con_laws.specs.Rounds.{Rounds, is_memory}
 use Rattle.con_session.specs.Outcome.{Leaves}
+use Rattle.con_ending.specs.Ending.{Reported}
 use Rattle.con_ending.specs.Files.{OfFile}
 use Rattle.con_lines.specs.Ending.{Ending, IsEnding, alone, worded, at_frame, status_of}
 use Rattle.con_trace.specs.Report.{History, IsHistory, IsReport, report_of}
 use Rattle.con_trace.specs.declared.trace.Trace.{Trace}
 use Rattle.con_forms.specs.Told.{is_told}
-use Rattle.con_host.specs.Telling.{ended_report, told_report}
+use Rattle.con_host.specs.Telling.{told_report}
 
 -- ---- the session's end
 
@@ -28,30 +29,9 @@ ending_after ends.TooLong = worded 10 (codes "too long")
 ending_after (ends.Bad place kind) = at_frame place kind
 ending_after ends.Memory = alone 9
 
--- the report of a history with its answers and ends, up to this end, where each Paint has its end
-abbrev pub whole_text : List Entry → List Reply → List ℕ → End → List ℕ
-whole_text h rs es end = ended_report h rs es (ending_after end)
-
--- and in general: it ends before a Paint that has no end
+-- the report of a history with its answers and ends, up to this end; it ends before a Paint that has no end
 abbrev pub report_text : List Entry → List Reply → List ℕ → End → List ℕ
 report_text h rs es end = told_report h rs es (ending_after end)
-
--- the status where the report failed: of several causes the session's comes first
-abbrev pub failed_after : End → ℕ
-failed_after ends.Done = 6
-failed_after ends.Term = 5
-failed_after ends.Link = 4
-failed_after ends.TooLong = 10
-failed_after (ends.Bad place kind) = 8
-failed_after ends.Memory = 9
-
--- the status that its last line tells; 9 for want of memory for the report; 6 where all was done and the report failed
-abbrev pub IsStatus : ℕ → End → Type 0
-IsStatus status end = (status ≡ status_of (ending_after end)) ⊎ ((status ≡ 9) ⊎ ((status ≡ 6) × (end ≡ ends.Done)))
-
--- With status 6, and with 9 where the session itself came to another end, the report is never whole: not all of it was written.
-abbrev pub IsCut : ℕ → End → List ℕ → Option (List ℕ) → Option (List ℕ) → Type 0
-IsCut status end text before now = (status ≡ 6) ⊎ ((status ≡ 9) × ¬ (end ≡ ends.Memory)) → WrotePart text before now
 
 -- ---- the report as its reader has it
 
@@ -75,8 +55,8 @@ pub record ReadBack (h : List Entry) (rs : List Reply) (es : List ℕ) (end : En
   pub of_report : IsFrontOfReport before now
 
 -- The session ran, in whatever order its actors came: one history, with all that such a session leaves, in which each
--- record of the input goes to one read at most and each read answers what is of its records, and its report, which is whole unless the report
--- failed or there was no memory for it; then a front of it was written. Its reader has this history of it.
+-- record of the input goes to one read at most and each read answers what is of its records, and its report, with the status that its last line tells,
+-- or a part of it, where the report failed or there was no memory. Its reader has this history of it.
 pub record Ran (status : ℕ) (session : Clients) (racks : List (List ℕ)) (before left old now before_report report' : Option (List ℕ))
     (failed : Type 0) : Type 0 where
   pub entries : List Entry
@@ -85,11 +65,7 @@ pub record Ran (status : ℕ) (session : Clients) (racks : List (List ℕ)) (bef
   pub end : End
   pub leaves : Leaves session racks entries replies ends' end before left old now
   pub once : TakenOnce (session_start session racks) entries
-  pub status_is : IsStatus status end
-  pub front : WroteFront (report_text entries replies ends' end) before_report report'
-  pub whole : ¬ (status ≡ 9) → ¬ (status ≡ 6) → ¬ failed → report' ≡ then_written before_report (report_text entries replies ends' end)
-  pub done : status ≡ 0 → report' ≡ then_written before_report (report_text entries replies ends' end)
-  pub cut : IsCut status end (report_text entries replies ends' end) before_report report'
+  pub reported : Reported status (status_of (ending_after end)) (report_text entries replies ends' end) before_report report' failed
   pub read : ReadBack entries replies ends' end (ending_after end) before_report report'
 
 -- It ran by turns: the same, and its history is rounds of these turns.
@@ -104,12 +80,12 @@ pub record RanByTurns (status : ℕ) (session : Clients) (racks : List (List ℕ
 abbrev pub HasRun : ℕ → Option (List ℕ → Option (List ℕ)) → List ℕ → Type 0 → List (List ℕ) → Option (List ℕ) → Option (List ℕ)
     → Option (List ℕ) → Option (List ℕ) → Option (List ℕ) → Option (List ℕ) → Type 0 → Type 0
 HasRun status files name files_failed racks before left old now before_report report' failed =
-    OfFile (λ session. Ran status session racks before left old now before_report report' failed) status files name files_failed before left
-    old now before_report report' failed
+    OfFile (λ session. Ran status session racks before left old now before_report report' failed) ((left ≡ before) × (now ≡ old)) status files name
+    files_failed before_report report' failed
 
 -- by turns
 abbrev pub Soloed : ℕ → Option (List ℕ → Option (List ℕ)) → List ℕ → Type 0 → List (List ℕ) → Option (List ℕ) → Option (List ℕ)
     → Option (List ℕ) → Option (List ℕ) → Option (List ℕ) → Option (List ℕ) → Type 0 → Type 0
 Soloed status files name files_failed racks before left old now before_report report' failed =
-    OfFile (λ session. RanByTurns status session racks before left old now before_report report' failed) status files name files_failed
-    before left old now before_report report' failed
+    OfFile (λ session. RanByTurns status session racks before left old now before_report report' failed) ((left ≡ before) × (now ≡ old)) status files name
+    files_failed before_report report' failed

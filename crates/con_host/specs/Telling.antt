@@ -1,8 +1,7 @@
--- The lines of a history, without the last one; a report as far as it is told; and one that was written with a last line.
-use Rattle.std.specs.Prelude.{◌≡◌, ◌⊎◌, ℕ, List, [], ◌∷◌, ◌++◌, Option, if◌then◌else◌}
+-- The lines of a history, without the last one; and a report as far as it is told.
+use Rattle.std.specs.Prelude.{ℕ, List, [], ◌∷◌, ◌++◌, if◌then◌else◌}
 use Rattle.con_events.specs.declared.entry.Entry.{Entry}
 use Rattle.con_events.specs.declared.reply.Reply.{Reply}
-use Rattle.con_outside.specs.Outside.{then_written, WrotePart}
 use Rattle.con_lines.specs.Ending.{Ending}
 use Rattle.con_lines.specs.declared.said.Said.{Said}
 use Rattle.con_trace.specs.Report.{report, said, said_text}
@@ -19,9 +18,3 @@ ended_report h rs es last = report (said h rs es) last
 -- the same as far as it is told: it ends before a Paint that has no end, and then has no last line
 abbrev pub told_report : List Entry → List Reply → List ℕ → Ending → List ℕ
 told_report h rs es last = if is_told h rs es then ended_report h rs es last else lines_text (told h rs es)
-
--- all of it was written, by the status that its last line tells; or a part of it, since the report failed, by the status for that; or a part, by 9, for want
--- of memory
-abbrev pub Reported : ℕ → List ℕ → ℕ → ℕ → Option (List ℕ) → Option (List ℕ) → Type 0 → Type 0
-Reported status text told lost before now failed =
-    ((status ≡ told) × (now ≡ then_written before text)) ⊎ (((status ≡ lost) × WrotePart text before now × failed) ⊎ ((status ≡ 9) × WrotePart text before now))

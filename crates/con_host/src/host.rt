@@ -1,28 +1,30 @@
 //! The top call.
 
-ghost use Rattle.std.specs.Prelude.{◌≡◌, ◌≢◌, ℕ, ◌+◌, ◌<◌, ◌≤◌, ◌⊎◌, ◌↔◌, List, [], All, length, map, Option, Some, None, IfSome, IsNone, IsTrue, string_bytes};
+ghost use Rattle.std.specs.Prelude.{◌≡◌, ◌≢◌, ℕ, ◌+◌, ◌<◌, ◌≤◌, ◌⊎◌, ◌↔◌, List, [], All, length, map, Some, None, IfSome, IsNone, IsTrue, codes, string_bytes};
 ghost use Rattle.con_outside.specs.Outside.{Rose, then_left};
 ghost use Rattle.con_session.specs.Worker.{told_kind};
 ghost use Rattle.con_events.specs.Session.{Clients};
 ghost use Rattle.con_events.specs.declared.end.End.{End};
-ghost use Rattle.con_lines.specs.Ending.{status_of};
+ghost use Rattle.con_lines.specs.Ending.{status_of, worded};
 ghost use Rattle.con_units.specs.declared.place.Size.{Size};
+ghost use Rattle.con_ending.specs.Ending.{Tells};
 ghost use Rattle.con_host.specs.Foretold.{Foretells, HasNoFrame, HasNoMirrorFrame, IsSession, MirrorForetells};
 ghost use Rattle.con_host.specs.Sessions.{ending_after};
 ghost use Rattle.con_inspect.specs.Auditing.{IsComplete};
 ghost use Rattle.con_inspect.specs.Four.{four_of};
 ghost use Rattle.con_words.specs.Words.{form_of, typing, playing, running, solo, mirroring, generating, auditing};
-ghost use Rattle.con_host.specs.Hosting.{Hosted, Refused};
+ghost use Rattle.con_host.specs.Hosting.{Hosted};
 
 use crate::generating::host_gen;
 use crate::mirror::host_mirror;
 use crate::run::host_run;
 use crate::solo::host_solo;
-use con_ending::{LINK, MEMORY, MIRROR, REPORT, TERMINAL, TOO_LONG, USAGE, finish};
+use con_ending::{LINK, MEMORY, MIRROR, REPORT, TERMINAL, TOO_LONG, USAGE, close};
 use con_handlers::CtrlHandler;
 use con_inspect::host_audit;
 use con_outside::{Files, Gate, Sink, Source};
 use con_text::{host_play, host_type};
+use con_trace::EndLine;
 use con_units::OutOfMemory;
 use con_words::Form;
 use std::alloc::Global;
@@ -31,12 +33,11 @@ use std::thread::Threads;
 
 // Says that the words are no form.
 fn refuse<R: Sink>(alloc: Global, report: &mut R) -> u8
+    ensures tells { Tells result (worded 2 (codes "usage")) (R.written report.old) (R.written report.new) (Rose (R.faults report.old) (R.faults report.new)) }
     ensures status { (result ≡ USAGE) ⊎ (result ≡ MEMORY) }
-    ensures refused { (left now : Option (List ℕ)) → Refused result left left now now (R.written report.old) (R.written report.new)
-        (Rose (R.faults report.old) (R.faults report.new)) }
     ensures never_falls { R.faults report.old ≤ R.faults report.new }
 {
-    finish(alloc, report, USAGE)
+    close(alloc, report, &EndLine::Word(USAGE, "usage"))
 }
 
 /// Does what the words say, and answers the status: 0 done, 2 the words are no form, 3 the file is no session, 4 the link failed, 5 the

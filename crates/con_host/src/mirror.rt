@@ -3,14 +3,16 @@
 ghost use Rattle.std.specs.Prelude.{◌≡◌, ◌≤◌, ◌<◌, ◌⊎◌, ℕ, List, Some, All, IfSome, length, map};
 ghost use Rattle.con_events.specs.Session.{Clients};
 ghost use Rattle.con_events.specs.declared.end.End.{End as Ended};
-ghost use Rattle.con_outside.specs.Outside.{Rose, then_left};
+ghost use Rattle.con_outside.specs.Outside.{Rose, then_left, WroteFront};
+ghost use Rattle.con_ending.specs.Ending.{Reported};
 ghost use Rattle.con_host.specs.Foretold.{HasNoMirrorFrame, IsSession, MirrorForetells};
-ghost use Rattle.con_host.specs.Mirroring.{HasMirrored, RanMirrored, mirror_ending, mirror_failed_after};
+ghost use Rattle.con_host.specs.Mirroring.{HasMirrored, RanMirrored, mirror_ending, mirror_report};
 ghost use Rattle.con_host.specs.Sessions.{ending_after};
+ghost use Rattle.con_host.specs.Telling.{ended_report};
 ghost use Rattle.con_session.specs.Worker.{told_kind};
 ghost use Rattle.con_lines.specs.Ending.{ending_of, status_of};
 
-use crate::session::{failed_status, last_of, tell_with};
+use crate::session::{last_of, status_by, write_outcome};
 use con_ending::{Unrun, close, session_of};
 use con_events::{End, Session};
 use con_forms::{a_legal_history_is_told, types_are_kept};
@@ -18,7 +20,7 @@ use con_handlers::CtrlHandler;
 use con_laws::once::each_record_is_taken_once;
 use con_link::{one_mirror_answer, one_mirror_frame};
 use con_outside::{Files, Sink, Source};
-use con_session::run_mirrored;
+use con_session::{Outcome, run_mirrored};
 use con_trace::{EndLine, report_tells};
 use std::alloc::Global;
 
@@ -43,14 +45,18 @@ fn mirror_last_of(end: End, lost: bool) -> EndLine
     }
 }
 
-// The status where the report failed: of several causes the session's comes first, and then the second terminal's.
-fn mirror_failed_status(end: End, lost: bool) -> u8
-    ensures { result ≡ mirror_failed_after end lost }
+// Writes the report of a session whose second terminal may have failed, and answers its status.
+fn tell_mirrored<R: Sink>(alloc: Global, outcome: &Outcome, lost: bool, report: &mut R) -> u8
+    ensures reported { Reported result (status_of (mirror_ending outcome.now.end lost))
+        (ended_report outcome.now.entries outcome.now.replies outcome.now.ends (mirror_ending outcome.now.end lost)) (R.written report.old)
+        (R.written report.new) (Rose (R.faults report.old) (R.faults report.new)) }
+    ensures told { WroteFront (mirror_report outcome.now.entries outcome.now.replies outcome.now.ends outcome.now.end lost) (R.written report.old)
+        (R.written report.new) }
+    ensures never_falls { R.faults report.old ≤ R.faults report.new }
 {
-    match end {
-        End::Done => { if lost { 12 } else { 6 } }
-        _ => failed_status(end),
-    }
+    let last = mirror_last_of(outcome.end, lost);
+    let written = write_outcome(alloc, outcome, &last, report);
+    status_by(written, &last)
 }
 
 // Runs the session and writes its report.
@@ -92,9 +98,7 @@ fn run<I: Source, O: Sink, N: Sink, R: Sink>(
         &mirrored.outcome.ends,
         mirrored.outcome.end,
     );
-    let last = mirror_last_of(mirrored.outcome.end, mirrored.failed);
-    let lost = mirror_failed_status(mirrored.outcome.end, mirrored.failed);
-    tell_with(alloc, &mirrored.outcome, &last, lost, report)
+    tell_mirrored(alloc, &mirrored.outcome, mirrored.failed, report)
 }
 
 /// Runs the session of a file by turns, with a second terminal that attaches and detaches by frames of the link: the stream to the terminal, the part of each

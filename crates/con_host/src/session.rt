@@ -1,13 +1,15 @@
 //! The report of a session that ran.
 
-ghost use Rattle.std.specs.Prelude.{◌≡◌, ◌≤◌};
-ghost use Rattle.con_outside.specs.Outside.{Rose, then_written, WroteFront};
+ghost use Rattle.std.specs.Prelude.{◌≡◌, ◌≤◌, OnOk, OnErr};
+ghost use Rattle.con_outside.specs.Outside.{Rose, then_written, WroteFront, WrotePart};
 ghost use Rattle.con_lines.specs.Ending.{ending_of, status_of};
-ghost use Rattle.con_host.specs.Sessions.{IsCut, IsStatus, ending_after, failed_after, report_text, whole_text};
-ghost use Rattle.con_host.specs.Telling.{Reported, ended_report, told_report};
+ghost use Rattle.con_ending.specs.Ending.{Reported};
+ghost use Rattle.con_ending.specs.Laws.{status_after};
+ghost use Rattle.con_host.specs.Sessions.{ending_after, report_text};
+ghost use Rattle.con_host.specs.Telling.{ended_report, told_report};
 
 use crate::telling::write_report;
-use con_ending::status_told;
+use con_ending::{status_after, status_told};
 use con_events::End;
 use con_outside::{Fault, Sink};
 use con_session::Outcome;
@@ -28,64 +30,49 @@ pub fn last_of(end: End) -> EndLine
     }
 }
 
-/// Writes the report of a session that ran, with this last line, and answers the status that the line tells, or `lost` where the report failed.
-pub fn tell_with<R: Sink>(
+/// Writes the report of a session that ran, with this last line.
+pub fn write_outcome<R: Sink>(
     alloc: Global,
     outcome: &Outcome,
     last: &EndLine,
-    lost: u8,
     report: &mut R,
-) -> u8
-    ensures reported { Reported result (ended_report outcome.now.entries outcome.now.replies outcome.now.ends (ending_of last.now))
-        (status_of (ending_of last.now)) lost (R.written report.old) (R.written report.new) (Rose (R.faults report.old) (R.faults report.new)) }
+) -> Result<(), Fault>
+    ensures whole { OnOk result (R.written report.new
+        ≡ then_written (R.written report.old) (ended_report outcome.now.entries outcome.now.replies outcome.now.ends (ending_of last.now))) }
+    ensures part { OnErr result (WrotePart (ended_report outcome.now.entries outcome.now.replies outcome.now.ends (ending_of last.now))
+        (R.written report.old) (R.written report.new)) }
     ensures told { WroteFront (told_report outcome.now.entries outcome.now.replies outcome.now.ends (ending_of last.now))
         (R.written report.old) (R.written report.new) }
+    ensures failed { result ≡ Err Fault.Failed → Rose (R.faults report.old) (R.faults report.new) }
     ensures never_falls { R.faults report.old ≤ R.faults report.new }
 {
-    let written = write_report(
+    write_report(
         alloc,
         report,
         outcome.entries.0.as_slice(),
         outcome.replies.0.as_slice(),
         outcome.ends.0.as_slice(),
         last,
-    );
-    match written {
-        Ok(()) => status_told(last),
-        Err(Fault::Failed) => lost,
-        Err(Fault::OutOfMemory) => 9,
-    }
+    )
+}
+
+/// The status of a session whose report, with this last line, was written so.
+pub fn status_by(written: Result<(), Fault>, last: &EndLine) -> u8
+    ensures { result ≡ status_after written (status_of (ending_of last.now)) }
+{
+    status_after(written, status_told(last))
 }
 
 /// Writes the report of a session that ran, and answers its status.
 pub fn tell<R: Sink>(alloc: Global, outcome: &Outcome, report: &mut R) -> u8
-    ensures status { IsStatus result outcome.now.end }
-    ensures front { WroteFront (report_text outcome.now.entries outcome.now.replies outcome.now.ends outcome.now.end) (R.written report.old)
+    ensures reported { Reported result (status_of (ending_after outcome.now.end))
+        (ended_report outcome.now.entries outcome.now.replies outcome.now.ends (ending_after outcome.now.end)) (R.written report.old)
+        (R.written report.new) (Rose (R.faults report.old) (R.faults report.new)) }
+    ensures told { WroteFront (report_text outcome.now.entries outcome.now.replies outcome.now.ends outcome.now.end) (R.written report.old)
         (R.written report.new) }
-    ensures whole { ¬ (result ≡ 9) → ¬ (result ≡ 6) → ¬ (Rose (R.faults report.old) (R.faults report.new))
-        → R.written report.new ≡ then_written (R.written report.old) (whole_text outcome.now.entries outcome.now.replies outcome.now.ends outcome.now.end) }
-    ensures done { result ≡ 0 → R.written report.new
-        ≡ then_written (R.written report.old) (whole_text outcome.now.entries outcome.now.replies outcome.now.ends outcome.now.end) }
-    ensures cut { IsCut result outcome.now.end (whole_text outcome.now.entries outcome.now.replies outcome.now.ends outcome.now.end)
-        (R.written report.old) (R.written report.new) }
-    ensures failed { result ≡ 6 → Rose (R.faults report.old) (R.faults report.new) }
     ensures never_falls { R.faults report.old ≤ R.faults report.new }
 {
     let last = last_of(outcome.end);
-    let lost = failed_status(outcome.end);
-    tell_with(alloc, outcome, &last, lost, report)
-}
-
-/// The status where the report failed: of several causes the session's comes first.
-pub fn failed_status(end: End) -> u8
-    ensures { result ≡ failed_after end }
-{
-    match end {
-        End::Done => 6,
-        End::Term => 5,
-        End::Link => 4,
-        End::TooLong => 10,
-        End::Bad { .. } => 8,
-        End::Memory => 9,
-    }
+    let written = write_outcome(alloc, outcome, &last, report);
+    status_by(written, &last)
 }

@@ -7,15 +7,26 @@ use Rattle.con_outside.specs.Outside.{Rose}
 use Rattle.con_words.specs.Words.{auditing, form_of, mirroring, running, solo}
 use Rattle.con_host.proofs.Hosts.{no_form, no_words, same_four, same_mirror, same_name, same_run}
 use Rattle.con_host.proofs.Statuses.{done_by, done_within, generated_comes, long_by, played_comes, typed_comes}
+use Rattle.con_host.proofs.Mirrors.{no_usage_of_mirror}
+use Rattle.con_host.proofs.SessionLemmas.{no_usage, no_usage_of_turns}
 use Rattle.con_host.proofs.host.console_host.Goals as goal
 
 pub returns-in-Ok-None-clause-outcome : goal.returns-in-Ok-None-clause-outcome
 returns-in-Ok-None-clause-outcome g c =
     let none : None ≡ form_of (map string_bytes c.args.words.now) = ap (option_map asked_of) (sym c.in-Ok-None.field-0-is) ∙ c.in-Ok-None.ensures.form in
-    no_form _ _ _ _ _ _ _ _ _ _ _ _ none (c.refuse.ensures.refused _ _)
+    no_form _ _ _ _ _ _ _ _ _ _ _ _ none c.refuse.ensures.tells
 
 pub returns-in-Err-clause-outcome : goal.returns-in-Err-clause-outcome
 returns-in-Err-clause-outcome g c = no_words _ _ _ _ _ _ _ _ _ _
+
+pub returns-in-Ok-Some-Run-clause-usage : goal.returns-in-Ok-Some-Run-clause-usage
+returns-in-Ok-Some-Run-clause-usage g c e = absurd (no_usage _ _ _ _ _ _ _ _ _ _ _ _ c.host_run.ensures.outcome e)
+
+pub returns-in-Ok-Some-Solo-clause-usage : goal.returns-in-Ok-Some-Solo-clause-usage
+returns-in-Ok-Some-Solo-clause-usage g c e = absurd (no_usage_of_turns _ _ _ _ _ _ _ _ _ _ _ _ c.host_solo.ensures.outcome e)
+
+pub returns-in-Ok-Some-Mirror-clause-usage : goal.returns-in-Ok-Some-Mirror-clause-usage
+returns-in-Ok-Some-Mirror-clause-usage g c e = absurd (no_usage_of_mirror _ _ _ _ _ _ _ _ _ _ _ _ _ _ _ c.host_mirror.ensures.outcome e)
 
 pub returns-in-Ok-Some-Solo-clause-solo_foretold : goal.returns-in-Ok-Some-Solo-clause-solo_foretold
 returns-in-Ok-Some-Solo-clause-solo_foretold g c name session bytes end form is known says files link term report =

@@ -1,5 +1,6 @@
-use Rattle.con_host.proofs.Hosts.{refused}
+use Rattle.std.proofs.Common.{refl}
+use Rattle.con_host.proofs.Reports.{unless_done}
 use Rattle.con_host.proofs.host.refuse.Goals as goal
 
-pub returns-clause-refused : goal.returns-clause-refused
-returns-clause-refused g c = λ left now. refused _ left now _ _ _ c.finish.ensures.status c.finish.ensures.front c.finish.ensures.whole c.finish.ensures.part
+pub returns-clause-status : goal.returns-clause-status
+returns-clause-status g c = unless_done _ 2 _ _ _ _ c.close.ensures.tells refl
