@@ -1,6 +1,7 @@
 -- How a session with a second terminal ends, by its status.
 use Rattle.std.proofs.Common.{◌≡◌, ◌⊎◌, inl, inr, refl, sym, subst, ap, ◌∙◌, arith, ℕ, Bool, true, false, List, Option}
 use Rattle.std.specs.Prelude.{◌||◌, nat_eq}
+use Rattle.std.proofs.lemmas.Bool.{false_from_ne_true}
 use Rattle.con_events.specs.declared.end.End.{End}
 use Rattle.con_events.specs.declared.end.End.TheVariants as ends
 use Rattle.con_laws.specs.Rounds.{is_memory}
@@ -77,10 +78,6 @@ whole_with s end true text before now failed r shown = elim (unless_done s (last
   | inr e ↦ absurd (apart is_shown s 9 shown refl e)
 ]
 
-none_lost : (lost : Bool) → (lost ≡ true → ⊥) → lost ≡ false
-none_lost true other = absurd (other refl)
-none_lost false other = refl
-
 -- with 0 and 6, and with every other status but 9 where it did not fail, all of it was written
 pub shown_all : (s : ℕ) (end : End) (lost : Bool) (text : List ℕ) (before now : Option (List ℕ)) (failed second_failed : Type 0) (built : List ℕ) (was written : Option (List ℕ)) → Reported s (last_status end lost) text before now failed
     → (lost ≡ true → second_failed) → (lost ≡ false → is_memory end ≡ false → written ≡ then_written was built) → ¬ (s ≡ 9) → (s ≡ 0) ⊎ ((s ≡ 6) ⊎ ¬ second_failed) → written ≡ then_written was built
@@ -88,9 +85,9 @@ shown_all s end lost text before now failed second_failed built was written r wh
   | inl e ↦ whole_with s end lost text before now failed r (ap is_shown e)
   | inr rest ↦ elim rest [
     | inl e ↦ whole_with s end lost text before now failed r (ap is_shown e)
-    | inr sure ↦ none_lost lost (λ e. sure (why e))
+    | inr sure ↦ false_from_ne_true lost (λ e. sure (why e))
   ]
-]) (none_lost (is_memory end) (λ e. other (nine_at s (last_status end lost) text before now failed r (memory_nine_lost end lost e))))
+]) (false_from_ne_true (is_memory end) (λ e. other (nine_at s (last_status end lost) text before now failed r (memory_nine_lost end lost e))))
 
 -- ---- no session
 

@@ -1,8 +1,8 @@
 -- What a report that was written says of its status, and of a session's text.
 use Rattle.std.proofs.Common.{◌≡◌, ◌⊎◌, inl, inr, refl, sym, subst, ap, ◌∙◌, arith, ℕ, Bool, true, false, List, length, take, Option}
-use Rattle.std.specs.Prelude.{◌==◌, ◌||◌, nat_eq, if◌then◌else◌, Result, Err, OnOk, OnErr}
+use Rattle.std.specs.Prelude.{◌==◌, ◌||◌, nat_eq, Result, Err, OnOk, OnErr}
 use Rattle.std.proofs.Math.Seq.{take-length}
-use Rattle.std.proofs.lemmas.Bool.{cases_lt}
+use Rattle.std.proofs.lemmas.Bool.{cases_cond, cases_lt}
 use Rattle.con_events.specs.declared.entry.Entry.{Entry}
 use Rattle.con_events.specs.declared.reply.Reply.{Reply}
 use Rattle.con_outside.specs.Outside.{then_written, WroteFront, WrotePart}
@@ -25,16 +25,12 @@ apart p n m is other e = let bad : true ≡ false = sym is ∙ (ap p e ∙ other
 abbrev pub is_cut : ℕ → Bool
 is_cut n = nat_eq n 6 || nat_eq n 9
 
-lost : (b : Bool) (s told : ℕ) → s ≡ (if b then 6 else told) → (s ≡ 6) ⊎ (s ≡ told)
-lost true s told e = inl e
-lost false s told e = inr e
-
 module _ (s told : ℕ) (text : List ℕ) (before now : Option (List ℕ)) (failed : Type 0) (r : Reported s told text before now failed) where
   status_is : (s ≡ told) ⊎ ((s ≡ 6) ⊎ (s ≡ 9))
   status_is = elim r [
     | inl w ↦ inl w.0
     | inr rest ↦ elim rest [
-      | inl w ↦ elim (lost (told == 0) s told w.0) [ inl six ↦ inr (inl six) | inr e ↦ inl e ]
+      | inl w ↦ elim (cases_cond {X = ℕ} (told == 0) 6 told s w.0) [ inl six ↦ inr (inl six) | inr e ↦ inl e ]
       | inr w ↦ inr (inr w.0)
     ]
   ]

@@ -1,5 +1,5 @@
 -- Statuses of a session's end, and a call that has no session.
-use Rattle.std.proofs.Common.{◌≡◌, inl, inr, refl, sym, subst, ap, ◌∙◌, arith, ℕ, Bool, true, false, List, Option}
+use Rattle.std.proofs.Common.{◌≡◌, inl, inr, refl, sym, subst, ap, ◌∙◌, arith, ℕ, Bool, true, List, Option}
 use Rattle.std.specs.Prelude.{◌||◌, nat_eq}
 use Rattle.con_events.specs.Session.{Clients}
 use Rattle.con_events.specs.declared.end.End.{End}

@@ -41,6 +41,7 @@ pub record RanMirrored (status : ℕ) (session : Clients) (racks : List (List �
   -- all built bytes of the second terminal's stream were written with 0 and 6, and with every other status but 9, unless it failed
   pub shown : ¬ (status ≡ 9) → (status ≡ 0) ⊎ ((status ≡ 6) ⊎ ¬ second_failed) → written ≡ then_written was outcome.leaves.more.built
 
+-- all of it; without a session nothing is written to either terminal
 abbrev pub HasMirrored : ℕ → Option (List ℕ → Option (List ℕ)) → List ℕ → Type 0 → List (List ℕ) → Option (List ℕ) → Option (List ℕ)
     → Option (List ℕ) → Option (List ℕ) → Option (List ℕ) → Option (List ℕ) → Option (List ℕ) → Option (List ℕ) → Type 0 → Type 0 → Type 0
 HasMirrored status files name files_failed racks before left old now was written before_report report' failed second_failed =
