@@ -32,9 +32,9 @@ reported_of written status told bytes text before now failed same is whole part 
 -- a report that tells 0 has failed where the status is 6
 pub lost_by : (written : Result (Unit {0}) Fault) (status : ℕ) (failed : Type 0) → status ≡ status_after written 0
     → (written ≡ Err faults.Failed → failed) → status ≡ 6 → failed
-lost_by (Ok done) status failed is fault e = let bad : 0 ≡ 6 = sym is ∙ e in absurd (omega arith)
+lost_by (Ok done) status failed is fault e = let told : status ≡ 0 = is in absurd (omega arith)
 lost_by (Err faults.Failed) status failed is fault e = fault refl
-lost_by (Err faults.OutOfMemory) status failed is fault e = let bad : 9 ≡ 6 = sym is ∙ e in absurd (omega arith)
+lost_by (Err faults.OutOfMemory) status failed is fault e = let memory : status ≡ 9 = is in absurd (omega arith)
 
 -- no status comes with it but 0, 6 and 9
 pub never_after : (written : Result (Unit {0}) Fault) (status n : ℕ) → status ≡ status_after written 0 → status ≡ n → 0 ≢ n → 6 ≢ n → 9 ≢ n → ⊥

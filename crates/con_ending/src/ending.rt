@@ -45,13 +45,7 @@ pub fn status_after(written: Result<(), Fault>, told: u8) -> u8
 {
     match written {
         Ok(()) => told,
-        Err(Fault::Failed) => {
-            if told == DONE {
-                REPORT
-            } else {
-                told
-            }
-        }
+        Err(Fault::Failed) => { if told == DONE { REPORT } else { told } }
         Err(Fault::OutOfMemory) => MEMORY,
     }
 }
