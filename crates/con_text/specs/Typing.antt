@@ -77,7 +77,7 @@ abbrev pub Typed : ℕ → List ℕ → Option (List ℕ) → Option (List ℕ) 
 Typed status text left before now before_report report failed =
     ((status ≡ 9) × (now ≡ before) × (report ≡ before_report) × (length text ≤ 16781312))
     ⊎ ((IsWhole text left × ((frame : List ℕ) × IsFrame text frame
-        × (((status ≡ 0) × (now ≡ then_written before frame) × (report ≡ before_report))
-        ⊎ (WrotePart frame before now × (((status ≡ 9) × (report ≡ before_report)) ⊎ Tells status (worded 5 (codes "term")) before_report report failed)))))
+    × (((status ≡ 0) × (now ≡ then_written before frame) × (report ≡ before_report))
+    ⊎ (WrotePart frame before now × (((status ≡ 9) × (report ≡ before_report)) ⊎ Tells status (worded 5 (codes "term")) before_report report failed)))))
     ⊎ ((now ≡ before) × (((length text ≤ 16777216) × Tells status (worded 4 (codes "link")) before_report report failed)
     ⊎ (IsTooLong text × Tells status (worded 10 (codes "too long")) before_report report failed))))
