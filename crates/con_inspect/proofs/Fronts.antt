@@ -1,5 +1,5 @@
 -- A front of entries that pass passes, so an audit finds a yes or a no, and never both.
-use Rattle.std.proofs.Common.{◌≡◌, ◌⊎◌, inl, inr, refl, sym, ap, ◌∙◌, subst, arith, append_assoc, ℕ, ◌+◌, ◌<◌, ◌≤◌, ◌&&◌, Bool, true, false, List, [], ◌∷◌, ◌++◌, length, take, drop}
+use Rattle.std.proofs.Common.{◌≡◌, inl, inr, refl, sym, ap, ◌∙◌, subst, append_assoc, ℕ, ◌+◌, ◌≤◌, Bool, true, false, List, [], ◌∷◌, ◌++◌, length, take, drop}
 use Rattle.std.proofs.lemmas.Bool.{and_parts}
 use Rattle.std.proofs.lemmas.List.{take-append-drop}
 use Rattle.std.specs.Prelude.{if◌then◌else◌}
@@ -7,19 +7,18 @@ use Rattle.con_units.specs.declared.view.Frame.{Frame}
 use Rattle.con_units.specs.declared.view.Sight.{Sight}
 use Rattle.con_events.specs.declared.end.End.TheVariants as ends
 use Rattle.con_events.specs.declared.entry.Entry.{Entry}
-use Rattle.con_events.specs.declared.event.Event.{Event}
 use Rattle.con_events.specs.declared.reply.Reply.{Reply}
 use Rattle.con_machine.specs.Along.{Along}
 use Rattle.con_machine.specs.Client.{May, moved_on, starting}
-use Rattle.con_machine.specs.Follows.{Follows, MaySend, sent_one, MayAct, asks, are_of_session, session_start, is_cut, is_lost, is_one_of, steps_of, kinds_of}
+use Rattle.con_machine.specs.Follows.{MaySend, sent_one, MayAct, asks, are_of_session, session_start, is_cut, is_lost, is_one_of, steps_of, kinds_of}
 use Rattle.con_machine.specs.History.{is_legal}
 use Rattle.con_machine.specs.Sights.{sights_of, sights_at}
 use Rattle.con_machine.specs.State.{State}
 use Rattle.con_machine.specs.Step.{is_ready}
-use Rattle.con_machine.specs.Turns.{Turn, turns, turn_of, sent, moved, is_client, is_terminal}
+use Rattle.con_machine.specs.Turns.{turns, turn_of, sent, moved, is_client, is_terminal}
 use Rattle.con_link.specs.Only.{OneAnswer}
-use Rattle.con_audit.specs.Audit.{Given, AreFrames, AreReplied, Holds, FirstFails, Passes, IsAudited, parts}
-use Rattle.con_audit.specs.Verdicts.{IsReplied, HoldAll, Stops}
+use Rattle.con_audit.specs.Audit.{Given, AreReplied, Holds, FirstFails, Passes, IsAudited, parts}
+use Rattle.con_audit.specs.Verdicts.{HoldAll, Stops}
 use Rattle.con_audit.specs.Watching.{Watch, watching, watched, HasEnd, IsSeen}
 use Rattle.con_audit.specs.declared.verdict.What.{What}
 use Rattle.con_audit.specs.declared.verdict.What.TheVariants as what

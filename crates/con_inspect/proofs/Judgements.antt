@@ -1,12 +1,12 @@
 -- Told files are found to be one thing.
-use Rattle.std.proofs.Common.{◌≡◌, ◌⊎◌, inl, inr, refl, sym, ap, ◌∙◌, subst, arith, ℕ, ◌≤◌, List, [], ◌∷◌, length, Option, Some, None}
+use Rattle.std.proofs.Common.{◌≡◌, inl, inr, refl, sym, ap, ◌∙◌, subst, arith, ℕ, ◌≤◌, List, [], ◌∷◌, length, Option, Some, None}
 use Rattle.std.specs.Prelude.{Ok, Err, Result, replicate}
 use Rattle.con_events.specs.Session.{Clients}
 use Rattle.con_link.specs.Only.{OneAnswer}
 use Rattle.con_outside.specs.Named.{IsTooLong}
 use Rattle.con_document.specs.Document.{IsDocument}
 use Rattle.con_document.specs.StepLaws.{no_document, one_document}
-use Rattle.con_lines.specs.Ending.{Ending, status_of}
+use Rattle.con_lines.specs.Ending.{status_of}
 use Rattle.con_trace.specs.Report.{History, IsReport, IsWrongAt, NoneIsWrong, ReportTells, history_of}
 use Rattle.con_trace.specs.declared.trace.Trace.{Trace}
 use Rattle.con_ending.specs.Files.{IsFile, Reason, missing, unread, too_long, no_json, no_session, ending_for}

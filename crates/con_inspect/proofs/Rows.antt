@@ -1,5 +1,5 @@
 -- What is found of files, and how it is told, in small.
-use Rattle.std.proofs.Common.{◌≡◌, ◌⊎◌, inl, inr, refl, ℕ, ◌≤◌, arith, List, [], ◌∷◌, length, Option, Some, None}
+use Rattle.std.proofs.Common.{◌≡◌, ◌⊎◌, inl, inr, refl, ℕ, arith, List, [], ◌∷◌, Option, Some, None}
 use Rattle.std.specs.Prelude.{codes}
 use Rattle.con_trace.specs.Audit.{a_run, no_run}
 use Rattle.con_ending.specs.Ending.{lost_status}

@@ -1,4 +1,4 @@
-use Rattle.std.proofs.Common.{inl, inr, refl, ◌∙◌, subst, Bool, List, ℕ}
+use Rattle.std.proofs.Common.{inl, inr, refl, ◌∙◌, subst}
 use Rattle.con_ending.specs.Files.{too_long}
 use Rattle.con_inspect.specs.Four.{IsRead, four_of}
 use Rattle.con_inspect.proofs.FileLemmas.{one_long}
