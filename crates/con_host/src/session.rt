@@ -53,7 +53,8 @@ pub fn write_outcome<R: Sink>(
         outcome.replies.0.as_slice(),
         outcome.ends.0.as_slice(),
         last,
-    )
+    )?;
+    Ok(())
 }
 
 /// The status of a session whose report, with this last line, was written so.

@@ -4,8 +4,8 @@ use Rattle.con_host.specs.Foretold.{IsSession}
 use Rattle.con_words.specs.Asked.{asked_of}
 use Rattle.con_inspect.specs.Auditing.{IsComplete}
 use Rattle.con_outside.specs.Outside.{Rose}
-use Rattle.con_words.specs.Words.{auditing, form_of, mirroring, running, solo}
-use Rattle.con_host.proofs.Hosts.{no_form, no_words, same_four, same_mirror, same_name, same_run}
+use Rattle.con_words.specs.Words.{auditing, form_of, generating, mirroring, running, solo}
+use Rattle.con_host.proofs.Hosts.{as_generated, no_form, no_words, same_four, same_mirror, same_name, same_run}
 use Rattle.con_host.proofs.Statuses.{done_by, done_within, generated_comes, long_by, played_comes, typed_comes}
 use Rattle.con_host.proofs.Mirrors.{no_usage_of_mirror}
 use Rattle.con_host.proofs.SessionLemmas.{no_usage, no_usage_of_turns}
@@ -81,6 +81,12 @@ pub returns-in-Ok-Some-Play-clause-too_long : goal.returns-in-Ok-Some-Play-claus
 returns-in-Ok-Some-Play-clause-too_long g c e =
     let came = c.host_play.ensures.outcome in
     (came.0, came.1, long_by _ 4 6 came.0 (played_comes _ c.in-Ok-Some-Play.size came.0 _ _ _ _ came.2) e (omega arith) (omega arith))
+
+pub returns-in-Ok-Some-Gen-clause-outcome : goal.returns-in-Ok-Some-Gen-clause-outcome
+returns-in-Ok-Some-Gen-clause-outcome g c =
+    let here = c.in-Ok-Some-Gen in
+    let asked : Some (generating here.seed) ≡ form_of (map string_bytes c.args.words.now) = ap (option_map asked_of) (sym (here.field-0-is ∙ ap Some here.field-0-0-is)) ∙ here.ensures.form in
+    as_generated _ here.seed _ _ _ _ _ _ _ _ _ _ _ _ asked c.host_gen.ensures.outcome
 
 pub returns-in-Ok-Some-Gen-clause-gen_complete : goal.returns-in-Ok-Some-Gen-clause-gen_complete
 returns-in-Ok-Some-Gen-clause-gen_complete g c seed form term report =
