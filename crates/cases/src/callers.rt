@@ -4,7 +4,7 @@ ghost use Rattle.std.specs.Prelude.{◌≡◌, ◌≢◌, ◌≤◌, ℕ, All, L
 ghost use Rattle.con_units.specs.declared.place.Size.{Size};
 ghost use Rattle.con_inspect.specs.Auditing.{AreARun};
 ghost use Rattle.con_inspect.specs.Four.{four_of};
-ghost use Rattle.con_outside.specs.Named.{file_in};
+ghost use Rattle.con_outside.specs.Words.Named.{file_in};
 ghost use Rattle.con_words.specs.Words.{auditing, form_of, typing, playing, solo};
 
 use con_ending::{REPORT, TERMINAL};

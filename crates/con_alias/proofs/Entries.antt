@@ -7,7 +7,8 @@ use Rattle.std.proofs.Math.ListN.{drop_of_length-le}
 use Rattle.std.specs.Option.{option_map}
 use Rattle.std.specs.Map.{lookup}
 use Rattle.indexmap.specs.IndexMap.{insert_entry, shift_remove_entry}
-use Rattle.con_alias.specs.Aliases.{Entry, entry_of, same_name, folded_unit, find_entry, put_entry, without_entry, is_full, with_entry}
+use Rattle.con_alias.specs.Aliases.{Entry, same_name, folded_unit, find_entry, put_entry, is_full, with_entry}
+use Rattle.con_alias.specs.Words.Aliases.{entry_of, without_entry}
 use Rattle.con_alias.specs.Room.{entries_of}
 use Rattle.con_alias.specs.Hashed.{name_equiv}
 

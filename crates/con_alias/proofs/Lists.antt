@@ -6,8 +6,9 @@ use Rattle.std.specs.declared.alloc.Global.{Global}
 use Rattle.std.specs.Cmp.{nat_eq_equiv}
 use Rattle.std.specs.Cmp.Lexicographic.{lists_equiv}
 use Rattle.std.specs.Map.{lookup, set_value}
-use Rattle.con_units.specs.Units.{same_units}
-use Rattle.con_alias.specs.Aliases.{Entry, AliasList, entries_in, is_known, changed_in}
+use Rattle.con_units.specs.Words.Units.{same_units}
+use Rattle.con_alias.specs.Aliases.{Entry, AliasList, entries_in, changed_in}
+use Rattle.con_alias.specs.Words.Aliases.{is_known}
 use Rattle.con_alias.specs.Room.{ListPlaces, Places, Listed, listed, lists_of, places_of, places_for, has_room}
 
 -- what such a map holds

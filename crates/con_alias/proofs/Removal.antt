@@ -2,7 +2,8 @@
 use Rattle.std.proofs.Common.{◌≡◌, ℕ, suc, ◌+◌, Bool, true, false, cond, not, List, [], ◌∷◌, refl, ap, ◌∙◌, arith}
 use Rattle.std.specs.Prelude.{remove}
 use Rattle.std.specs.List.{position_or_len}
-use Rattle.con_alias.specs.Aliases.{Entry, same_name, without_entry}
+use Rattle.con_alias.specs.Aliases.{Entry, same_name}
+use Rattle.con_alias.specs.Words.Aliases.{without_entry}
 
 removed_step : (b : Bool) (e : Entry) (es : List Entry) (n : ℕ) (r : List Entry) → remove es n ≡ r → remove (e ∷ es) (cond (not b) (1 + n) 0) ≡ cond b es (e ∷ r)
 removed_step true e es n r rest = refl

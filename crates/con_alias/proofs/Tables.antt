@@ -7,7 +7,8 @@ use Rattle.std.specs.List.{position_or_len}
 use Rattle.con_units.specs.declared.code.Code.{Code}
 use Rattle.con_units.specs.declared.code.Code.TheVariants as code
 use Rattle.con_alias.proofs.Removal.{removed-first}
-use Rattle.con_alias.specs.Aliases.{Entry, AliasList, same_name, entry_of, empty_list, find_entry, is_full, with_entry, without_entry, entries_in, is_known, changed_in, is_bad, is_no_source, is_over, alias_at, added, removed, add_answer, remove_answer}
+use Rattle.con_alias.specs.Aliases.{Entry, AliasList, same_name, find_entry, is_full, with_entry, entries_in, changed_in, is_bad, is_no_source, alias_at, added, removed, add_answer, remove_answer}
+use Rattle.con_alias.specs.Words.Aliases.{entry_of, empty_list, without_entry, is_known, is_over}
 use Rattle.con_alias.specs.Room.{AliasTable, Listed, Prepared, listed, lists_of, places_of, room_for}
 use Rattle.con_alias.proofs.Lists.{Lists, sought, places, known-none, entries-found, entries-none, changed-lists, changed-none, same_some, pushed-lists, places-same}
 

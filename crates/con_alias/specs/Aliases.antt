@@ -86,27 +86,3 @@ removed ls program source =
 
 abbrev pub remove_answer : List AliasList → List ℕ → List ℕ → Result (Unit {0}) Code
 remove_answer ls program source = if is_some (alias_at ls program source) then Ok tt else Err code.NoAlias
-
--- The words below are the code's own and those of proofs.
-
-abbrev pub entry_of : List ℕ → List ℕ → Entry
-entry_of source target = record { source = source; target = target }
-
--- the aliases without one, by one walk
-abbrev pub without_entry : List Entry → List ℕ → List Entry
-without_entry [] source = []
-without_entry (e ∷ es) source = if same_name e.source source then es else e ∷ without_entry es source
-
--- whether a program has a list
-abbrev pub is_known : List AliasList → List ℕ → Bool
-is_known programs program = list_any (λ l. same_units l.program program) programs
-
-abbrev pub has_control : List ℕ → Bool
-has_control text = list_any is_control text
-
-abbrev pub empty_list : List ℕ → AliasList
-empty_list program = record { program = program; entries = [] }
-
--- whether 256 are there and this one is new
-abbrev pub is_over : List AliasList → List ℕ → List ℕ → Bool
-is_over ls program source = is_full (entries_in ls program) source

@@ -6,3 +6,5 @@ pub mod Room
 pub mod Hashed
 -- The code's own words: how a target is read, sign by sign.
 pub mod Signs
+-- The words of the code and of laws about these files, which a reader need not believe.
+pub mod Words

@@ -1,8 +1,9 @@
 -- Memory for aliases that are still to come. Nothing of it is a meaning of an alias.
 use Rattle.std.specs.Prelude.{ℕ, Bool, nat_lt, List, [], ◌∷◌, Option, Some, None, map, Vec, if◌then◌else◌}
 use Rattle.std.specs.declared.alloc.Global.{Global}
-use Rattle.con_units.specs.Units.{same_units}
-use Rattle.con_alias.specs.Aliases.{Entry, AliasList, entry_of, is_bad, is_known, empty_list}
+use Rattle.con_units.specs.Words.Units.{same_units}
+use Rattle.con_alias.specs.Aliases.{Entry, AliasList, is_bad}
+use Rattle.con_alias.specs.Words.Aliases.{entry_of, is_known, empty_list}
 
 -- for how many more aliases of a program there is memory
 pub record ListPlaces : Type 0 where

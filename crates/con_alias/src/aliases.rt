@@ -4,7 +4,8 @@ ghost use Rattle.std.specs.List.{list_any};
 ghost use Rattle.std.specs.Bool.{OnFalse};
 ghost use Rattle.con_units.specs.Stored.{is_control};
 ghost use Rattle.std.specs.Option.{option_map};
-ghost use Rattle.con_alias.specs.Aliases.{Entry, entries_in, has_control, is_bad, is_no_source, added, add_answer, alias_at, removed, remove_answer};
+ghost use Rattle.con_alias.specs.Aliases.{Entry, entries_in, is_bad, is_no_source, added, add_answer, alias_at, removed, remove_answer};
+ghost use Rattle.con_alias.specs.Words.Aliases.{has_control};
 ghost use Rattle.con_alias.specs.Room.{room_for, has_room};
 ghost use Rattle.con_alias.specs.Expansion.{expansion, lines_of};
 

@@ -1,7 +1,8 @@
 //! The aliases of one program.
 ghost use Rattle.std.specs.Prelude.{◌≡◌, ℕ, ◌≤◌, ◌<◌, List, [], max, Bool, not, is_some, length, slice_index_or, IfOk, OnOk, OnErr, option_copied};
 ghost use Rattle.std.specs.Option.{option_map};
-ghost use Rattle.con_alias.specs.Aliases.{Entry, find_entry, is_full, with_entry, without_entry};
+ghost use Rattle.con_alias.specs.Aliases.{Entry, find_entry, is_full, with_entry};
+ghost use Rattle.con_alias.specs.Words.Aliases.{without_entry};
 ghost use Rattle.con_alias.specs.Room.{Listed};
 
 use crate::alias::{Alias, Target};

@@ -14,16 +14,19 @@ use Rattle.con_events.specs.declared.event.Event.{Event}
 use Rattle.con_events.specs.declared.event.Event.TheVariants as events
 use Rattle.con_events.specs.declared.reply.Reply.{Reply}
 use Rattle.con_events.specs.declared.reply.Reply.TheVariants as replies
-use Rattle.con_machine.specs.Along.{Along, after}
+use Rattle.con_machine.specs.Along.{Along}
+use Rattle.con_machine.specs.Words.Along.{after}
 use Rattle.con_machine.specs.Client.{Client, MayBy, starting, moved_on, client_after}
-use Rattle.con_machine.specs.Follows.{session_start, is_one_of, steps_of, kinds_of, MaySend, Sender, sent_one, asks, asks_by}
+use Rattle.con_machine.specs.Follows.{session_start, is_one_of, steps_of, kinds_of, MaySend, Sender, sent_one, asks_by}
+use Rattle.con_machine.specs.Words.Follows.{asks}
 use Rattle.con_machine.specs.History.{run}
 use Rattle.con_machine.specs.HistoryLaws.{after-append, run-append, turns-own, turns-other, sent-own, sent-other, sights-one}
 use Rattle.con_machine.specs.Marks.{told}
 use Rattle.con_machine.specs.Painting.{view_now}
 use Rattle.con_machine.specs.Sights.{sights_of, sights_at}
 use Rattle.con_machine.specs.State.{State, opening}
-use Rattle.con_machine.specs.Step.{step, effect, is_ready, is_due, is_served, is_actors, is_clients}
+use Rattle.con_machine.specs.Step.{step, effect, is_ready, is_due, is_actors, is_clients}
+use Rattle.con_machine.specs.Words.Step.{is_served}
 use Rattle.con_machine.specs.Turns.{moved, turns, turn_of, is_pending, is_paint, is_client, is_terminal, sent, has_ended}
 use Rattle.con_audit.specs.Audit.{Given}
 use Rattle.con_audit.specs.Verdicts.{IsReplied}

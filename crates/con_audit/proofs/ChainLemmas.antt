@@ -2,8 +2,10 @@
 use Rattle.std.proofs.Common.{◌≡◌, ℕ, zero, suc, ◌+◌, ◌<◌, ◌≤◌, Bool, true, false, List, [], ◌∷◌, length, take, get_or, set, refl, sym, ap, ◌∙◌, arith, add-one}
 use Rattle.std.specs.Prelude.{Option, Some, ◌==◌, not, filter, if◌then◌else◌}
 use Rattle.con_handlers.specs.Answers.{answer, raised}
-use Rattle.con_handlers.specs.Delivery.{newest, newer_or}
-use Rattle.con_machine.specs.Chain.{Handler, answers_to, asked_once, without_handler}
+use Rattle.con_handlers.specs.Delivery.{newest}
+use Rattle.con_handlers.specs.Words.Delivery.{newer_or}
+use Rattle.con_machine.specs.Chain.{Handler, answers_to, asked_once}
+use Rattle.con_machine.specs.Words.Chain.{without_handler}
 use Rattle.con_audit.specs.Links.{handler_of, handlers_of}
 use Rattle.con_audit.specs.declared.chain.Link.{Link}
 

@@ -7,9 +7,11 @@ use Rattle.con_events.specs.declared.actor.Actor.TheVariants as actors
 use Rattle.con_events.specs.declared.entry.Entry.{Entry}
 use Rattle.con_events.specs.declared.event.Event.{Event}
 use Rattle.con_events.specs.declared.event.Event.TheVariants as events
-use Rattle.con_machine.specs.Along.{Along, after}
+use Rattle.con_machine.specs.Along.{Along}
+use Rattle.con_machine.specs.Words.Along.{after}
 use Rattle.con_laws.specs.DueLaws.{ask_is_terminals, asked_after, nothing_due}
-use Rattle.con_machine.specs.Follows.{MayAct, asks, asks_by, session_start}
+use Rattle.con_machine.specs.Follows.{MayAct, asks_by, session_start}
+use Rattle.con_machine.specs.Words.Follows.{asks}
 use Rattle.con_machine.specs.History.{is_legal}
 use Rattle.con_laws.specs.ShowingLaws.{painted_shows}
 use Rattle.con_machine.specs.State.{State}

@@ -10,7 +10,8 @@ use Rattle.std.proofs.lemmas.Option.{slice_get_read, get_or_from_slice_get}
 use Rattle.con_events.specs.Session.{Clients}
 use Rattle.con_events.specs.declared.script.Script.{Script}
 use Rattle.con_events.specs.declared.script.Step.{Step}
-use Rattle.con_machine.specs.Follows.{steps_in, steps_of, kinds_of}
+use Rattle.con_machine.specs.Follows.{steps_of, kinds_of}
+use Rattle.con_machine.specs.Words.Follows.{steps_in}
 use Rattle.con_machine.specs.Client as client
 use Rattle.con_machine.specs.Client.{Client, Stance, starting, moved_on}
 use Rattle.con_machine.specs.Turns.{Turn}

@@ -16,3 +16,5 @@ pub mod Flags
 pub mod Playing
 pub mod Inside
 pub mod Judging
+-- The words of the code and of laws about these files, which a reader need not believe.
+pub mod Words

@@ -7,11 +7,14 @@ use Rattle.con_events.specs.declared.entry.Entry.{Entry}
 use Rattle.con_events.specs.declared.reply.Reply.{Reply}
 use Rattle.con_machine.specs.State.{State}
 use Rattle.con_machine.specs.Step.{is_ready}
-use Rattle.con_machine.specs.Along.{Along, after}
+use Rattle.con_machine.specs.Along.{Along}
+use Rattle.con_machine.specs.Words.Along.{after}
 use Rattle.con_machine.specs.History.{run}
 use Rattle.con_machine.specs.Turns.{turns, turn_of, sent}
-use Rattle.con_machine.specs.Client.{Client, May, client_after}
-use Rattle.con_machine.specs.Follows.{session_start, is_one_of, steps_of, kinds_of, Sender, MaySend, sent_one, asks}
+use Rattle.con_machine.specs.Client.{Client, client_after}
+use Rattle.con_machine.specs.Words.Client.{May}
+use Rattle.con_machine.specs.Follows.{session_start, is_one_of, steps_of, kinds_of, Sender, MaySend, sent_one}
+use Rattle.con_machine.specs.Words.Follows.{asks}
 use Rattle.con_machine.specs.Sights.{sights_of, sights_at}
 use Rattle.con_audit.specs.Watching.{Watch, watching, watched, HasEnd, IsSeen}
 use Rattle.con_audit.specs.Audit.{Given, Holds}

@@ -2,7 +2,8 @@
 ghost use Rattle.std.specs.Prelude.{◌≡◌, Option};
 ghost use Rattle.con_handlers.specs.Answers.{answer, raised};
 ghost use Rattle.con_handlers.specs.Delivery.{newest};
-ghost use Rattle.con_machine.specs.Chain.{answers_to, asked_once, delivered_to, is_handled, without_handler};
+ghost use Rattle.con_machine.specs.Chain.{answers_to, asked_once};
+ghost use Rattle.con_machine.specs.Words.Chain.{delivered_to, is_handled, without_handler};
 ghost use Rattle.con_audit.specs.Links.{handlers_of};
 
 /// A handler: its place in the rack, its kind, and how often it was asked.

@@ -1,7 +1,7 @@
 //! What is known stays true.
 
 ghost use Rattle.con_audit.specs.Agrees.{StaysTrue};
-ghost use Rattle.con_audit.specs.Headline.{YesIsARun};
+ghost use Rattle.con_audit.specs.Words.Headline.{YesIsARun};
 ghost use Rattle.con_audit.specs.OneMore.{EntryByEntry};
 
 use con_laws::once::each_record_is_taken_once;

@@ -5,13 +5,14 @@ use Rattle.std.proofs.lemmas.Bool.Decides.{nat_tests}
 use Rattle.std.proofs.Math.Nat.{zero-div}
 use Rattle.std.proofs.lemmas.List.Sums.{fold-append}
 use Rattle.con_records.specs.declared.record.Record.{Record}
-use Rattle.con_units.specs.Units.{first_difference}
+use Rattle.con_units.specs.Words.Units.{first_difference}
 use Rattle.con_line.specs.Line.{LineText}
 use Rattle.con_history.specs.Histories.{LineHistories, added_to}
 use Rattle.con_cooked.specs.Keys.{key_of}
 use Rattle.con_cooked.specs.Mask.{is_masked, typed_unit}
 use Rattle.con_cooked.specs.Parts.{waking_unit}
-use Rattle.con_cooked.specs.Cooked.{Edited, Moment, CookedRead, key_pressed, woken_by, line_of, after_press, is_return, echo_between, progress_of}
+use Rattle.con_cooked.specs.Cooked.{Edited, Moment, CookedRead, key_pressed, woken_by, line_of, after_press, is_return}
+use Rattle.con_cooked.specs.Words.Cooked.{echo_between, progress_of}
 use Rattle.con_cooked.specs.Parts.{pressed_at, opened, woken_after, line_after, lines_for, split_by}
 use Rattle.con_cooked.specs.Laws.{IsPlain, DrawsBehind, BeginsWith}
 use Rattle.con_line.specs.declared.edit.Edit.{Edit}

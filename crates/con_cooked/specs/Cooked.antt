@@ -1,7 +1,7 @@
 -- A line read: its line after all presses, what each press answers, and how it ends.
 use Rattle.std.specs.Prelude.{ℕ, ◌+◌, ◌-◌, Bool, true, false, not, nat_lt, ◌==◌, List, [], ◌∷◌, ◌++◌, Option, Some, None, length, take, drop, fold, min, slice_index_or, unwrap_or, if◌then◌else◌}
 use Rattle.std.specs.Option.{option_map_or}
-use Rattle.con_units.specs.Units.{first_difference, is_space, is_other}
+use Rattle.con_units.specs.Units.{is_space, is_other}
 use Rattle.con_records.specs.declared.record.Record.{Record}
 use Rattle.con_line.specs.Line.{LineText, typed, erased_at, back_while, on_while, recalled_as, completed_by, matched_as}
 use Rattle.con_history.specs.Histories.{LineHistories, found, lines_of, added_to}
@@ -11,9 +11,6 @@ use Rattle.con_cooked.specs.Keys.{key_of}
 use Rattle.con_cooked.specs.Mask.{is_masked, typed_unit}
 use Rattle.con_cooked.specs.declared.keys.LineKey.{LineKey}
 use Rattle.con_cooked.specs.declared.keys.LineKey.TheVariants as key
-use Rattle.con_cooked.specs.declared.progress.Echo.{Echo}
-use Rattle.con_cooked.specs.declared.progress.Progress.{Progress}
-use Rattle.con_cooked.specs.declared.progress.Progress.TheVariants as progress
 
 -- the line and the recalled place
 pub record Edited : Type 0 where
@@ -100,16 +97,3 @@ answer_of r ls =
 -- the histories after it: a line that a control woke is not added
 abbrev pub histories_after : CookedRead → LineHistories → LineHistories
 histories_after r histories = if woken_by r == 0 then added_to histories r.program (line_of r).line.units else histories
-
--- The words below are the code's own and those of laws: what one press answers.
-
--- what is drawn again between two lines
-abbrev pub echo_between : LineText → LineText → Echo
-echo_between old new =
-    record { offset = first_difference old.units new.units; end = length new.units; blanks = length old.units - length new.units; caret = new.caret }
-
--- what a press answers: a masked key ends the read and shows nothing, and return ends it with its line
-abbrev pub progress_of : CookedRead → Record → LineHistories → Progress
-progress_of r one histories =
-    let echo : Echo = echo_between (line_of r).line (line_of (after_press r one histories)).line in
-    if is_masked r.mask one then progress.Woken else if is_return (key_of one) then progress.Done echo else progress.Going echo

@@ -5,7 +5,8 @@ use Rattle.con_line.specs.Line.{LineText}
 use Rattle.con_history.specs.Histories.{LineHistories, added_to}
 use Rattle.con_alias.specs.Aliases.{AliasList}
 use Rattle.con_cooked.specs.Keys.{key_of}
-use Rattle.con_cooked.specs.Cooked.{Edited, Moment, CookedRead, key_pressed, line_of, after_press, is_return, echo_between, progress_of, answer_of, histories_after}
+use Rattle.con_cooked.specs.Cooked.{Edited, Moment, CookedRead, key_pressed, line_of, after_press, is_return, answer_of, histories_after}
+use Rattle.con_cooked.specs.Words.Cooked.{echo_between, progress_of}
 use Rattle.con_cooked.specs.Parts.{opened, lines_for}
 use Rattle.con_cooked.specs.declared.progress.Echo.{Echo}
 use Rattle.con_cooked.specs.declared.progress.Progress.TheVariants as progress

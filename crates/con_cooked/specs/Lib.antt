@@ -6,3 +6,5 @@ pub mod Cooked
 pub mod Parts
 -- What follows from them, and is the contract of the functions of `laws`.
 pub mod Laws
+-- The words of the code and of laws about these files, which a reader need not believe.
+pub mod Words

@@ -4,7 +4,8 @@ use Rattle.std.specs.Option.{option_map_or}
 use Rattle.con_units.specs.Stored.{is_control}
 use Rattle.con_records.specs.declared.record.Record.{Record}
 use Rattle.con_records.specs.declared.record.Key.{Key}
-use Rattle.con_line.specs.Line.{LineText, matched_as, pressed as line_pressed}
+use Rattle.con_line.specs.Line.{LineText, matched_as}
+use Rattle.con_line.specs.Words.Line.{pressed as line_pressed}
 use Rattle.con_line.specs.declared.press.Press.{Press}
 use Rattle.con_alias.specs.Aliases.{AliasList}
 use Rattle.con_alias.specs.Expansion.{expansion, line_end}

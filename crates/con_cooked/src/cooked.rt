@@ -2,8 +2,9 @@
 ghost use Rattle.std.specs.Prelude.{◌≡◌, ℕ, ◌+◌, ◌-◌, ◌≤◌, ◌==◌, List, [], ◌∷◌, ◌++◌, Bool, false, not, length, take, drop, bit_and, vec_len, vec_capacity, IfOk, if◌then◌else◌};
 ghost use Rattle.con_line.specs.Line.{LineText};
 ghost use Rattle.con_history.specs.Histories.{lines_of};
-ghost use Rattle.con_alias.specs.Aliases.{has_control};
-ghost use Rattle.con_cooked.specs.Cooked.{CookedRead, Moment, line_of, is_return, after_press, progress_of, answer_of, histories_after};
+ghost use Rattle.con_alias.specs.Words.Aliases.{has_control};
+ghost use Rattle.con_cooked.specs.Cooked.{CookedRead, Moment, line_of, is_return, after_press, answer_of, histories_after};
+ghost use Rattle.con_cooked.specs.Words.Cooked.{progress_of};
 ghost use Rattle.con_cooked.specs.Parts.{split_by, lines_for};
 
 use crate::keys::{LineKey, is_return, read_key};

@@ -1,6 +1,6 @@
 //! The line and the recalled place.
 ghost use Rattle.std.specs.Prelude.{◌≡◌, ℕ, ◌+◌, ◌-◌, ◌≤◌, ◌<◌, List, [], Bool, true, false, Option, Some, None, length, take, min, slice_index_or, unwrap_or, ◌≢◌, IfSome, IfOk, if◌then◌else◌};
-ghost use Rattle.con_line.specs.Line.{IsLine, edit_between};
+ghost use Rattle.con_line.specs.Words.Line.{IsLine, edit_between};
 ghost use Rattle.con_history.specs.Histories.{lines_of, found};
 ghost use Rattle.con_cooked.specs.Cooked.{Edited, recall, key_pressed, place_in};
 ghost use Rattle.con_cooked.specs.Parts.{edited, opened};

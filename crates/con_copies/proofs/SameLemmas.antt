@@ -4,7 +4,7 @@ use Rattle.std.proofs.lemmas.Slice.Eq.{bytes_eq-Decides}
 use Rattle.con_events.specs.Arg.{Arg}
 use Rattle.std.proofs.Common.{◌≡◌, ◌↔◌, ℕ, List, sym, subst, ap, ◌∙◌, Option, None, Some, Bool, true}
 use Rattle.con_events.specs.declared.call.Call.{Call}
-use Rattle.con_events.specs.Table.{name_of, args_of, Row, row_of, Tells}
+use Rattle.con_events.specs.Words.Table.{name_of, args_of, Row, row_of, Tells}
 use Rattle.con_events.specs.TableLaws.{row_tells}
 
 same_by : (a b : Call) (o : Option (Row Call)) → Tells a o → Tells b o → args_of a ≡ args_of b → a ≡ b

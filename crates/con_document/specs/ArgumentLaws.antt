@@ -8,14 +8,17 @@ use Rattle.con_units.specs.declared.place.Rect.{Rect}
 use Rattle.con_records.specs.declared.record.Record.{Record}
 use Rattle.con_records.specs.declared.record.Record.TheVariants as record_of
 use Rattle.con_events.specs.declared.call.Words.TheVariants.{One, Each}
-use Rattle.con_events.specs.Arg as arg
-use Rattle.con_events.specs.Arg.{Arg, kind_of, Number, Signed, OneUnit, Flag, Text, Area, Clip, WordsOf, WordList, Records}
+use Rattle.con_events.specs.Words.Arg as arg
+use Rattle.con_events.specs.Arg.{Arg, Number, Signed, OneUnit, Flag, Text, Area, Clip, WordsOf, WordList, Records}
+use Rattle.con_events.specs.Words.Arg.{kind_of}
 use Rattle.con_events.specs.Reading.{Item, row_from, whole as whole_from}
-use Rattle.con_events.specs.Fits.{AreUnits, IsSmall, RectFits, RecordFits, RecordsFit, ArgsFit}
+use Rattle.con_events.specs.Fits.{AreUnits, RectFits, RecordFits}
+use Rattle.con_events.specs.Words.Fits.{IsSmall, RecordsFit, ArgsFit}
 use Rattle.con_events.specs.RecordTable.{name_of_record, args_of_record, record_rows, row_of_record}
 use Rattle.con_values.specs.Values.{below, number_in, unit_in, signed_in, rect_items, rect_in, clip_in}
 use Rattle.con_values.specs.Values.{field, fields, record_items, record_in, records_items, records_in}
-use Rattle.con_lines.specs.Shown.{items, list_of, natural, whole, rect_data, record_data, shown}
+use Rattle.con_lines.specs.Shown.{list_of, natural, whole, rect_data, record_data, shown}
+use Rattle.con_lines.specs.Words.Shown.{items}
 use Rattle.serde_json.specs.Data.{Data, null, boolean, number, string, array, object, unsigned, negative, float, Items, no_items, item}
 use Rattle.serde_json.specs.Find.{as_bool}
 use Rattle.con_document.specs.Values.{text_in, units_items, list_in, words_in, written}

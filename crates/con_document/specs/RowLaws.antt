@@ -9,15 +9,16 @@ use Rattle.con_events.specs.declared.call.Call.{Call}
 use Rattle.con_events.specs.declared.event.Wanted.TheVariants.{Read, ReadInput, ReadWith}
 use Rattle.con_events.specs.declared.script.Step.{Step}
 use Rattle.con_events.specs.declared.script.Step.TheVariants as steps
-use Rattle.con_events.specs.Arg as arg
-use Rattle.con_events.specs.Arg.{Kind, Arg, kind_of, Number, Signed, OneUnit, Flag, Text, Area, Clip, WordsOf, WordList, Records}
-use Rattle.con_events.specs.Arg.{the_number, the_signed, the_flag, the_list, the_rect, the_clip, the_words, the_records}
-use Rattle.con_events.specs.Fits.{ArgFits, ArgsFit}
+use Rattle.con_events.specs.Words.Arg as arg
+use Rattle.con_events.specs.Arg.{Arg, Number, Signed, OneUnit, Flag, Text, Area, Clip, WordsOf, WordList, Records}
+use Rattle.con_events.specs.Words.Arg.{Kind, kind_of, the_number, the_signed, the_flag, the_list, the_rect, the_clip, the_words, the_records}
+use Rattle.con_events.specs.Fits.{ArgFits}
+use Rattle.con_events.specs.Words.Fits.{ArgsFit}
 use Rattle.con_events.specs.Reading.{Item, args_from, row_from, nothing_left, whole}
-use Rattle.con_events.specs.Table.{name_of, args_of, nth, Row, find, row_of, Tells, handles_rows, screens_rows, cells_rows, lines_rows, processes_rows}
-use Rattle.con_events.specs.Table.{row_of_handles, row_of_screens, row_of_cells, row_of_lines, row_of_processes}
+use Rattle.con_events.specs.Words.Table.{name_of, args_of, nth, Row, find, row_of, Tells, handles_rows, screens_rows, cells_rows, lines_rows, processes_rows, row_of_handles, row_of_screens, row_of_cells, row_of_lines, row_of_processes}
 use Rattle.con_events.specs.TableLaws.{Makes, row_tells}
-use Rattle.con_lines.specs.Shown.{items, shown}
+use Rattle.con_lines.specs.Shown.{shown}
+use Rattle.con_lines.specs.Words.Shown.{items}
 use Rattle.serde_json.specs.Data.{Data, Items, no_items, item}
 use Rattle.con_document.specs.declared.version.Version.{Version}
 use Rattle.con_document.specs.declared.version.Version.TheVariants.{One, Two}

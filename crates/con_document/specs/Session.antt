@@ -6,7 +6,8 @@ use Rattle.std.specs.Str.{bytes_eq}
 use Rattle.con_units.specs.declared.place.Size.{Size}
 use Rattle.con_events.specs.declared.script.Step.{Step}
 use Rattle.con_events.specs.declared.script.Script.{Script}
-use Rattle.con_events.specs.Session.{Clients, is_within, step_count}
+use Rattle.con_events.specs.Session.{Clients, is_within}
+use Rattle.con_events.specs.Words.Session.{step_count}
 use Rattle.serde_json.specs.Data.{Data, null, boolean, number, string, array, object, Items, no_items, item, Members, no_members, member}
 use Rattle.serde_json.specs.Find.{get, as_number, as_u64, as_array}
 use Rattle.con_document.specs.declared.version.Version.{Version}

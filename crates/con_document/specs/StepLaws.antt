@@ -7,8 +7,9 @@ use Rattle.std.specs.List.{AllZip}
 use Rattle.con_events.specs.declared.script.Step.{Step}
 use Rattle.con_events.specs.Reading.{Item, row_from, whole}
 use Rattle.con_events.specs.Session.{Clients}
-use Rattle.con_events.specs.Table.{Row}
-use Rattle.con_lines.specs.Shown.{items, list_of}
+use Rattle.con_events.specs.Words.Table.{Row}
+use Rattle.con_lines.specs.Shown.{list_of}
+use Rattle.con_lines.specs.Words.Shown.{items}
 use Rattle.serde_json.specs.Data.{Data, string, array, Items, item}
 use Rattle.con_document.specs.declared.version.Version.{Version}
 use Rattle.con_document.specs.declared.version.Version.TheVariants.{One, Two}

@@ -4,9 +4,10 @@ use Rattle.con_events.specs.declared.call.Call.{Call}
 use Rattle.con_events.specs.declared.script.Step.{Step}
 use Rattle.con_events.specs.declared.script.Step.TheVariants as steps
 use Rattle.con_events.specs.declared.event.Wanted.TheVariants as wanted
-use Rattle.con_events.specs.Arg as arg
-use Rattle.con_events.specs.Arg.{Arg, the_number, the_list}
-use Rattle.con_events.specs.Table.{Row, row, nth, find, row_of}
+use Rattle.con_events.specs.Words.Arg as arg
+use Rattle.con_events.specs.Arg.{Arg}
+use Rattle.con_events.specs.Words.Arg.{the_number, the_list}
+use Rattle.con_events.specs.Words.Table.{Row, row, nth, find, row_of}
 use Rattle.con_events.specs.Reading.{row_from, whole}
 use Rattle.serde_json.specs.Data.{Data, Items, no_items, item}
 use Rattle.serde_json.specs.Find.{as_array, as_str}

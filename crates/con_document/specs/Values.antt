@@ -3,8 +3,9 @@
 use Rattle.std.specs.Prelude.{ℕ, List, [], ◌∷◌, Option, Some, None, option_map, option_and_then}
 use Rattle.con_events.specs.declared.call.Words.{Words}
 use Rattle.con_events.specs.declared.call.Words.TheVariants.{One, Each}
-use Rattle.con_events.specs.Arg as arg
-use Rattle.con_events.specs.Arg.{Kind, Arg, Number, Signed, OneUnit, Flag, Text, Area, Clip, WordsOf, WordList, Records}
+use Rattle.con_events.specs.Words.Arg as arg
+use Rattle.con_events.specs.Arg.{Arg, Number, Signed, OneUnit, Flag, Text, Area, Clip, WordsOf, WordList, Records}
+use Rattle.con_events.specs.Words.Arg.{Kind}
 use Rattle.con_events.specs.Reading.{Item}
 use Rattle.con_values.specs.Values.{number_in, unit_in, signed_in, rect_in, clip_in, records_in}
 use Rattle.serde_json.specs.Data.{Data, Items, no_items, item}

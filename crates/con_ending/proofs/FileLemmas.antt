@@ -11,7 +11,8 @@ use Rattle.con_script.specs.Places.{IsJson, IsAt}
 use Rattle.con_lines.specs.Ending.{worded}
 use Rattle.con_ending.specs.declared.file.Unrun.{Unrun}
 use Rattle.con_ending.specs.declared.file.Unrun.TheVariants as unrun
-use Rattle.con_ending.specs.Files.{IsFile, Explains, Misread, no_json, no_session}
+use Rattle.con_ending.specs.Files.{IsFile, no_json, no_session}
+use Rattle.con_ending.specs.Words.Files.{Explains, Misread}
 
 -- bytes that were refused as no JSON are none
 pub no_json_by : (bytes : List ℕ) (fault : SessionFault) → fault ≡ faults.Json → IsJson fault (json_of bytes ≡ None) → json_of bytes ≡ None

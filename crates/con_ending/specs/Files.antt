@@ -4,10 +4,8 @@ use Rattle.con_events.specs.Session.{Clients}
 use Rattle.con_outside.specs.Named.{IsTooLong}
 use Rattle.con_document.specs.Document.{IsDocument, json_of}
 use Rattle.con_document.specs.Units.{text_units}
-use Rattle.con_lines.specs.Ending.{Ending, worded, ending_of}
+use Rattle.con_lines.specs.Ending.{Ending, worded}
 use Rattle.con_ending.specs.Ending.{Tells}
-use Rattle.con_ending.specs.declared.file.Unrun.{Unrun}
-use Rattle.con_ending.specs.declared.file.Unrun.TheVariants as unrun
 use Rattle.std.specs.Str.{encode_utf8_all}
 use Rattle.std.specs.Char.Utf16.{utf16_lossy_chars}
 
@@ -48,16 +46,3 @@ abbrev pub OfFile : (Clients → Type 0) → Type 0 → ℕ → Option (List ℕ
 OfFile Came Stays status files name files_failed before now failed =
     (Stays × (((status ≡ 9) × (now ≡ before)) ⊎ ((why : Reason) × Holds files name files_failed why × Tells status (ending_for why) before now failed)))
     ⊎ ((bytes : List ℕ) × (session : Clients) × IsFile files name bytes × IsDocument bytes (Ok session) × Came session)
-
--- ---- the code's own words
-
--- what an answer without a session says
-abbrev pub Explains : Option (List ℕ → Option (List ℕ)) → List ℕ → Type 0 → Unrun → Type 0
-Explains files name failed (unrun.Told line) = (why : Reason) × Holds files name failed why × (ending_of line ≡ ending_for why)
-Explains files name failed unrun.OutOfMemory = Unit {0}
-
--- why bytes are no session, where there was memory to tell
-abbrev pub Misread : List ℕ → Unrun → Type 0
-Misread bytes (unrun.Told line) = ((json_of bytes ≡ None) × (ending_of line ≡ ending_for (no_json bytes)))
-    ⊎ ((at : List ℕ) × IsDocument bytes (Err at) × (ending_of line ≡ ending_for (no_session bytes at)))
-Misread bytes unrun.OutOfMemory = Unit {0}

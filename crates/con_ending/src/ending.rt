@@ -2,7 +2,8 @@
 
 ghost use Rattle.std.specs.Prelude.{◌≡◌, ◌≤◌};
 ghost use Rattle.con_outside.specs.Outside.{Rose};
-ghost use Rattle.con_lines.specs.Ending.{ending_of, status_of};
+ghost use Rattle.con_lines.specs.Ending.{status_of};
+ghost use Rattle.con_lines.specs.Words.Ending.{ending_of};
 ghost use Rattle.con_ending.specs.Ending.{Tells};
 ghost use Rattle.con_ending.specs.Laws.{status_after};
 

@@ -3,7 +3,8 @@
 ghost use Rattle.std.specs.Prelude.{◌≤◌, ℕ, List, Ok, IfOk, IfErr};
 ghost use Rattle.con_outside.specs.Outside.{Rose};
 ghost use Rattle.con_document.specs.Document.{IsDocument};
-ghost use Rattle.con_ending.specs.Files.{IsFile, Explains, Misread};
+ghost use Rattle.con_ending.specs.Files.{IsFile};
+ghost use Rattle.con_ending.specs.Words.Files.{Explains, Misread};
 
 use con_events::Session;
 use con_outside::{Fault, Files, Found};

@@ -13,10 +13,9 @@ use Rattle.con_events.specs.declared.names.OnHandle.TheVariants as of_onhandle
 use Rattle.con_events.specs.declared.names.OnText.TheVariants as of_ontext
 use Rattle.con_events.specs.declared.names.Name.{Name}
 use Rattle.con_events.specs.declared.names.Name.TheVariants as of_name
-use Rattle.con_events.specs.Arg.{Kind}
+use Rattle.con_events.specs.Words.Arg.{Kind}
 use Rattle.con_events.specs.Names.{word, kinds, looked_up}
-use Rattle.con_events.specs.Table.{name_of, args_of, Row, find, row_of, Tells, row_of_handles, row_of_screens, row_of_cells, row_of_lines, row_of_processes}
-use Rattle.con_events.specs.Table.{handles_rows, screens_rows, cells_rows, lines_rows, processes_rows}
+use Rattle.con_events.specs.Words.Table.{name_of, args_of, Row, find, row_of, Tells, row_of_handles, row_of_screens, row_of_cells, row_of_lines, row_of_processes, handles_rows, screens_rows, cells_rows, lines_rows, processes_rows}
 use Rattle.con_events.specs.TableLaws.{row_tells}
 use Rattle.con_events.specs.Reading.{Item, args_from, row_from, call_from, IsForm}
 use Rattle.con_events.specs.declared.arguments.Misread.{Misread}

@@ -38,14 +38,3 @@ ArgFits (WordsOf (One w)) = w < 65536
 ArgFits (WordsOf (Each ws)) = AreUnits ws
 ArgFits (WordList ws) = AreUnits ws
 ArgFits (Records rs) = AllByRecursion RecordFits rs
-
--- ---- the code's own words
-
-abbrev pub IsSmall : ℤ → Type 0
-IsSmall z = IsSigned 32768 z
-
-abbrev pub RecordsFit : List Record → Type 0
-RecordsFit rs = AllByRecursion RecordFits rs
-
-abbrev pub ArgsFit : List Arg → Type 0
-ArgsFit xs = AllByRecursion ArgFits xs

@@ -11,3 +11,5 @@ pub mod Names
 pub mod Shapes
 -- Laws: what is told is what is read.
 pub mod TableLaws
+-- The words of the code and of laws about these files, which a reader need not believe.
+pub mod Words

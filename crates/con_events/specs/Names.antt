@@ -2,7 +2,8 @@
 use Rattle.std.specs.Prelude.{ℕ, List, [], ◌∷◌, Option, None, Some, codes, option_map, if◌then◌else◌}
 use Rattle.std.specs.Str.{bytes_eq}
 use Rattle.std.specs.Borrow.{Bor}
-use Rattle.con_events.specs.Arg.{Arg, Kind, number, signed, unit, flag, text, rect, clip, words, list, records}
+use Rattle.con_events.specs.Arg.{Arg}
+use Rattle.con_events.specs.Words.Arg.{Kind, number, signed, unit, flag, text, rect, clip, words, list, records}
 use Rattle.con_events.specs.Reading.{Item}
 use Rattle.con_events.specs.declared.names.Bare.{Bare}
 use Rattle.con_events.specs.declared.names.Bare.TheVariants as of_bare

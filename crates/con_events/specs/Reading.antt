@@ -1,8 +1,9 @@
 -- A call read from its name and what stands after it.
 use Rattle.std.specs.Prelude.{ℕ, Bool, true, false, if◌then◌else◌, List, [], ◌∷◌, Option, Some, None, option_map, option_and_then}
 use Rattle.con_events.specs.declared.call.Call.{Call}
-use Rattle.con_events.specs.Arg.{Kind, Arg}
-use Rattle.con_events.specs.Table.{Row, row_of}
+use Rattle.con_events.specs.Arg.{Arg}
+use Rattle.con_events.specs.Words.Arg.{Kind}
+use Rattle.con_events.specs.Words.Table.{Row, row_of}
 use Rattle.con_events.specs.declared.arguments.Misread.{Misread}
 use Rattle.con_events.specs.declared.arguments.Misread.TheVariants.{Form, OutOfMemory}
 

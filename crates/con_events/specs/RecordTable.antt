@@ -2,8 +2,9 @@
 use Rattle.std.specs.Prelude.{ℕ, List, [], ◌∷◌, Option, None, codes}
 use Rattle.con_records.specs.declared.record.Record.{Record}
 use Rattle.con_records.specs.declared.record.Record.TheVariants as record_of
-use Rattle.con_events.specs.Arg.{Arg, number, signed, unit, flag, Number, Signed, OneUnit, Flag, the_number, the_signed, the_flag}
-use Rattle.con_events.specs.Table.{Row, row, nth, find}
+use Rattle.con_events.specs.Arg.{Arg, Number, Signed, OneUnit, Flag}
+use Rattle.con_events.specs.Words.Arg.{number, signed, unit, flag, the_number, the_signed, the_flag}
+use Rattle.con_events.specs.Words.Table.{Row, row, nth, find}
 
 abbrev pub name_of_record : Record → List ℕ
 name_of_record (record_of.Key k) = codes "key"

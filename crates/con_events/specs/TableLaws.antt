@@ -4,9 +4,10 @@ use Rattle.con_events.specs.declared.call.Call.{Call}
 use Rattle.con_events.specs.declared.call.Call.TheVariants as call
 use Rattle.con_records.specs.declared.record.Record.{Record}
 use Rattle.con_records.specs.declared.record.Record.TheVariants as record_of
-use Rattle.con_events.specs.Arg.{Arg, kind_of}
+use Rattle.con_events.specs.Arg.{Arg}
+use Rattle.con_events.specs.Words.Arg.{kind_of}
 use Rattle.con_events.specs.RecordTable.{name_of_record, args_of_record, row_of_record}
-use Rattle.con_events.specs.Table.{name_of, args_of, Row, row_of, Tells, row_of_handles, row_of_screens, row_of_cells, row_of_lines, row_of_processes}
+use Rattle.con_events.specs.Words.Table.{name_of, args_of, Row, row_of, Tells, row_of_handles, row_of_screens, row_of_cells, row_of_lines, row_of_processes}
 use Rattle.con_events.specs.Reading.{Item, args_from, row_from, call_from}
 
 -- the row of a call's name: its kinds are those of the call's arguments, and it makes the call from them

@@ -2,7 +2,7 @@
 
 ghost use Rattle.std.specs.Prelude.{◌≡◌};
 ghost use Rattle.con_events.specs.Shapes.{told};
-ghost use Rattle.con_events.specs.Table.{args_of};
+ghost use Rattle.con_events.specs.Words.Table.{args_of};
 
 use crate::call::{Call, Words};
 use con_records::Taken;

@@ -1,8 +1,8 @@
 //! The arguments of calls.
 
 ghost use Rattle.std.specs.Prelude.{◌≡◌, List, Some, None, IfOk, IfErr};
-ghost use Rattle.con_events.specs.Arg.{Kind, number, signed, unit, flag, text, rect, clip, words, list, records};
 ghost use Rattle.con_events.specs.Arg.{Number, Signed, OneUnit, Flag, Text, Area, Clip, WordsOf, WordList, Records};
+ghost use Rattle.con_events.specs.Words.Arg.{Kind, number, signed, unit, flag, text, rect, clip, words, list, records};
 ghost use Rattle.con_events.specs.Reading.{nothing_left, Item, first, others, IsForm, call_from};
 
 use crate::call::{Call, Words};

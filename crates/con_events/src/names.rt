@@ -2,7 +2,7 @@
 
 ghost use Rattle.std.specs.Prelude.{◌≡◌, IfSome, IfNone, None};
 ghost use Rattle.con_events.specs.Names.{word, looked_up};
-ghost use Rattle.con_events.specs.Table.{row_of};
+ghost use Rattle.con_events.specs.Words.Table.{row_of};
 
 /// A call by its name, as a tree: the calls whose arguments begin with the same kinds stand together.
 #[derive(Clone, Copy, Drop)]

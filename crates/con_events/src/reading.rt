@@ -6,7 +6,7 @@ ghost use Rattle.con_events.specs.Names.{before, word, word_bare, word_handle, w
 ghost use Rattle.con_events.specs.Names.{kinds, kinds_handle, kinds_number, kinds_place, kinds_run, kinds_area, kinds_text};
 ghost use Rattle.con_events.specs.declared.names.OnArea.TheVariants as on_area;
 ghost use Rattle.con_events.specs.Reading.{IsForm, args_from, call_from, whole};
-ghost use Rattle.con_events.specs.Table.{name_of, args_of};
+ghost use Rattle.con_events.specs.Words.Table.{name_of, args_of};
 
 use crate::arguments::{Arguments, Misread};
 use crate::call::Call;

@@ -2,7 +2,7 @@
 
 ghost use Rattle.std.specs.Prelude.{◌≡◌, Some, None, IfOk, IfErr, codes};
 ghost use Rattle.con_events.specs.Reading.{IsForm, row_from, whole};
-ghost use Rattle.con_events.specs.Arg.{put_all};
+ghost use Rattle.con_events.specs.Words.Arg.{put_all};
 ghost use Rattle.con_records.specs.declared.record.Record.TheVariants as record_of;
 ghost use Rattle.con_events.specs.RecordTable.{row_of_record, name_of_record, args_of_record};
 

@@ -1,6 +1,7 @@
 //! What all clients will do.
 ghost use Rattle.std.specs.Prelude.{◌≡◌, true, nat_le};
-ghost use Rattle.con_events.specs.Session.{is_script, all_scripts, are_scripts, is_size, step_count, session_of};
+ghost use Rattle.con_events.specs.Session.{is_size};
+ghost use Rattle.con_events.specs.Words.Session.{is_script, all_scripts, are_scripts, step_count, session_of};
 
 use crate::script::{Script, Scripts};
 use con_units::Size;
@@ -17,7 +18,8 @@ pub struct Session {
 
 impl Model for Session {
     ghost use Rattle.std.specs.Prelude.{◌≡◌, true};
-    ghost use Rattle.con_events.specs.Session.{Clients, is_session};
+    ghost use Rattle.con_events.specs.Session.{Clients};
+    ghost use Rattle.con_events.specs.Words.Session.{is_session};
 
     ghost Value = { Clients };
 

@@ -1,9 +1,10 @@
 //! A call told to whoever shows it.
 
 ghost use Rattle.std.specs.Prelude.{◌≡◌, List, [], ◌∷◌, IfOk};
-ghost use Rattle.con_events.specs.Arg.{put_all, Arg, Number, Signed, OneUnit, Flag, Text, Area, Clip, WordsOf, WordList, Records};
+ghost use Rattle.con_events.specs.Arg.{Arg, Number, Signed, OneUnit, Flag, Text, Area, Clip, WordsOf, WordList, Records};
+ghost use Rattle.con_events.specs.Words.Arg.{put_all};
 ghost use Rattle.con_events.specs.Shapes.{told};
-ghost use Rattle.con_events.specs.Table.{name_of, args_of};
+ghost use Rattle.con_events.specs.Words.Table.{name_of, args_of};
 
 use crate::args::{Args, arguments_of};
 use crate::call::{Call, Words};

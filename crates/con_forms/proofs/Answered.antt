@@ -22,19 +22,24 @@ use Rattle.con_readers.specs.declared.answer.Answer.{Answer}
 use Rattle.con_readers.specs.declared.answer.Answer.TheVariants as answers
 use Rattle.con_rects.specs.Rules.{rect_cells}
 use Rattle.con_machine.specs.State.{State, noted_of, without_noted}
-use Rattle.con_machine.specs.Outcome.{Outcome, buffer_of, refused, by_answer, by_result, while_open, with_object, guard, are_rights}
+use Rattle.con_machine.specs.Outcome.{Outcome, buffer_of, refused, by_answer, while_open, guard, are_rights}
+use Rattle.con_machine.specs.Words.Outcome.{by_result, with_object}
 use Rattle.con_machine.specs.Call.{called}
-use Rattle.con_machine.specs.HandleCalls.{opened, opened_at, buffer_made}
+use Rattle.con_machine.specs.HandleCalls.{opened, buffer_made}
+use Rattle.con_machine.specs.Words.HandleCalls.{opened_at}
 use Rattle.con_machine.specs.ScreenCalls.{mode_changed}
-use Rattle.con_machine.specs.CellCalls.{cells_of, is_over, used_in, used_of, rect_told, sides_of}
+use Rattle.con_machine.specs.CellCalls.{cells_of}
+use Rattle.con_machine.specs.Words.CellCalls.{is_over, used_in, used_of, rect_told, sides_of}
 use Rattle.con_machine.specs.LineCalls.{told_alias_in}
-use Rattle.con_machine.specs.ProcessCalls.{on_place}
-use Rattle.con_machine.specs.Reads.{began, collected, took_ctrl, answer_told, units_told}
+use Rattle.con_machine.specs.Words.ProcessCalls.{on_place}
+use Rattle.con_machine.specs.Reads.{began, collected, took_ctrl, answer_told}
+use Rattle.con_machine.specs.Words.Reads.{units_told}
 use Rattle.con_machine.specs.Step.{client_of, effect, finished, is_outside, step}
 use Rattle.con_machine.specs.declared.reads.noted.Noted.{Noted}
 use Rattle.con_events.specs.declared.form.Form.{Form}
 use Rattle.con_events.specs.declared.form.Form.TheVariants as form
-use Rattle.con_lines.specs.Form.{call_form, form_of}
+use Rattle.con_lines.specs.Form.{form_of}
+use Rattle.con_lines.specs.Words.Form.{call_form}
 use Rattle.con_forms.specs.Formed.{HasForm, refuses, is_done, has_number, has_fields, has_flag, has_sides, has_ids, has_units, has_records, has_cells, has_lines, waits_for_units, waits_for_records, has_control}
 use Rattle.con_forms.specs.Laws.{AnswerHasForm, AnswersHaveForms}
 use Rattle.con_forms.proofs.Plain.{rect_plain}

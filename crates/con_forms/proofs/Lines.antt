@@ -19,8 +19,10 @@ use Rattle.con_events.specs.Actors.{is_actors}
 use Rattle.con_machine.specs.Step.{client_of, is_due, is_outside, is_ready, step}
 use Rattle.con_events.specs.declared.form.Form.{Form}
 use Rattle.con_lines.specs.declared.said.Said.{Said}
-use Rattle.con_lines.specs.Fits.{IsOwn, AreRead, ReplyFits, refused, is_done as done_fits, is_number, are_fields, number_and_flag, are_sides, are_ids, are_units, are_records, are_cells, are_lines, waited_units, waited_records, is_control, AnswerFits, LineFits}
-use Rattle.con_trace.specs.Report.{AreLines, end_of, ends_behind, pictures, said, with_picture}
+use Rattle.con_lines.specs.Fits.{IsOwn, ReplyFits, refused, is_done as done_fits, is_number, are_fields, number_and_flag, are_sides, are_ids, are_units, are_records, are_cells, are_lines, waited_units, waited_records, is_control, AnswerFits}
+use Rattle.con_lines.specs.Words.Fits.{AreRead, LineFits}
+use Rattle.con_trace.specs.Report.{said}
+use Rattle.con_trace.specs.Words.Report.{AreLines, end_of, ends_behind, pictures, with_picture}
 use Rattle.con_forms.specs.Formed.{ArePlain, HasForm, IsPicture, refuses, is_done, has_number, has_fields, has_flag, has_sides, has_ids, has_units, has_records, has_cells, has_lines, waits_for_units, waits_for_records, has_control, reported}
 use Rattle.con_forms.specs.Kept.{ActorKeeps, AreCells, EndsKeep, EntriesKeep, EntryKeeps, RepliesKeep, ReplyKeeps}
 use Rattle.con_forms.specs.Told.{has_end, is_told, told}

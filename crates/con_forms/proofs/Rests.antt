@@ -2,8 +2,8 @@
 use Rattle.std.proofs.Common.{◌≡◌, subst, ap, ◌∙◌, arith, ◌-◌, ◌<◌, ◌≤◌, List, [], ◌∷◌, length, take, drop, get_or}
 use Rattle.std.specs.Prelude.{ℤ, pos, negsuc}
 use Rattle.std.proofs.Math.Seq.{take-length}
-use Rattle.con_events.specs.Fits.{IsSmall}
-use Rattle.con_lines.specs.Fits.{IsWhole}
+use Rattle.con_events.specs.Words.Fits.{IsSmall}
+use Rattle.con_lines.specs.Words.Fits.{IsWhole}
 use mir.Syntax.{w16, w64}
 use mir.Val.{SFits}
 

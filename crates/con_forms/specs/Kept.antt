@@ -1,9 +1,10 @@
 -- What the types of entries, answers, lengths and an end keep, whatever happened.
 use Rattle.std.specs.Prelude.{◌≡◌, ℕ, ◌<◌, List, [], ◌∷◌}
-use Rattle.con_units.specs.Attr.{masked}
+use Rattle.con_units.specs.Words.Attr.{masked}
 use Rattle.con_units.specs.Glyph.{Glyph}
 use Rattle.con_units.specs.Stored.{stored_unit}
-use Rattle.con_events.specs.Fits.{AreUnits, RectFits, RecordsFit}
+use Rattle.con_events.specs.Fits.{AreUnits, RectFits}
+use Rattle.con_events.specs.Words.Fits.{RecordsFit}
 use Rattle.con_events.specs.declared.actor.Actor.{Actor}
 use Rattle.con_events.specs.declared.actor.Actor.TheVariants as actor
 use Rattle.con_events.specs.declared.end.End.{End}
@@ -11,7 +12,8 @@ use Rattle.con_events.specs.declared.end.End.TheVariants as ends
 use Rattle.con_events.specs.declared.entry.Entry.{Entry}
 use Rattle.con_events.specs.declared.reply.Reply.{Reply}
 use Rattle.con_events.specs.declared.reply.Reply.TheVariants as reply
-use Rattle.con_lines.specs.Fits.{EventFits, AreWhole, AreTexts}
+use Rattle.con_lines.specs.Fits.{EventFits}
+use Rattle.con_lines.specs.Words.Fits.{AreWhole, AreTexts}
 use Rattle.con_lines.specs.Shown.{cell_words}
 
 abbrev pub ActorKeeps : Actor → Type 0

@@ -11,10 +11,12 @@ use Rattle.con_machine.specs.History.{is_legal, replies_of}
 use Rattle.con_machine.specs.State.{State}
 use Rattle.con_machine.specs.Step.{step}
 use Rattle.con_lines.specs.Form.{form_of}
-use Rattle.con_trace.specs.Report.{History, IsHistory, pictures, said}
+use Rattle.con_trace.specs.Report.{History, IsHistory, said}
+use Rattle.con_trace.specs.Words.Report.{pictures}
 use Rattle.con_forms.specs.Formed.{HasForm, IsPicture, reported}
 use Rattle.con_forms.specs.Kept.{Kept}
-use Rattle.con_forms.specs.Told.{history_told, is_told, told}
+use Rattle.con_forms.specs.Told.{is_told, told}
+use Rattle.con_forms.specs.Words.Told.{history_told}
 
 -- an event is answered by its form, and Paint by a picture
 abbrev pub AnswerHasForm : Event → Reply → Type 0

@@ -3,3 +3,5 @@ pub mod Formed
 pub mod Kept
 pub mod Told
 pub mod Laws
+-- The words of the code and of laws about these files, which a reader need not believe.
+pub mod Words

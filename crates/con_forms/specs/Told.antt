@@ -1,10 +1,10 @@
 -- Which lines of a history a report tells: all of them, up to a picture that has no length.
-use Rattle.std.specs.Prelude.{◌&&◌, ℕ, Bool, true, false, List, [], ◌∷◌, map, if◌then◌else◌}
+use Rattle.std.specs.Prelude.{◌&&◌, ℕ, Bool, true, false, List, [], ◌∷◌, if◌then◌else◌}
 use Rattle.con_events.specs.declared.entry.Entry.{Entry}
 use Rattle.con_events.specs.declared.event.Event.{Event}
 use Rattle.con_events.specs.declared.event.Event.TheVariants as event
 use Rattle.con_events.specs.declared.reply.Reply.{Reply}
-use Rattle.con_trace.specs.Report.{History, next_end}
+use Rattle.con_trace.specs.Report.{next_end}
 use Rattle.con_lines.specs.declared.said.Said.{Said}
 
 -- a picture has one of the lengths that are still to come, and any other event none
@@ -22,7 +22,3 @@ told _ _ ns = []
 abbrev pub is_told : List Entry → List Reply → List ℕ → Bool
 is_told (e ∷ es) (r ∷ rs) ns = has_end e.event ns && is_told es rs (next_end e.event ns).1
 is_told _ _ ns = true
-
--- the history of these lines
-abbrev pub history_told : List Said → List ℕ → History
-history_told ss ns = record { entries = map (λ s. s.entry) ss; replies = map (λ s. s.reply) ss; ends = ns }

@@ -1,12 +1,15 @@
 //! What types keep of a history, read value by value.
 
 ghost use Rattle.std.specs.Prelude.{◌≡◌, ◌<◌};
-ghost use Rattle.con_units.specs.Attr.{masked};
+ghost use Rattle.con_units.specs.Words.Attr.{masked};
 ghost use Rattle.con_units.specs.Stored.{stored_unit};
 ghost use Rattle.con_events.specs.Arg.{Clip, WordsOf};
-ghost use Rattle.con_events.specs.Fits.{AreUnits, ArgFits, ArgsFit, IsSmall, RecordFits, RecordsFit, RectFits};
-ghost use Rattle.con_events.specs.Table.{args_of, wanted_spelled};
-ghost use Rattle.con_lines.specs.Fits.{AreBytes, AreTexts, AreWhole, EventFits, IsWhole};
+ghost use Rattle.con_events.specs.Fits.{AreUnits, ArgFits, RecordFits, RectFits};
+ghost use Rattle.con_events.specs.Words.Fits.{ArgsFit, IsSmall, RecordsFit};
+ghost use Rattle.con_events.specs.Table.{wanted_spelled};
+ghost use Rattle.con_events.specs.Words.Table.{args_of};
+ghost use Rattle.con_lines.specs.Fits.{EventFits};
+ghost use Rattle.con_lines.specs.Words.Fits.{AreBytes, AreTexts, AreWhole, IsWhole};
 ghost use Rattle.con_lines.specs.Shown.{cell_words};
 ghost use Rattle.con_forms.specs.Kept.{ActorKeeps, AreCells, EndKeeps, EndsKeep, EntriesKeep, EntryKeeps, Kept, RepliesKeep, ReplyKeeps};
 

@@ -3,7 +3,7 @@ use Rattle.std.proofs.Common.{◌≡◌, ℕ, ◌+◌, ◌≤◌, List, take, dr
 use Rattle.std.proofs.lemmas.List.{same_lists, places}
 use Rattle.con_units.specs.Glyph.{Glyph}
 use Rattle.con_units.specs.View.{row_of, row_part}
-use Rattle.con_grid.specs.Picture.{IsRowOf}
+use Rattle.con_grid.specs.Words.Picture.{IsRowOf}
 use Rattle.con_grid.specs.Parts.{IsPartOf, PartsFollowRows}
 
 -- a part of a row is a part of the list that the row is

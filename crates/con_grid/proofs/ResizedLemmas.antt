@@ -7,7 +7,8 @@ use Rattle.std.proofs.lemmas.Nat.{mul-add-lt}
 use Rattle.std.proofs.lemmas.Bool.{cond-true, cond-false, cond_both, lt-ltb, le-ltb}
 use Rattle.std.proofs.Math.Nat.{mul-le-mul_right, mul-add-mod_self_right, mul-add-div_right, mod-eq_of_lt, div-eq_of_lt}
 use Rattle.con_units.specs.Glyph.{Glyph}
-use Rattle.con_grid.specs.Picture.{cell_of, resized_cells}
+use Rattle.con_grid.specs.Picture.{resized_cells}
+use Rattle.con_grid.specs.Words.Picture.{cell_of}
 
 pub cell_of_inside : (cells : List Glyph) (w x y : ℕ) (b r : Glyph) → x < w → y * w + x < length cells → r ≡ get_or cells (y * w + x) r → r ≡ cell_of cells w x y b
 cell_of_inside cells w x y b r x_in at_in read = read ∙ get_or_default cells (y * w + x) r b at_in ∙ sym (cond-true (nat_lt x w) _ _ (lt-ltb x w x_in))

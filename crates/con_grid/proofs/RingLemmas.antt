@@ -4,7 +4,8 @@ use Rattle.std.proofs.lemmas.List.{same_lists, places, take-append-drop, length-
 use Rattle.std.proofs.lemmas.Grind.{common_steps}
 use Rattle.con_units.specs.Attr.{Attribute}
 use Rattle.con_units.specs.Glyph.{Glyph, cell_of as glyph_of}
-use Rattle.con_grid.specs.Picture.{Picture, written_over, part_of, lifted, lowered, filled, part_lifted, part_lowered, units_put, glyphs_of}
+use Rattle.con_grid.specs.Picture.{Picture, lifted, lowered, filled, part_lifted, part_lowered}
+use Rattle.con_grid.specs.Words.Picture.{written_over, part_of, units_put, glyphs_of}
 use Rattle.con_grid.specs.Ring.{turned, copied, IsRun, IsSpot, IsIndex}
 use Rattle.std.specs.List.{copy_within}
 

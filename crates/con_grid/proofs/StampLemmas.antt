@@ -8,7 +8,8 @@ use Rattle.std.proofs.Math.Nat.{mul-le-mul_right}
 use Rattle.con_units.specs.Attr.{Attribute}
 use Rattle.con_units.specs.Glyph.{Glyph, cell_of as glyph_of}
 use Rattle.con_units.specs.View.{row_of}
-use Rattle.con_grid.specs.Picture.{Picture, IsRowOf, raised, filled, lifted, lowered, part_lifted, part_lowered, written_over, part_of, glyphs_of, units_put}
+use Rattle.con_grid.specs.Picture.{Picture, raised, filled, lifted, lowered, part_lifted, part_lowered}
+use Rattle.con_grid.specs.Words.Picture.{IsRowOf, written_over, part_of, glyphs_of, units_put}
 use Rattle.con_grid.proofs.FillLemmas.{fill-none, fill-more}
 use Rattle.con_grid.specs.Stamps.{RowStamps, AreStamps, AreStampedBy, AreStampsOf}
 

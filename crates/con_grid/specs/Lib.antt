@@ -8,3 +8,5 @@ pub mod Parts
 -- ---- The code's own words.
 pub mod Inside
 pub mod Ring
+-- ---- The words of the code and of laws about these files, which a reader need not believe.
+pub mod Words

@@ -2,7 +2,8 @@
 use Rattle.std.specs.Prelude.{ℕ, ◌≡◌, ◌+◌, ◌≤◌, List, Option, None, Some}
 use Rattle.con_units.specs.Glyph.{Glyph}
 use Rattle.con_units.specs.View.{row_part}
-use Rattle.con_grid.specs.Picture.{Picture, IsUntouched}
+use Rattle.con_grid.specs.Picture.{Picture}
+use Rattle.con_grid.specs.Words.Picture.{IsUntouched}
 
 abbrev pub IsPartOf : Option (List Glyph) → ℕ → List Glyph → ℕ → ℕ → ℕ → Type 0
 IsPartOf None width cells left n y = ⊥

@@ -1,7 +1,7 @@
 -- Cells whose first one may stand anywhere in their block.
 use Rattle.std.specs.Prelude.{ℕ, ◌≡◌, ◌+◌, ◌-◌, ◌≤◌, ◌<◌, List, ◌++◌, length, take, drop, slice_index_or, slice_set}
 use Rattle.con_units.specs.Glyph.{Glyph}
-use Rattle.con_grid.specs.Picture.{written_over, part_of}
+use Rattle.con_grid.specs.Words.Picture.{written_over, part_of}
 use Rattle.con_grid.specs.declared.ring.Ring.TheInside.{Inside}
 
 -- the cells of a block from one place on, and then those before it

@@ -1,6 +1,7 @@
 -- The stamps of rows.
 use Rattle.std.specs.Prelude.{ℕ, ◌≡◌, ◌+◌, ◌*◌, ◌<◌, ◌≤◌, ◌⊎◌, List, length, slice_index_or}
-use Rattle.con_grid.specs.Picture.{Picture, IsPicture, IsUntouched}
+use Rattle.con_grid.specs.Picture.{Picture}
+use Rattle.con_grid.specs.Words.Picture.{IsPicture, IsUntouched}
 
 -- The number of a grid, and for each row the number at which it may have changed last.
 pub record RowStamps : Type 0 where

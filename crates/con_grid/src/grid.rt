@@ -1,7 +1,7 @@
 //! The grid.
 ghost use Rattle.std.specs.Prelude.{◌≡◌, ℕ, ◌+◌, ◌-◌, ◌*◌, ◌<◌, ◌≤◌, ◌^◌, Some, None, slice_set, slice_get, length, replicate, true, IfOk};
-ghost use Rattle.con_grid.specs.Picture.{IsInside, IsPicture, IsUntouched, place, filled, part_lifted, part_lowered};
-ghost use Rattle.con_grid.specs.Picture.{lifted, raised, rows_shifted, units_put, resized, cell_of};
+ghost use Rattle.con_grid.specs.Picture.{place, filled, part_lifted, part_lowered, lifted, raised, resized};
+ghost use Rattle.con_grid.specs.Words.Picture.{IsInside, IsPicture, IsUntouched, rows_shifted, units_put, cell_of};
 ghost use Rattle.con_grid.specs.Parts.{PartsFollowRows};
 ghost use Rattle.con_units.specs.Plain.{is_plain};
 ghost use Rattle.std.specs.List.{list_all};

@@ -1,6 +1,7 @@
 //! Changes of cells that lie in a row.
 ghost use Rattle.std.specs.Prelude.{◌≡◌, ℕ, ◌+◌, ◌-◌, ◌*◌, ◌<◌, ◌≤◌, ◌^◌, length, replicate, true, IfOk};
-ghost use Rattle.con_grid.specs.Picture.{filled, glyphs_of, units_put, resized_cells};
+ghost use Rattle.con_grid.specs.Picture.{filled, resized_cells};
+ghost use Rattle.con_grid.specs.Words.Picture.{glyphs_of, units_put};
 ghost use Rattle.con_units.specs.Plain.{is_plain};
 ghost use Rattle.std.specs.List.{list_all};
 
@@ -52,7 +53,7 @@ pub fn show(row: &mut [Cell], units: &[u16], attr: Attr)
 }
 
 /// Writes the cells that show the units in an attribute, from one place on.
-#[tactic(auto, unfolding(crate::specs::Picture::units_put))]
+#[tactic(auto, unfolding(crate::specs::Words::Picture::units_put))]
 pub fn put_units(cells: &mut [Cell], at: usize, units: &[u16], attr: Attr)
     requires { at + length units.now ≤ length cells.old }
     ensures { cells.new ≡ units_put cells.old at units.now attr }
@@ -72,7 +73,7 @@ pub fn show_plain(row: &mut [Cell], units: &[u16], attr: Attr)
 }
 
 /// Writes the cells that show units of printable ASCII in an attribute, from one place on.
-#[tactic(auto, unfolding(crate::specs::Picture::units_put))]
+#[tactic(auto, unfolding(crate::specs::Words::Picture::units_put))]
 pub fn put_plain(cells: &mut [Cell], at: usize, units: &[u16], attr: Attr)
     requires inside { at + length units.now ≤ length cells.old }
     requires plain { list_all is_plain units.now ≡ true }

@@ -1,7 +1,8 @@
 //! Cells in a block whose first cell may stand anywhere, so that a scroll of all rows moves none.
 ghost use Rattle.std.specs.Prelude.{◌≡◌, ◌+◌, ◌-◌, ◌*◌, ◌<◌, ◌≤◌, List, Some, length, min, replicate, slice_get, slice_set, IfOk, true};
 ghost use Rattle.con_units.specs.Glyph.{Glyph};
-ghost use Rattle.con_grid.specs.Picture.{filled, units_put, lifted, lowered, part_lifted, part_lowered};
+ghost use Rattle.con_grid.specs.Picture.{filled, lifted, lowered, part_lifted, part_lowered};
+ghost use Rattle.con_grid.specs.Words.Picture.{units_put};
 ghost use Rattle.con_grid.specs.Ring.{turned, copied, IsRun, IsSpot, IsIndex};
 ghost use Rattle.con_units.specs.Plain.{is_plain};
 ghost use Rattle.std.specs.List.{list_all};

@@ -5,8 +5,10 @@ use Rattle.std.specs.List.{list_all}
 use Rattle.std.proofs.Math.Seq.{drop-cons}
 use Rattle.std.proofs.lemmas.Bool.{and_parts}
 use Rattle.std.proofs.lemmas.Bool.Decides.{nat_tests}
-use Rattle.con_handlers.specs.Memory.{Memory, after_event}
-use Rattle.con_handlers.specs.Delivery.{newest, newer_or, remembered, is_known, answers, delivered_by, Delivers}
+use Rattle.con_handlers.specs.Memory.{Memory}
+use Rattle.con_handlers.specs.Words.Memory.{after_event}
+use Rattle.con_handlers.specs.Delivery.{newest}
+use Rattle.con_handlers.specs.Words.Delivery.{newer_or, remembered, is_known, answers, delivered_by, Delivers}
 use Rattle.con_handlers.specs.Answers.{answer}
 use Rattle.con_handlers.specs.declared.chain.Delivered.TheVariants as outcome
 use Rattle.std.proofs.lemmas.List.{length-map, length-set}

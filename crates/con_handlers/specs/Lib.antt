@@ -4,3 +4,5 @@ pub mod Memory
 pub mod Delivery
 -- Words for structs of the crates above.
 pub mod Boxes
+-- The words of the code and of laws about these files, which a reader need not believe.
+pub mod Words

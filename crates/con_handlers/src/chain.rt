@@ -1,8 +1,8 @@
 // The chain.
 ghost use Rattle.std.specs.Prelude.{◌≡◌, ◌==◌, [], ◌++◌, ◌∷◌, ◌≤◌, length, remove, OnOk, OnErr, IfErr};
 ghost use Rattle.con_handlers.specs.Answers.{answer};
-ghost use Rattle.con_handlers.specs.Delivery.{Delivers, removal};
-ghost use Rattle.con_handlers.specs.Memory.{after_event};
+ghost use Rattle.con_handlers.specs.Words.Delivery.{Delivers, removal};
+ghost use Rattle.con_handlers.specs.Words.Memory.{after_event};
 
 use crate::handler::CtrlHandler;
 use con_units::Code;

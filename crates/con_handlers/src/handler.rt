@@ -1,7 +1,8 @@
 // What a handler is.
 ghost use Rattle.std.specs.Prelude.{◌≡◌, ℕ, Bool, ◌≤◌};
 ghost use Rattle.con_handlers.specs.Answers.{answer, raised};
-ghost use Rattle.con_handlers.specs.Memory.{Memory, after_event};
+ghost use Rattle.con_handlers.specs.Memory.{Memory};
+ghost use Rattle.con_handlers.specs.Words.Memory.{after_event};
 
 /// A handler of control events, as a `HandlerRoutine` of the Console API: `CTRL_C_EVENT` (0), `CTRL_BREAK_EVENT` (1),
 /// `CTRL_CLOSE_EVENT` (2).

@@ -1,6 +1,6 @@
 // Kind 3.
 ghost use Rattle.std.specs.Prelude.{◌≡◌, ◌==◌};
-ghost use Rattle.con_handlers.specs.Memory.{memory_of};
+ghost use Rattle.con_handlers.specs.Words.Memory.{memory_of};
 
 use crate::handler::{CtrlHandler, one_more};
 

@@ -6,7 +6,8 @@ use Rattle.con_units.specs.declared.code.Code.{Code}
 use Rattle.con_units.specs.declared.code.Code.TheVariants as code
 use Rattle.con_handles.specs.declared.handle.Held.{Held}
 use Rattle.con_handles.specs.declared.handle.Handle.{Handle}
-use Rattle.con_handles.specs.Handles.{is_used, is_owned, free_from, least_free, new_number, count_of}
+use Rattle.con_handles.specs.Handles.{is_owned, free_from, new_number}
+use Rattle.con_handles.specs.Words.Handles.{is_used, least_free, count_of}
 use Rattle.con_handles.specs.Places.{listed, handle_of}
 use Rattle.con_handles.proofs.Listed.{find-past, not_used}
 

@@ -7,7 +7,8 @@ use Rattle.std.proofs.Math.Nat.{mul-add-mod_self_right, mod-eq_of_lt}
 use Rattle.std.proofs.lemmas.Bool.Decides.{nat_tests}
 use Rattle.con_handles.specs.declared.handle.Held.{Held}
 use Rattle.con_handles.specs.declared.handle.Handle.{Handle}
-use Rattle.con_handles.specs.Handles.{is_at, find_handle, is_used, entered, without, is_owned, least_of}
+use Rattle.con_handles.specs.Handles.{is_at, find_handle, entered, without, is_owned}
+use Rattle.con_handles.specs.Words.Handles.{is_used, least_of}
 use Rattle.con_handles.specs.Places.{listed, handle_of, place_of, held_in}
 
 -- a place's process and number

@@ -1,7 +1,8 @@
 -- The search for a free number.
 use Rattle.std.proofs.Common.{◌≡◌, ◌≤◌, ◌-◌, ◌+◌, ℕ, List, suc, true, false, arith, refl, ap, ◌∙◌, sym}
 use Rattle.con_handles.specs.declared.handle.Handle.{Handle}
-use Rattle.con_handles.specs.Handles.{free_from, is_used}
+use Rattle.con_handles.specs.Handles.{free_from}
+use Rattle.con_handles.specs.Words.Handles.{is_used}
 
 pub free_from-here : (hs : List Handle) (p n k : ℕ) → is_used hs p n ≡ false → free_from hs p n (suc k) ≡ n
 unfolding free_from

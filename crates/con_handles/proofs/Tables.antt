@@ -3,7 +3,8 @@ use Rattle.std.proofs.Common.{◌≡◌, ◌≤◌, ◌-◌, ◌+◌, ◌*◌, �
 use Rattle.std.specs.Prelude.{IfSome}
 use Rattle.con_handles.specs.declared.handle.Held.{Held}
 use Rattle.con_handles.specs.declared.handle.Handle.{Handle}
-use Rattle.con_handles.specs.Handles.{find_handle, least_of}
+use Rattle.con_handles.specs.Handles.{find_handle}
+use Rattle.con_handles.specs.Words.Handles.{least_of}
 use Rattle.con_handles.specs.Places.{listed}
 use Rattle.con_handles.specs.CountLaws.{least_found}
 use Rattle.con_handles.specs.Tables.{IsRising, IsTable}

@@ -4,7 +4,8 @@ use Rattle.std.specs.Prelude.{◌==◌, ◌&&◌, not, filter}
 use Rattle.std.specs.List.{find}
 use Rattle.std.proofs.lemmas.Bool.Decides.{nat_tests}
 use Rattle.con_handles.specs.declared.handle.Handle.{Handle}
-use Rattle.con_handles.specs.Handles.{entered, without, is_at, is_owned, is_before, count_of, find_handle, least_of}
+use Rattle.con_handles.specs.Handles.{entered, without, is_at, is_owned, find_handle}
+use Rattle.con_handles.specs.Words.Handles.{is_before, count_of, least_of}
 use Rattle.con_handles.specs.Places.{place_of}
 use Rattle.con_handles.specs.Tables.{IsRising, IsTable, tally}
 

@@ -5,3 +5,5 @@ pub mod Tables
 pub mod CountLaws
 -- The code's own words: the places in which handles are kept.
 pub mod Places
+-- The words of the code and of laws about these files, which a reader need not believe.
+pub mod Words

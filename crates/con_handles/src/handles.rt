@@ -1,6 +1,7 @@
 // The table.
 ghost use Rattle.std.specs.Prelude.{◌≡◌, ℕ, ◌+◌, ◌-◌, ◌<◌, ◌≤◌, List, [], IfSome, OnSome, Some, OnOk, OnErr, IfOk, IfErr, IsTrue, Bool, if◌then◌else◌, true, false, option_map, vec_len, ◌↔◌, Err};
-ghost use Rattle.con_handles.specs.Handles.{Table, find_handle, look, new_number, count_of, entered, opened, closed, object_of, least_of, is_used, taken, with_room};
+ghost use Rattle.con_handles.specs.Handles.{find_handle, look, new_number, entered, object_of};
+ghost use Rattle.con_handles.specs.Words.Handles.{Table, count_of, opened, closed, least_of, is_used, taken, with_room};
 ghost use Rattle.con_handles.specs.Places.{handle_of};
 ghost use Rattle.con_handles.specs.Tables.{IsTable, tally, on};
 
@@ -19,7 +20,7 @@ pub struct Handles {
 
 impl Model for Handles {
     ghost use Rattle.std.specs.Prelude.{◌*◌, ◌≤◌, vec_len};
-    ghost use Rattle.con_handles.specs.Handles.{Table};
+    ghost use Rattle.con_handles.specs.Words.Handles.{Table};
     ghost use Rattle.con_handles.specs.Places.{listed};
 
     ghost Value = { Table };

@@ -1,6 +1,7 @@
 // The places, 64 for each process.
 ghost use Rattle.std.specs.Prelude.{◌≡◌, ℕ, ◌+◌, ◌-◌, ◌*◌, ◌<◌, ◌≤◌, List, [], length, OnOk, OnErr, OnSome, IfSome, Ok, Err, Some, None, slice_set, slice_get, slice_index_or, option_map, vec_len, vec_capacity, nat_le, ◌&&◌, false, true};
-ghost use Rattle.con_handles.specs.Handles.{find_handle, is_used, least_free, least_of, is_kind, allowed, entered, without};
+ghost use Rattle.con_handles.specs.Handles.{find_handle, is_kind, allowed, entered, without};
+ghost use Rattle.con_handles.specs.Words.Handles.{is_used, least_free, least_of};
 ghost use Rattle.con_handles.specs.Places.{listed, place_of, handle_of, held_in};
 
 use crate::handle::{Handle, Held, Kind, Object};

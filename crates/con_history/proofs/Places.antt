@@ -5,8 +5,9 @@ use Rattle.std.specs.Prelude.{find}
 use Rattle.std.specs.Option.{option_map_or}
 use Rattle.std.proofs.lemmas.Bool.{ltb-false}
 use Rattle.std.proofs.lemmas.List.Sums.{prefix_len-le-length}
-use Rattle.con_units.specs.Units.{same_units}
-use Rattle.con_history.specs.Histories.{ProgramLines, place_of, lines_in, changed_in, last_that_begins}
+use Rattle.con_units.specs.Words.Units.{same_units}
+use Rattle.con_history.specs.Histories.{ProgramLines, changed_in, last_that_begins}
+use Rattle.con_history.specs.Words.Histories.{place_of, lines_in}
 
 found_by : (b : Bool) (n k : ℕ) → Some k ≡ cond b (Some n) None → k ≡ n
 found_by true n k is = cc

@@ -6,3 +6,5 @@ pub mod Parts
 pub mod Sound
 -- The code's own words: checksums of beginnings.
 pub mod Sums
+-- The words of the code and of laws about these files, which a reader need not believe.
+pub mod Words

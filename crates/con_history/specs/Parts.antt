@@ -1,7 +1,7 @@
 -- The code's own words: one step of what the histories do.
 use Rattle.std.specs.Prelude.{ℕ, Bool, not, List, filter}
 use Rattle.std.specs.List.{list_any}
-use Rattle.con_units.specs.Units.{same_units}
+use Rattle.con_units.specs.Words.Units.{same_units}
 use Rattle.con_history.specs.Histories.{ProgramLines, newest}
 
 -- the lines that are not this one

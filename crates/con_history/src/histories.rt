@@ -1,8 +1,9 @@
 //! Line histories by program.
 ghost use Rattle.std.specs.Prelude.{◌≡◌, ℕ, ◌≤◌, ◌<◌, ◌-◌, ◌+◌, ◌==◌, ◌↔◌, List, [], ◌∷◌, ◌++◌, All, MatchOption, not, position, length, take, drop, map, replicate, slice_index_or, IfOk, IfErr, IsErr, IsTrue, OnErr, Ok, Err, if◌then◌else◌, vec_len, vec_capacity};
 ghost use Rattle.std.specs.Bool.{OnFalse};
-ghost use Rattle.con_units.specs.Units.{same_units};
-ghost use Rattle.con_history.specs.Histories.{LineHistories, ProgramLines, IsShort, newest, found, place_of, lines_in, lines_of, changed_in, added, added_to, cleared, idle_place, can_use, used_by, room_for_use, is_refused, configured, room_for_configure};
+ghost use Rattle.con_units.specs.Words.Units.{same_units};
+ghost use Rattle.con_history.specs.Histories.{LineHistories, ProgramLines, newest, found, lines_of, changed_in, added, added_to, cleared, used_by, is_refused, configured};
+ghost use Rattle.con_history.specs.Words.Histories.{IsShort, place_of, lines_in, idle_place, can_use, room_for_use, room_for_configure};
 ghost use Rattle.con_history.specs.Parts.{shortened, is_busy};
 
 use crate::history::History;

@@ -1,7 +1,7 @@
 //! The lines of one program.
 ghost use Rattle.std.specs.Prelude.{◌≡◌, ℕ, ◌≤◌, ◌<◌, ◌-◌, List, [], ◌∷◌, ◌++◌, Option, Some, None, length, take, drop, slice_index_or, IfOk, if◌then◌else◌, nat_eq};
 ghost use Rattle.std.specs.List.{starts_with};
-ghost use Rattle.con_units.specs.Units.{same_units};
+ghost use Rattle.con_units.specs.Words.Units.{same_units};
 ghost use Rattle.con_history.specs.Histories.{ProgramLines, newest, added, last_that_begins, found};
 ghost use Rattle.con_history.specs.Parts.{without, shortened, is_busy};
 
@@ -18,7 +18,8 @@ pub struct History {
 }
 
 impl Model for History {
-    ghost use Rattle.con_history.specs.Histories.{ProgramLines, IsShort};
+    ghost use Rattle.con_history.specs.Histories.{ProgramLines};
+    ghost use Rattle.con_history.specs.Words.Histories.{IsShort};
     ghost use Rattle.std.specs.Prelude.{All};
 
     ghost Value = { ProgramLines };

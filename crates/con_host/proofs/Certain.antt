@@ -5,7 +5,7 @@ use Rattle.con_units.specs.declared.view.Frame.{Frame}
 use Rattle.con_units.specs.declared.view.Frame.TheVariants as frame
 use Rattle.con_link.specs.Plainly.{Answers}
 use Rattle.con_link.specs.Frames.{IsEnd, goes_on}
-use Rattle.con_link.specs.Mirrored.{as_plain}
+use Rattle.con_link.specs.Words.Mirrored.{as_plain}
 use Rattle.con_link.specs.MirrorOnly.{OneMirrorAnswer, OneMirrorFrame, is_mirror_told}
 use Rattle.con_link.specs.Only.{OneAnswer, OneFrame, is_told}
 use Rattle.con_link.specs.LinkReading.{LinkReading, plainly, mirrored, AnswersBy}

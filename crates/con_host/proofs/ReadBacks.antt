@@ -19,11 +19,13 @@ use Rattle.con_machine.specs.Turns.{is_paint, paints}
 use Rattle.con_session.specs.Desk.{listed}
 use Rattle.con_session.specs.Outcome.{LeavesBy}
 use Rattle.con_lines.specs.Ending.{Ending, IsEnding, alone, done, no_memory, link, terminal, too_long, mirror, frame, status_of}
-use Rattle.con_trace.specs.Report.{History, IsHistory, ReportTells, history_of, pictures, report, with_picture}
+use Rattle.con_trace.specs.Report.{History, IsHistory, history_of, report}
+use Rattle.con_trace.specs.Words.Report.{ReportTells, pictures, with_picture}
 use Rattle.con_forms.specs.Formed.{reported}
 use Rattle.con_forms.specs.Kept.{EndKeeps, Kept}
 use Rattle.con_forms.specs.Laws.{AllAreTold, AreSaid, EachIsTold, HistoriesFit, answers}
-use Rattle.con_forms.specs.Told.{history_told, is_told, told}
+use Rattle.con_forms.specs.Told.{is_told, told}
+use Rattle.con_forms.specs.Words.Told.{history_told}
 use Rattle.con_host.specs.Mirroring.{mirror_ending}
 use Rattle.con_host.specs.Sessions.{IsFrontOfReport, ReadBack, ReadsAs, ending_after, trace_of}
 use Rattle.con_host.specs.Telling.{ended_report, lines_text, told_report}

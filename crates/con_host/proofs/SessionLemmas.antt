@@ -6,9 +6,11 @@ use Rattle.con_events.specs.declared.end.End.{End}
 use Rattle.con_events.specs.declared.end.End.TheVariants as ends
 use Rattle.con_laws.specs.Rounds.{is_memory}
 use Rattle.con_lines.specs.declared.ending.EndLine.{EndLine}
-use Rattle.con_lines.specs.Ending.{ending_of, status_of}
+use Rattle.con_lines.specs.Ending.{status_of}
+use Rattle.con_lines.specs.Words.Ending.{ending_of}
 use Rattle.con_ending.specs.Ending.{Reported, Tells}
-use Rattle.con_ending.specs.Files.{Explains, OfFile, ending_for}
+use Rattle.con_ending.specs.Files.{OfFile, ending_for}
+use Rattle.con_ending.specs.Words.Files.{Explains}
 use Rattle.con_ending.specs.declared.file.Unrun.TheVariants as unrun
 use Rattle.con_host.specs.Sessions.{HasRun, Ran, RanByTurns, Soloed, ending_after}
 use Rattle.con_host.proofs.Reasons.{never}

@@ -10,7 +10,8 @@ use Rattle.con_events.specs.declared.reply.Reply.{Reply}
 use Rattle.con_lines.specs.declared.said.Said.{Said}
 use Rattle.con_lines.specs.Ending.{Ending, ending_text}
 use Rattle.con_lines.specs.Line.{ended, line_text}
-use Rattle.con_trace.specs.Report.{said, said_text, report, end_of, ends_behind}
+use Rattle.con_trace.specs.Report.{said, said_text, report}
+use Rattle.con_trace.specs.Words.Report.{end_of, ends_behind}
 use Rattle.con_forms.specs.Told.{has_end, is_told, told}
 use Rattle.con_host.specs.Telling.{ended_report, lines_text, told_report}
 

@@ -10,7 +10,8 @@ ghost use Rattle.con_host.specs.Mirroring.{HasMirrored, RanMirrored, mirror_endi
 ghost use Rattle.con_host.specs.Sessions.{ending_after};
 ghost use Rattle.con_host.specs.Telling.{ended_report};
 ghost use Rattle.con_session.specs.Worker.{told_kind};
-ghost use Rattle.con_lines.specs.Ending.{ending_of, status_of};
+ghost use Rattle.con_lines.specs.Ending.{status_of};
+ghost use Rattle.con_lines.specs.Words.Ending.{ending_of};
 
 use crate::session::{last_of, status_by, write_outcome};
 use con_ending::{Unrun, close, session_of};

@@ -2,7 +2,8 @@
 
 ghost use Rattle.std.specs.Prelude.{◌≡◌, ◌≤◌, OnOk, OnErr};
 ghost use Rattle.con_outside.specs.Outside.{Rose, then_written, WroteFront, WrotePart};
-ghost use Rattle.con_lines.specs.Ending.{ending_of, status_of};
+ghost use Rattle.con_lines.specs.Ending.{status_of};
+ghost use Rattle.con_lines.specs.Words.Ending.{ending_of};
 ghost use Rattle.con_ending.specs.Ending.{Reported};
 ghost use Rattle.con_ending.specs.Laws.{status_after};
 ghost use Rattle.con_host.specs.Sessions.{ending_after, report_text};

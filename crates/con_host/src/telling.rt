@@ -2,8 +2,9 @@
 
 ghost use Rattle.std.specs.Prelude.{◌≡◌, ◌≤◌, true, List, [], ◌∷◌, ◌++◌, OnOk, OnErr, length, take, Option};
 ghost use Rattle.con_outside.specs.Outside.{Rose, then_written, WroteFront, WrotePart};
-ghost use Rattle.con_lines.specs.Ending.{ending_of};
-ghost use Rattle.con_trace.specs.Report.{said, end_of, ends_behind, report};
+ghost use Rattle.con_lines.specs.Words.Ending.{ending_of};
+ghost use Rattle.con_trace.specs.Report.{said, report};
+ghost use Rattle.con_trace.specs.Words.Report.{end_of, ends_behind};
 ghost use Rattle.con_forms.specs.Told.{has_end, is_told, told};
 ghost use Rattle.con_host.specs.Telling.{lines_text, told_report};
 

@@ -5,19 +5,22 @@ use Rattle.con_outside.specs.Outside.{then_written, WrotePart}
 use Rattle.con_outside.specs.declared.traits.Fault.{Fault}
 use Rattle.con_outside.specs.declared.traits.Fault.TheVariants as faults
 use Rattle.con_trace.specs.Audit.{Found, a_run, found_text}
-use Rattle.con_lines.specs.Ending.{ending_of}
+use Rattle.con_lines.specs.Words.Ending.{ending_of}
 use Rattle.con_lines.specs.Line.{ended}
 use Rattle.con_lines.specs.declared.ending.EndLine.{EndLine}
 use Rattle.con_ending.specs.Ending.{Reported, Tells, lost_status}
-use Rattle.con_ending.specs.Files.{missing, unread, too_long, no_json, no_session, Misread}
+use Rattle.con_ending.specs.Files.{missing, unread, too_long, no_json, no_session}
+use Rattle.con_ending.specs.Words.Files.{Misread}
 use Rattle.con_ending.specs.Laws.{reported_by, status_after}
 use Rattle.con_ending.specs.declared.file.Unrun.{Unrun}
 use Rattle.con_ending.specs.declared.file.Unrun.TheVariants as unrun
-use Rattle.con_audit.specs.Headline.{YesIsARun}
+use Rattle.con_audit.specs.Words.Headline.{YesIsARun}
 use Rattle.con_audit.specs.declared.verdict.Verdict.TheVariants as verdicts
-use Rattle.con_inspect.specs.Four.{Four, AreFiles, Barred}
+use Rattle.con_inspect.specs.Four.{Four, AreFiles}
+use Rattle.con_inspect.specs.Words.Four.{Barred}
 use Rattle.con_inspect.specs.Finding.{given, status_found, told}
-use Rattle.con_inspect.specs.Auditing.{Judged, AreARun, Audits, IsComplete, IsJudged, OneJudgement, barred, found, line_for, status_for}
+use Rattle.con_inspect.specs.Auditing.{Judged, AreARun, Audits, IsComplete, IsJudged, barred, found, line_for, status_for}
+use Rattle.con_inspect.specs.Words.Auditing.{OneJudgement}
 use Rattle.con_inspect.specs.declared.finding.Finding.{Finding}
 use Rattle.con_inspect.specs.declared.finding.Finding.TheVariants as findings
 use Rattle.con_inspect.proofs.Judgements.{surely}

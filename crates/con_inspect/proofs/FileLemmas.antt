@@ -3,7 +3,8 @@ use Rattle.std.proofs.Common.{◌≡◌, ◌⊎◌, inl, inr, refl, subst, ℕ, 
 use Rattle.std.specs.Prelude.{IfSome}
 use Rattle.con_outside.specs.Named.{IsTooLong}
 use Rattle.con_ending.specs.Files.{too_long}
-use Rattle.con_inspect.specs.Four.{Four, IsThere, Bars, IsRead}
+use Rattle.con_inspect.specs.Four.{Four, IsThere, Bars}
+use Rattle.con_inspect.specs.Words.Four.{IsRead}
 
 long_there : (o : Option (List ℕ)) → IsTooLong o → (bytes : List ℕ) × (o ≡ Some bytes)
 long_there None long = absurd long

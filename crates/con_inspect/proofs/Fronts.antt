@@ -9,8 +9,10 @@ use Rattle.con_events.specs.declared.end.End.TheVariants as ends
 use Rattle.con_events.specs.declared.entry.Entry.{Entry}
 use Rattle.con_events.specs.declared.reply.Reply.{Reply}
 use Rattle.con_machine.specs.Along.{Along}
-use Rattle.con_machine.specs.Client.{May, moved_on, starting}
-use Rattle.con_machine.specs.Follows.{MaySend, sent_one, MayAct, asks, are_of_session, session_start, is_cut, is_lost, is_one_of, steps_of, kinds_of}
+use Rattle.con_machine.specs.Client.{moved_on, starting}
+use Rattle.con_machine.specs.Words.Client.{May}
+use Rattle.con_machine.specs.Follows.{MaySend, sent_one, MayAct, are_of_session, session_start, is_cut, is_lost, is_one_of, steps_of, kinds_of}
+use Rattle.con_machine.specs.Words.Follows.{asks}
 use Rattle.con_machine.specs.History.{is_legal}
 use Rattle.con_machine.specs.Sights.{sights_of, sights_at}
 use Rattle.con_machine.specs.State.{State}

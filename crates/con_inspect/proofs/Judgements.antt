@@ -7,7 +7,8 @@ use Rattle.con_outside.specs.Named.{IsTooLong}
 use Rattle.con_document.specs.Document.{IsDocument}
 use Rattle.con_document.specs.StepLaws.{no_document, one_document}
 use Rattle.con_lines.specs.Ending.{status_of}
-use Rattle.con_trace.specs.Report.{History, IsReport, IsWrongAt, NoneIsWrong, ReportTells, history_of}
+use Rattle.con_trace.specs.Report.{History, IsReport, IsWrongAt, history_of}
+use Rattle.con_trace.specs.Words.Report.{NoneIsWrong, ReportTells}
 use Rattle.con_trace.specs.declared.trace.Trace.{Trace}
 use Rattle.con_ending.specs.Files.{IsFile, Reason, missing, unread, too_long, no_json, no_session, ending_for}
 use Rattle.con_audit.specs.Audit.{Given, IsAudited}
@@ -15,7 +16,8 @@ use Rattle.con_audit.specs.declared.verdict.Verdict.{Verdict}
 use Rattle.con_audit.specs.declared.verdict.Verdict.TheVariants as verdicts
 use Rattle.con_inspect.specs.Four.{Four, four_of, listed, AreFiles, AreThere, LacksFirst, HasLong, Bars, IsSessions}
 use Rattle.con_inspect.specs.Finding.{Finds, given, kinds, status_found}
-use Rattle.con_inspect.specs.Auditing.{Judged, IsJudged, OneJudgement, barred, found, status_for}
+use Rattle.con_inspect.specs.Auditing.{Judged, IsJudged, barred, found, status_for}
+use Rattle.con_inspect.specs.Words.Auditing.{OneJudgement}
 use Rattle.con_inspect.specs.declared.finding.Finding.{Finding}
 use Rattle.con_inspect.specs.declared.finding.Finding.TheVariants as findings
 use Rattle.con_inspect.proofs.Fronts.{yes_or_no}

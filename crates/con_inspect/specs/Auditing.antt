@@ -66,8 +66,3 @@ HasAudited status files session link stream report files_failed before now faile
 abbrev pub IsComplete : ℕ → Option (List ℕ → Option (List ℕ)) → Four → Type 0 → Type 0 → Type 0
 IsComplete status files names files_failed failed = (find : List ℕ → Option (List ℕ)) → files ≡ Some find → ¬ files_failed → ¬ failed
     → (judged : Judged) → IsJudged files names files_failed judged → (status ≡ status_for judged) ⊎ (status ≡ 9)
-
--- Files that are told, and do not fail, are found to be one thing: whatever is found of them has one status.
-abbrev pub OneJudgement : Type 0
-OneJudgement = (find : List ℕ → Option (List ℕ)) (names : Four) (one other : Judged) → IsJudged (Some find) names ⊥ one
-    → IsJudged (Some find) names ⊥ other → status_for one ≡ status_for other

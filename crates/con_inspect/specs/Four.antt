@@ -1,11 +1,8 @@
 -- Four files by name, and why there is nothing to audit.
-use Rattle.std.specs.Prelude.{◌≡◌, ◌⊎◌, ℕ, Bool, true, false, List, [], ◌∷◌, Option, IfSome, Some, None, Err}
+use Rattle.std.specs.Prelude.{◌≡◌, ◌⊎◌, ℕ, List, [], ◌∷◌, Option, IfSome, Some, None, Err}
 use Rattle.con_outside.specs.Named.{IsTooLong}
 use Rattle.con_document.specs.Document.{IsDocument, json_of}
-use Rattle.con_lines.specs.Ending.{ending_of}
-use Rattle.con_ending.specs.Files.{IsFile, Reason, missing, unread, too_long, no_json, no_session, Holds, ending_for}
-use Rattle.con_ending.specs.declared.file.Unrun.{Unrun}
-use Rattle.con_ending.specs.declared.file.Unrun.TheVariants as unrun
+use Rattle.con_ending.specs.Files.{IsFile, Reason, missing, unread, too_long, no_json, no_session, Holds}
 
 -- one text for each of the four files: their names, or their bytes
 pub record Four : Type 0 where
@@ -66,20 +63,3 @@ Bars files names failed unread = LacksFirst files failed unread (listed names)
 Bars files names failed too_long = AreThere files (listed names) × HasLong files (listed names)
 Bars files names failed (no_json bytes) = IsSessions files names bytes × (json_of bytes ≡ None)
 Bars files names failed (no_session bytes w) = IsSessions files names bytes × IsDocument bytes (Err w)
-
--- ---- the code's own words
-
--- what was read of one file: its bytes, or that it is too long
-abbrev pub IsRead : Option (List ℕ → Option (List ℕ)) → List ℕ → List ℕ → Bool → Type 0
-IsRead files name bytes true = IsFile files name bytes
-IsRead files name bytes false = IfSome files (λ find. IsTooLong (find name))
-
--- what an answer without bytes says of one file
-abbrev pub Explains : Option (List ℕ → Option (List ℕ)) → List ℕ → Type 0 → Unrun → Type 0
-Explains files name failed (unrun.Told line) = (why : Reason) × Lacks files failed why name × (ending_of line ≡ ending_for why)
-Explains files name failed unrun.OutOfMemory = Unit {0}
-
--- and of all four
-abbrev pub Barred : Option (List ℕ → Option (List ℕ)) → Four → Type 0 → Unrun → Type 0
-Barred files names failed (unrun.Told line) = (why : Reason) × Bars files names failed why × (ending_of line ≡ ending_for why)
-Barred files names failed unrun.OutOfMemory = Unit {0}

@@ -2,3 +2,5 @@
 pub mod Four
 pub mod Finding
 pub mod Auditing
+-- The words of the code and of laws about these files, which a reader need not believe.
+pub mod Words

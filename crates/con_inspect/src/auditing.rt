@@ -4,7 +4,8 @@ ghost use Rattle.std.specs.Prelude.{◌≡◌, ◌≤◌, IfOk, IfErr};
 ghost use Rattle.con_outside.specs.Outside.{Rose};
 ghost use Rattle.con_ending.specs.Ending.{Reported};
 ghost use Rattle.con_inspect.specs.Auditing.{Judged, HasAudited, IsComplete, IsJudged, line_for, status_for};
-ghost use Rattle.con_inspect.specs.Four.{four_of, Barred};
+ghost use Rattle.con_inspect.specs.Four.{four_of};
+ghost use Rattle.con_inspect.specs.Words.Four.{Barred};
 
 use crate::files::read_files;
 use crate::finding::Finding;

@@ -2,7 +2,8 @@
 
 ghost use Rattle.std.specs.Prelude.{◌≡◌, ◌≤◌, [], IfOk, IfErr};
 ghost use Rattle.con_outside.specs.Outside.{Rose};
-ghost use Rattle.con_inspect.specs.Four.{four_of, AreFiles, Barred, Explains, IsRead};
+ghost use Rattle.con_inspect.specs.Four.{four_of, AreFiles};
+ghost use Rattle.con_inspect.specs.Words.Four.{Barred, Explains, IsRead};
 
 use con_ending::Unrun;
 use con_outside::{Fault, Files, Found};

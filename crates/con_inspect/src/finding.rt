@@ -1,7 +1,7 @@
 //! What is found of the bytes of four files.
 
 ghost use Rattle.std.specs.Prelude.{◌≡◌};
-ghost use Rattle.con_trace.specs.Audit.{found_of};
+ghost use Rattle.con_trace.specs.Words.Audit.{found_of};
 ghost use Rattle.con_inspect.specs.Finding.{told, told_verdict, status_found, word_of};
 
 use con_audit::{Verdict, What};

@@ -4,7 +4,7 @@ ghost use Rattle.std.specs.Prelude.{◌≡◌, ◌≤◌, ◌++◌, [], ◌∷�
 ghost use Rattle.con_events.specs.Session.{Clients};
 ghost use Rattle.con_document.specs.Document.{IsDocument};
 ghost use Rattle.con_trace.specs.Report.{IsReport};
-ghost use Rattle.con_ending.specs.Files.{Misread};
+ghost use Rattle.con_ending.specs.Words.Files.{Misread};
 ghost use Rattle.con_inspect.specs.Finding.{kinds, Finds};
 
 use crate::files::Contents;

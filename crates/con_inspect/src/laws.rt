@@ -1,6 +1,6 @@
 //! What files by name determine.
 
-ghost use Rattle.con_inspect.specs.Auditing.{OneJudgement};
+ghost use Rattle.con_inspect.specs.Words.Auditing.{OneJudgement};
 
 use con_link::one_answer;
 use con_trace::{none_is_wrong, report_tells};

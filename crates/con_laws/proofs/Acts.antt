@@ -10,10 +10,12 @@ use Rattle.con_cooked.specs.Mask.{is_masked}
 use Rattle.con_cooked.specs.declared.cooked.Cooked.{Cooked}
 use Rattle.con_history.specs.Histories.{LineHistories}
 use Rattle.con_readers.specs.Act.{Act}
-use Rattle.con_readers.specs.Lines.{line_after}
+use Rattle.con_readers.specs.Words.Lines.{line_after}
 use Rattle.con_readers.specs.Pieces.{front}
-use Rattle.con_readers.specs.Reads.{settled, first_acts, is_open}
-use Rattle.con_readers.specs.Serving.{Served as Serving, is_done, given_units, served, served_line, served_on}
+use Rattle.con_readers.specs.Reads.{settled, is_open}
+use Rattle.con_readers.specs.Words.Reads.{first_acts}
+use Rattle.con_readers.specs.Serving.{Served as Serving, is_done, given_units, served, served_line}
+use Rattle.con_readers.specs.Words.Serving.{served_on}
 use Rattle.con_readers.specs.Wants.{units_of}
 use Rattle.con_readers.specs.declared.open.Open.{Open}
 use Rattle.con_readers.specs.declared.open.OpenRead.{OpenRead}

@@ -19,11 +19,15 @@ use Rattle.con_events.specs.declared.reply.Reply.{Reply}
 use Rattle.con_events.specs.declared.reply.Reply.TheVariants as replies
 use Rattle.con_history.specs.Histories.{LineHistories}
 use Rattle.con_procs.specs.Procs.{is_attached, program_of}
-use Rattle.con_readers.specs.Answering.{is_line_end, line_through, EndsLine}
-use Rattle.con_readers.specs.Lines.{line_after}
-use Rattle.con_readers.specs.Pieces.{front, pieces_of, joined}
-use Rattle.con_readers.specs.Reads.{settled, answer_of, done_in, has_done, is_open, place_of, without}
-use Rattle.con_readers.specs.Serving.{Served as Serving, is_done, served, served_line, served_on}
+use Rattle.con_readers.specs.Answering.{is_line_end}
+use Rattle.con_readers.specs.Words.Answering.{line_through, EndsLine}
+use Rattle.con_readers.specs.Words.Lines.{line_after}
+use Rattle.con_readers.specs.Pieces.{front, joined}
+use Rattle.con_readers.specs.Words.Pieces.{pieces_of}
+use Rattle.con_readers.specs.Reads.{settled, answer_of, has_done, is_open, place_of, without}
+use Rattle.con_readers.specs.Words.Reads.{done_in}
+use Rattle.con_readers.specs.Serving.{Served as Serving, is_done, served, served_line}
+use Rattle.con_readers.specs.Words.Serving.{served_on}
 use Rattle.con_readers.specs.Wants.{units_of}
 use Rattle.con_readers.specs.declared.answer.Answer.TheVariants as answers
 use Rattle.con_readers.specs.declared.open.Open.{Open}
@@ -33,11 +37,12 @@ use Rattle.con_records.specs.declared.record.Record.{Record}
 use Rattle.con_machine.specs.State.{State, rest_in, noted_of, without_noted}
 use Rattle.con_machine.specs.History.{run}
 use Rattle.con_machine.specs.Outcome.{has_bit}
-use Rattle.con_machine.specs.Reads.{answer_told, units_told, front_of, is_empty}
+use Rattle.con_machine.specs.Reads.{answer_told, front_of}
+use Rattle.con_machine.specs.Words.Reads.{units_told, is_empty}
 use Rattle.con_machine.specs.Step.{step}
 use Rattle.con_laws.specs.Fates.{Begun, How, Served, Emptied, Interrupted, CutOff, Piece, done_for}
 use Rattle.con_laws.specs.Walks.{Begin, pieces, last_begin, fated}
-use Rattle.con_laws.specs.Answers.{opens}
+use Rattle.con_laws.specs.Words.Answers.{opens}
 use Rattle.con_laws.specs.AnswerWalks.{console_before, by_how, read_after}
 use Rattle.con_laws.specs.TextWalks.{line_part, AnswersText}
 use Rattle.con_laws.specs.Texts.{asked_for}

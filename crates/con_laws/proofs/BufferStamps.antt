@@ -15,12 +15,15 @@ use Rattle.con_screen.specs.Screen.{Screen}
 use Rattle.con_screen.specs.Told.{Told}
 use Rattle.con_screen.specs.Written.{Stage, written, switches}
 use Rattle.con_page.specs.declared.origin.Origin.{Origin}
-use Rattle.con_screens.specs.Buffer.{BufferStage, new_buffer, alternate_on, alternate_off, turned, carried, unit_written, written_on, buffer_written, told_on}
-use Rattle.con_screens.specs.Buffers.{Buffers, buffer_at, screen_in, screen_at, is_alternate, free_id, with_slot, with_buffer, created, handles_of, with_handles, handle_retained, gone, handle_released}
+use Rattle.con_screens.specs.Buffer.{BufferStage, new_buffer, turned, unit_written, written_on, buffer_written, told_on}
+use Rattle.con_screens.specs.Words.Buffer.{alternate_on, alternate_off, carried}
+use Rattle.con_screens.specs.Buffers.{Buffers, buffer_at, screen_at, is_alternate, free_id, with_buffer, created, handles_of, handle_retained, gone, handle_released}
+use Rattle.con_screens.specs.Words.Buffers.{screen_in, with_slot, with_handles}
 use Rattle.con_screens.specs.Lending.{with_shown, screen_left}
-use Rattle.con_screens.specs.Resize.{target, screen_resized, buffer_resized, all_resized}
+use Rattle.con_screens.specs.Resize.{screen_resized, buffer_resized, all_resized}
+use Rattle.con_screens.specs.Words.Resize.{target}
 use Rattle.con_screens.specs.declared.buffer.Buffer.{Buffer}
-use Rattle.con_machine.specs.ScreenCalls.{page_at, page_left}
+use Rattle.con_machine.specs.Words.ScreenCalls.{page_at, page_left}
 use Rattle.con_laws.specs.Unstamped.{unstamped_page, unstamped_screen, unstamped_buffer, unstamped_buffers}
 use Rattle.con_laws.proofs.PageStamps.{down_in_same, shown_same, unstamped_stage, written_same, switches_same}
 

@@ -33,12 +33,17 @@ use Rattle.con_page.specs.Fit.{refitted}
 use Rattle.con_screens.specs.Buffer.{buffer_written, told_on}
 use Rattle.con_screens.specs.Buffers.{Buffers, buffer_at, screen_at, free_id, with_buffer}
 use Rattle.con_machine.specs.State.{State}
-use Rattle.con_machine.specs.Outcome.{Outcome, refused, answered, done, by_answer, by_result, checked, while_open, guard, with_object, on_buffer, on_input, buffer_of, are_rights}
-use Rattle.con_machine.specs.HandleCalls.{retained, released, handle_with, opened, opened_at, buffer_made, handle_closed, owned}
-use Rattle.con_machine.specs.ScreenCalls.{page_at, page_of, page_left, with_page, with_screen, mode_in, mode_changed, is_input_mode, numbers_of, is_size, refitted_at, is_place, cursor_numbers, is_origin, told_by, written_to}
-use Rattle.con_machine.specs.CellCalls.{rect_told, used_of, is_over, used_in, rect_answer, run_told, run_answer, at_place, cells_for, sides_of, are_cells}
+use Rattle.con_machine.specs.Outcome.{Outcome, refused, answered, done, by_answer, checked, while_open, guard, on_buffer, on_input, buffer_of, are_rights}
+use Rattle.con_machine.specs.Words.Outcome.{by_result, with_object}
+use Rattle.con_machine.specs.HandleCalls.{handle_with, opened, buffer_made}
+use Rattle.con_machine.specs.Words.HandleCalls.{retained, released, opened_at, handle_closed, owned}
+use Rattle.con_machine.specs.ScreenCalls.{page_of, with_page, with_screen, mode_in, mode_changed, is_input_mode}
+use Rattle.con_machine.specs.Words.ScreenCalls.{page_at, page_left, numbers_of, is_size, refitted_at, is_place, cursor_numbers, is_origin, told_by, written_to}
+use Rattle.con_machine.specs.CellCalls.{run_told, run_answer, at_place, cells_for, are_cells}
+use Rattle.con_machine.specs.Words.CellCalls.{rect_told, used_of, is_over, used_in, rect_answer, sides_of}
 use Rattle.con_machine.specs.LineCalls.{told_alias_in}
-use Rattle.con_machine.specs.ProcessCalls.{is_no_signal, on_place}
+use Rattle.con_machine.specs.ProcessCalls.{is_no_signal}
+use Rattle.con_machine.specs.Words.ProcessCalls.{on_place}
 use Rattle.con_machine.specs.Signals.{signalled_to}
 use Rattle.con_machine.specs.Call.{called}
 use Rattle.con_laws.specs.Unstamped.{unstamped_grid, unstamped_page, unstamped_screen, unstamped_buffers, unstamped}

@@ -17,10 +17,11 @@ use Rattle.con_events.specs.declared.reply.Reply.{Reply}
 use Rattle.con_events.specs.declared.reply.Reply.TheVariants as replies
 use Rattle.con_history.specs.Histories.{LineHistories}
 use Rattle.con_procs.specs.Procs.{is_attached}
-use Rattle.con_readers.specs.Lines.{line_after}
+use Rattle.con_readers.specs.Words.Lines.{line_after}
 use Rattle.con_readers.specs.Pieces.{front}
 use Rattle.con_readers.specs.Reads.{answer_of, has_done, without}
-use Rattle.con_readers.specs.Serving.{Served as Serving, is_done, took_units, served, served_line, served_on}
+use Rattle.con_readers.specs.Serving.{Served as Serving, is_done, served, served_line}
+use Rattle.con_readers.specs.Words.Serving.{took_units, served_on}
 use Rattle.con_readers.specs.Wants.{units_of}
 use Rattle.con_readers.specs.declared.answer.Answer.{Answer}
 use Rattle.con_readers.specs.declared.answer.Answer.TheVariants as answers
@@ -29,12 +30,13 @@ use Rattle.con_readers.specs.declared.open.OpenRead.TheVariants as reads
 use Rattle.con_records.specs.declared.record.Record.{Record}
 use Rattle.con_machine.specs.State.{State, rest_in, noted_of, without_noted}
 use Rattle.con_machine.specs.History.{run}
-use Rattle.con_machine.specs.Reads.{answer_told, front_of, is_empty, line_opened}
+use Rattle.con_machine.specs.Reads.{answer_told, front_of, line_opened}
+use Rattle.con_machine.specs.Words.Reads.{is_empty}
 use Rattle.con_machine.specs.Outcome.{has_bit}
 use Rattle.con_machine.specs.Step.{step}
 use Rattle.con_laws.specs.Fates.{Begun, How, Served, Emptied, Interrupted, CutOff, Piece}
 use Rattle.con_laws.specs.Walks.{Begin, pieces, last_begin}
-use Rattle.con_laws.specs.Answers.{opens}
+use Rattle.con_laws.specs.Words.Answers.{opens}
 use Rattle.con_laws.specs.AnswerWalks.{console_before, by_how, read_after, is_interruption, is_cut, was_interrupted, was_cut_off, is_aborted, is_closed}
 use Rattle.con_machine.specs.declared.reads.noted.Noted.{Noted}
 use Rattle.con_laws.proofs.FateLists.{log}

@@ -21,7 +21,8 @@ use Rattle.con_history.specs.Histories.{LineHistories}
 use Rattle.con_procs.specs.Procs.{ids_of, add_answer as add_handler_answer, remove_answer as remove_handler_answer}
 use Rattle.con_mouse.specs.Reports.{report_of}
 use Rattle.con_mouse.specs.declared.report.Report.{Report}
-use Rattle.con_readers.specs.Pieces.{front, pieces_of, joined}
+use Rattle.con_readers.specs.Pieces.{front, joined}
+use Rattle.con_readers.specs.Words.Pieces.{pieces_of}
 use Rattle.con_readers.specs.Reads.{settled, answer_in, is_open_line, without, place_of}
 use Rattle.con_readers.specs.Serving.{is_done, served}
 use Rattle.con_readers.specs.declared.answer.Answer.{Answer}
@@ -32,17 +33,21 @@ use Rattle.con_records.specs.declared.record.Record.{Record}
 use Rattle.con_vtin.specs.Keys.{quieted}
 use Rattle.con_vtin.specs.Pieces.{Piece as Bytes, Typed, Ended, piece_grammar}
 use Rattle.con_machine.specs.State.{State, noted_of, without_noted, rest_in}
-use Rattle.con_machine.specs.Outcome.{Outcome, refused, answered, done, by_answer, while_open, guard, with_object, buffer_of, has_bit}
-use Rattle.con_machine.specs.HandleCalls.{closed_handle, owned}
-use Rattle.con_machine.specs.ScreenCalls.{written_to}
-use Rattle.con_machine.specs.ProcessCalls.{on_place, is_no_signal, sent_signal, set_ignore, added_handler, removed_handler}
+use Rattle.con_machine.specs.Outcome.{Outcome, refused, answered, done, by_answer, while_open, guard, buffer_of, has_bit}
+use Rattle.con_machine.specs.Words.Outcome.{with_object}
+use Rattle.con_machine.specs.Words.HandleCalls.{closed_handle, owned}
+use Rattle.con_machine.specs.Words.ScreenCalls.{written_to}
+use Rattle.con_machine.specs.ProcessCalls.{is_no_signal}
+use Rattle.con_machine.specs.Words.ProcessCalls.{on_place, sent_signal, set_ignore, added_handler, removed_handler}
 use Rattle.con_machine.specs.Call.{called}
 use Rattle.con_machine.specs.Serving.{settled_state}
 use Rattle.con_machine.specs.Signals.{signalled_to}
 use Rattle.con_machine.specs.Closing.{closing, hung_up, all_wait}
-use Rattle.con_machine.specs.Reads.{began as read_began, collected, took_ctrl, left, answer_told, began_read, began_line, began_units, read_answer, records_answer, history_used, is_empty, line_begun, rest_answered}
+use Rattle.con_machine.specs.Reads.{began as read_began, collected, took_ctrl, left, answer_told, began_read, began_line, line_begun}
+use Rattle.con_machine.specs.Words.Reads.{began_units, read_answer, records_answer, history_used, is_empty, rest_answered}
 use Rattle.con_machine.specs.Painting.{painted}
-use Rattle.con_machine.specs.Terminal.{fed, quiet, resized, is_break, records_of, key_taken, piece_taken, by_report}
+use Rattle.con_machine.specs.Terminal.{fed, quiet, resized, is_break, records_of, key_taken, piece_taken}
+use Rattle.con_machine.specs.Words.Terminal.{by_report}
 use Rattle.con_machine.specs.Step.{effect, step, is_outside, client_of, finished}
 use Rattle.con_machine.specs.History.{run}
 use Rattle.con_machine.specs.declared.reads.noted.Noted.{Noted}

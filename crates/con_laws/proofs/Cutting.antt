@@ -27,11 +27,14 @@ use Rattle.con_screens.specs.Buffers.{Buffers}
 use Rattle.con_vtin.specs.Pieces.{Piece, Typed, Ended, piece_grammar}
 use Rattle.con_machine.specs.State.{State, noted_of}
 use Rattle.con_machine.specs.Outcome.{has_bit}
-use Rattle.con_machine.specs.ScreenCalls.{page_of, page_at}
+use Rattle.con_machine.specs.ScreenCalls.{page_of}
+use Rattle.con_machine.specs.Words.ScreenCalls.{page_at}
 use Rattle.con_machine.specs.Closing.{closing, hung_up, all_wait}
 use Rattle.con_machine.specs.Signals.{signalled_to}
-use Rattle.con_machine.specs.Serving.{followed, settled_from, settled_state, line_shown, line_finished, note_changed, started_on}
-use Rattle.con_machine.specs.Terminal.{is_break, key_taken, records_of, mouse_records, by_report, piece_taken, fed}
+use Rattle.con_machine.specs.Serving.{followed, settled_state, note_changed, started_on}
+use Rattle.con_machine.specs.Words.Serving.{settled_from, line_shown, line_finished}
+use Rattle.con_machine.specs.Terminal.{is_break, key_taken, records_of, mouse_records, piece_taken, fed}
+use Rattle.con_machine.specs.Words.Terminal.{by_report}
 use Rattle.con_machine.specs.Step.{step, effect}
 use Rattle.con_machine.specs.History.{run}
 use Rattle.con_machine.specs.EventLaws.{AreDone, Frame, served_first, settled_shows, fed_walk}

@@ -20,12 +20,15 @@ use Rattle.con_readers.specs.declared.open.Open.{Open}
 use Rattle.con_readers.specs.declared.open.OpenRead.{OpenRead}
 use Rattle.con_readers.specs.declared.open.OpenRead.TheVariants as reads
 use Rattle.con_machine.specs.State.{State, noted_of, rest_in}
-use Rattle.con_machine.specs.Outcome.{Outcome, by_answer, guard, guarded, has_bit}
+use Rattle.con_machine.specs.Outcome.{Outcome, by_answer, guard, has_bit}
+use Rattle.con_machine.specs.Words.Outcome.{guarded}
 use Rattle.con_machine.specs.Client.{is_fail}
-use Rattle.con_machine.specs.Reads.{began, began_line, began_units, answered_with, rest_answered, line_begun, with_read, front_of, first_note, is_empty, history_used, read_answer, records_answer, is_no_initial, line_opened, line_read, units_read}
+use Rattle.con_machine.specs.Reads.{began, began_line, answered_with, line_begun, with_read, front_of, first_note, line_opened}
+use Rattle.con_machine.specs.Words.Reads.{began_units, rest_answered, is_empty, history_used, read_answer, records_answer, is_no_initial, line_read, units_read}
 use Rattle.con_machine.specs.Step.{effect, step, is_outside, client_of, finished}
 use Rattle.con_laws.specs.Walks.{Begin, Begins, begin_at, begin_or, begun_by, effect_pieces, end_pieces, step_pieces}
-use Rattle.con_laws.specs.Answers.{read_opened, opens, opens_text}
+use Rattle.con_laws.specs.Answers.{read_opened}
+use Rattle.con_laws.specs.Words.Answers.{opens, opens_text}
 use Rattle.con_laws.proofs.Served.{UnitsPiece, IsProper}
 use Rattle.con_laws.proofs.Woken.{NoteTold, told_of, behind_own, behind_other}
 use Rattle.con_machine.specs.declared.reads.noted.Noted.{Noted}

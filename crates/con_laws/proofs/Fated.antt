@@ -13,10 +13,12 @@ use Rattle.con_events.specs.declared.event.Wanted.{Wanted}
 use Rattle.con_events.specs.declared.event.Wanted.TheVariants as wanted
 use Rattle.con_events.specs.declared.reply.Reply.{Reply}
 use Rattle.con_procs.specs.Procs.{is_attached}
-use Rattle.con_readers.specs.Pieces.{front, pieces_of, joined}
+use Rattle.con_readers.specs.Pieces.{front, joined}
+use Rattle.con_readers.specs.Words.Pieces.{pieces_of}
 use Rattle.con_readers.specs.Serving.{is_done, served}
 use Rattle.con_readers.specs.Wants.{units_of}
-use Rattle.con_readers.specs.Reads.{settled, is_open, without, answer_in, answer_of, place_of, has_done, done_in}
+use Rattle.con_readers.specs.Reads.{settled, is_open, without, answer_in, answer_of, place_of, has_done}
+use Rattle.con_readers.specs.Words.Reads.{done_in}
 use Rattle.con_readers.specs.declared.answer.Answer.{Answer}
 use Rattle.con_readers.specs.declared.answer.Answer.TheVariants as answers
 use Rattle.con_readers.specs.declared.open.Open.{Open}
@@ -31,7 +33,7 @@ use Rattle.con_machine.specs.Reads.{collected, answer_told}
 use Rattle.con_machine.specs.Step.{effect, step, is_outside, client_of, finished}
 use Rattle.con_laws.specs.Fates.{Taker, Begun, How, Served, Emptied, Interrupted, CutOff, Piece, is_taker, done_for}
 use Rattle.con_laws.specs.Walks.{Begin, Begins, no_begins, begin_at, begins_after, begins_from, last_begin, read_of, wants_records, end_pieces, step_pieces, pieces_from, pieces, fate, fated, records_with, AnswersRecords}
-use Rattle.con_laws.specs.Answers.{opens}
+use Rattle.con_laws.specs.Words.Answers.{opens}
 use Rattle.con_laws.specs.AnswerWalks.{console_before, by_how, read_after}
 use Rattle.con_laws.proofs.FateLists.{log, log-append, log_none, taken, fated_taken}
 use Rattle.con_laws.proofs.Conserved.{WholeReads, conserved}

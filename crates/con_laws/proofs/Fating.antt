@@ -19,7 +19,8 @@ use Rattle.con_handles.specs.declared.handle.Object.{Object}
 use Rattle.con_alias.specs.Aliases.{AliasList}
 use Rattle.con_history.specs.Histories.{LineHistories}
 use Rattle.con_procs.specs.Procs.{ids_of}
-use Rattle.con_readers.specs.Pieces.{front, pieces_of, joined}
+use Rattle.con_readers.specs.Pieces.{front, joined}
+use Rattle.con_readers.specs.Words.Pieces.{pieces_of}
 use Rattle.con_readers.specs.Reads.{settled, is_open_line}
 use Rattle.con_readers.specs.Serving.{is_done, served}
 use Rattle.con_readers.specs.declared.open.Open.{Open}

@@ -17,14 +17,16 @@ use Rattle.con_handles.specs.declared.handle.Kind.TheVariants as kind
 use Rattle.con_handles.specs.declared.handle.Object.{Object}
 use Rattle.con_history.specs.Histories.{LineHistories}
 use Rattle.con_procs.specs.Procs.{ids_of, signalled}
-use Rattle.con_readers.specs.Reads.{Settled, settled, is_at_rest, is_none_left, all_closed, failed}
+use Rattle.con_readers.specs.Reads.{Settled, settled, all_closed, failed}
+use Rattle.con_readers.specs.Words.Reads.{is_at_rest, is_none_left}
 use Rattle.con_readers.specs.Serving.{is_done, served}
 use Rattle.con_readers.specs.declared.open.Open.{Open}
 use Rattle.con_readers.specs.declared.open.OpenRead.{OpenRead}
 use Rattle.con_readers.specs.declared.open.OpenRead.TheVariants as reads
 use Rattle.con_records.specs.declared.record.Record.{Record}
 use Rattle.con_machine.specs.State.{State}
-use Rattle.con_machine.specs.Outcome.{Outcome, refused, answered, guard, with_object}
+use Rattle.con_machine.specs.Outcome.{Outcome, refused, answered, guard}
+use Rattle.con_machine.specs.Words.Outcome.{with_object}
 use Rattle.con_machine.specs.Call.{called}
 use Rattle.con_machine.specs.Closing.{closing, hung_up, all_wait}
 use Rattle.con_machine.specs.EventLaws.{served_first, settled_shows}
@@ -32,7 +34,8 @@ use Rattle.con_machine.specs.Follows.{session_start}
 use Rattle.con_machine.specs.History.{run}
 use Rattle.con_machine.specs.HistoryLaws.{run-append}
 use Rattle.con_machine.specs.LineCalls.{told_alias_in}
-use Rattle.con_machine.specs.Serving.{settled_from, settled_state}
+use Rattle.con_machine.specs.Serving.{settled_state}
+use Rattle.con_machine.specs.Words.Serving.{settled_from}
 use Rattle.con_laws.specs.Settled.{IsSettled, only_tells}
 use Rattle.con_laws.specs.Once.{peek}
 use Rattle.con_machine.specs.Step.{step, effect, is_outside, client_of, finished}

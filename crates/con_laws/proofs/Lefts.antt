@@ -13,11 +13,14 @@ use Rattle.con_readers.specs.Reads.{answer_in, without, place_of}
 use Rattle.con_readers.specs.declared.answer.Answer.{Answer}
 use Rattle.con_readers.specs.declared.answer.Answer.TheVariants as answers
 use Rattle.con_machine.specs.State.{State, noted_of, without_noted}
-use Rattle.con_machine.specs.Outcome.{Outcome, done, by_answer, with_object, has_bit}
-use Rattle.con_machine.specs.HandleCalls.{opened, owned as object_owned}
+use Rattle.con_machine.specs.Outcome.{Outcome, done, by_answer, has_bit}
+use Rattle.con_machine.specs.Words.Outcome.{with_object}
+use Rattle.con_machine.specs.HandleCalls.{opened}
+use Rattle.con_machine.specs.Words.HandleCalls.{owned as object_owned}
 use Rattle.con_machine.specs.Call.{called}
 use Rattle.con_machine.specs.Closing.{hung_up}
-use Rattle.con_machine.specs.Reads.{collected, took_ctrl, left, answer_told, line_opened, units_read}
+use Rattle.con_machine.specs.Reads.{collected, took_ctrl, left, answer_told, line_opened}
+use Rattle.con_machine.specs.Words.Reads.{units_read}
 use Rattle.con_machine.specs.Painting.{painted}
 use Rattle.con_machine.specs.Terminal.{fed, quiet, resized}
 use Rattle.con_machine.specs.Step.{effect, finished}
@@ -30,12 +33,14 @@ use Rattle.con_events.specs.declared.event.Wanted.{Wanted}
 use Rattle.con_events.specs.declared.event.Wanted.TheVariants as wanted
 use Rattle.con_events.specs.declared.reply.Reply.TheVariants as replies
 use Rattle.con_readers.specs.declared.open.OpenRead.TheVariants as reads
-use Rattle.con_machine.specs.State.{is_rest_of, is_rest_by, rest_in, with_rest, has_rest, rest_begun, without_rest, without_rests}
-use Rattle.con_machine.specs.HandleCalls.{handle_closed}
+use Rattle.con_machine.specs.State.{is_rest_of, rest_in, with_rest}
+use Rattle.con_machine.specs.Words.State.{is_rest_by, has_rest, rest_begun, without_rest, without_rests}
+use Rattle.con_machine.specs.Words.HandleCalls.{handle_closed}
 use Rattle.con_machine.specs.History.{run}
-use Rattle.con_machine.specs.Reads.{began as read_began, line_cut, part_told, part_left, line_front, front_of, back_of, answered_with, with_read, rest_answered, line_begun, began_units, history_used, read_answer, records_answer, is_empty}
+use Rattle.con_machine.specs.Reads.{began as read_began, line_front, front_of, back_of, answered_with, with_read, line_begun}
+use Rattle.con_machine.specs.Words.Reads.{line_cut, part_told, part_left, rest_answered, began_units, history_used, read_answer, records_answer, is_empty}
 use Rattle.con_machine.specs.Step.{step, is_outside, client_of}
-use Rattle.con_laws.specs.Answers.{opens}
+use Rattle.con_laws.specs.Words.Answers.{opens}
 use Rattle.con_laws.specs.Left.{LeavesRest, LeftBy}
 use Rattle.con_laws.specs.Remains.{handle_of}
 use Rattle.con_screens.specs.Resize.{all_resized}

@@ -12,16 +12,19 @@ use Rattle.con_cooked.specs.Mask.{is_masked}
 use Rattle.con_cooked.specs.declared.cooked.Cooked.{Cooked}
 use Rattle.con_history.specs.Histories.{LineHistories}
 use Rattle.con_readers.specs.Act.{Act, began, typed, passed, ended, woke}
-use Rattle.con_readers.specs.Lines.{line_after}
-use Rattle.con_readers.specs.Reads.{Settled, settled, first_acts, line_aborted, failed, is_open_line}
-use Rattle.con_readers.specs.Serving.{Served, is_done, served, served_line, served_on}
+use Rattle.con_readers.specs.Words.Lines.{line_after}
+use Rattle.con_readers.specs.Reads.{Settled, settled, line_aborted, failed, is_open_line}
+use Rattle.con_readers.specs.Words.Reads.{first_acts}
+use Rattle.con_readers.specs.Serving.{Served, is_done, served, served_line}
+use Rattle.con_readers.specs.Words.Serving.{served_on}
 use Rattle.con_readers.specs.declared.open.Open.{Open}
 use Rattle.con_readers.specs.declared.open.OpenRead.{OpenRead}
 use Rattle.con_readers.specs.declared.open.OpenRead.TheVariants as reads
 use Rattle.con_records.specs.declared.record.Record.{Record}
 use Rattle.con_machine.specs.State.{State, noted_of}
 use Rattle.con_machine.specs.EventLaws.{settled_shows}
-use Rattle.con_machine.specs.Serving.{followed, settled_from, settled_state, line_shown, line_finished, shows_line}
+use Rattle.con_machine.specs.Serving.{followed, settled_state}
+use Rattle.con_machine.specs.Words.Serving.{settled_from, line_shown, line_finished, shows_line}
 use Rattle.con_laws.specs.Cut.{is_line_or_done, AreLines}
 use Rattle.con_machine.specs.declared.reads.noted.Noted.{Noted}
 use Rattle.con_laws.proofs.Peeked.{none_left}

@@ -8,7 +8,8 @@ use Rattle.con_units.specs.declared.code.Code.TheVariants as code
 use Rattle.con_alias.specs.Aliases.{AliasList}
 use Rattle.con_history.specs.Histories.{LineHistories}
 use Rattle.con_readers.specs.Pieces.{front}
-use Rattle.con_readers.specs.Reads.{settled, closed_one, all_closed, failed, line_aborted, is_open_line, is_open, place_of, without, begun}
+use Rattle.con_readers.specs.Reads.{settled, all_closed, failed, line_aborted, is_open_line, is_open, place_of, without, begun}
+use Rattle.con_readers.specs.Words.Reads.{closed_one}
 use Rattle.con_readers.specs.Serving.{is_done, is_line, served}
 use Rattle.con_readers.specs.declared.answer.Answer.TheVariants as answers
 use Rattle.con_readers.specs.declared.open.Open.{Open}

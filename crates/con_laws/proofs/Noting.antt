@@ -12,7 +12,7 @@ use Rattle.con_machine.specs.History.{run}
 use Rattle.con_machine.specs.Step.{step, client_of}
 use Rattle.con_laws.specs.Fates.{Begun, Piece}
 use Rattle.con_laws.specs.Walks.{Begin, Begins, no_begins, begins_after, begins_from, step_pieces, pieces_from, pieces, last_begin}
-use Rattle.con_laws.specs.Answers.{opens}
+use Rattle.con_laws.specs.Words.Answers.{opens}
 use Rattle.con_laws.specs.AnswerWalks.{console_before, read_after}
 use Rattle.con_machine.specs.declared.reads.noted.Noted.{Noted}
 use Rattle.con_laws.proofs.FateLists.{log, log-append}

@@ -12,12 +12,14 @@ use Rattle.con_events.specs.declared.event.Wanted.TheVariants as wanted
 use Rattle.con_events.specs.declared.reply.Reply.TheVariants as replies
 use Rattle.con_units.specs.declared.code.Code.TheVariants as code
 use Rattle.con_procs.specs.Procs.{is_attached}
-use Rattle.con_readers.specs.Pieces.{pieces_of, joined}
+use Rattle.con_readers.specs.Pieces.{joined}
+use Rattle.con_readers.specs.Words.Pieces.{pieces_of}
 use Rattle.con_readers.specs.Reads.{settled, has_done}
 use Rattle.con_readers.specs.declared.open.Open.{Open}
 use Rattle.con_records.specs.declared.record.Record.{Record}
 use Rattle.con_machine.specs.State.{State, rest_in}
-use Rattle.con_laws.specs.Answers.{read_opened, opens, EndsSo}
+use Rattle.con_laws.specs.Answers.{read_opened, EndsSo}
+use Rattle.con_laws.specs.Words.Answers.{opens}
 use Rattle.con_laws.specs.AnswerWalks.{console_before, was_interrupted, was_cut_off, is_aborted, is_closed}
 use Rattle.con_laws.specs.Fates.{Taker, Begun, Interrupted, CutOff, Piece, done_for}
 use Rattle.con_laws.specs.Fates as now

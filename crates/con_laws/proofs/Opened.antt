@@ -11,7 +11,8 @@ use Rattle.con_machine.specs.State.{State}
 use Rattle.con_machine.specs.Client.{is_fail}
 use Rattle.con_machine.specs.History.{run}
 use Rattle.con_machine.specs.Step.{step, client_of}
-use Rattle.con_laws.specs.Answers.{read_opened, opens}
+use Rattle.con_laws.specs.Answers.{read_opened}
+use Rattle.con_laws.specs.Words.Answers.{opens}
 use Rattle.con_laws.specs.AnswerWalks.{console_before}
 use Rattle.con_laws.specs.Walks.{Begin, Begins, no_begins, begin_or, begin_at, begins_after, begins_from, last_begin}
 use Rattle.con_laws.proofs.Entries.{step_opens}

@@ -17,10 +17,13 @@ use Rattle.con_handles.specs.declared.handle.Kind.TheVariants as kind
 use Rattle.con_handles.specs.declared.handle.Object.{Object}
 use Rattle.con_history.specs.Histories.{LineHistories}
 use Rattle.con_procs.specs.Procs.{ids_of, signalled}
-use Rattle.con_readers.specs.Lines.{line_after}
-use Rattle.con_readers.specs.Pieces.{pieces_of, joined}
-use Rattle.con_readers.specs.Reads.{settled, closed_one, all_closed}
-use Rattle.con_readers.specs.Serving.{Served as Serving, is_done, took_units, served, served_line, served_on}
+use Rattle.con_readers.specs.Words.Lines.{line_after}
+use Rattle.con_readers.specs.Pieces.{joined}
+use Rattle.con_readers.specs.Words.Pieces.{pieces_of}
+use Rattle.con_readers.specs.Reads.{settled, all_closed}
+use Rattle.con_readers.specs.Words.Reads.{closed_one}
+use Rattle.con_readers.specs.Serving.{Served as Serving, is_done, served, served_line}
+use Rattle.con_readers.specs.Words.Serving.{took_units, served_on}
 use Rattle.con_readers.specs.Wants.{units_of}
 use Rattle.con_readers.specs.declared.open.Open.{Open}
 use Rattle.con_readers.specs.declared.open.OpenRead.{OpenRead}
@@ -28,7 +31,8 @@ use Rattle.con_readers.specs.declared.open.OpenRead.TheVariants as reads
 use Rattle.con_records.specs.declared.record.Record.{Record}
 use Rattle.con_machine.specs.State.{State}
 use Rattle.con_machine.specs.History.{run}
-use Rattle.con_machine.specs.Outcome.{guard, with_object, answered}
+use Rattle.con_machine.specs.Outcome.{guard, answered}
+use Rattle.con_machine.specs.Words.Outcome.{with_object}
 use Rattle.con_machine.specs.Call.{called}
 use Rattle.con_machine.specs.Closing.{closing, hung_up, all_wait}
 use Rattle.con_machine.specs.InputCalls.{peeked, peek_told}

@@ -17,7 +17,7 @@ use Rattle.con_events.specs.declared.event.Event.{Event}
 use Rattle.con_events.specs.declared.event.Event.TheVariants as events
 use Rattle.con_events.specs.declared.reply.Reply.{Reply}
 use Rattle.con_events.specs.declared.reply.Reply.TheVariants as replies
-use Rattle.con_readers.specs.Lines.{line_answer}
+use Rattle.con_readers.specs.Words.Lines.{line_answer}
 use Rattle.con_readers.specs.declared.answer.Answer.TheVariants as answers
 use Rattle.con_readers.specs.declared.open.OpenRead.{OpenRead}
 use Rattle.con_readers.specs.declared.open.OpenRead.TheVariants as reads
@@ -28,7 +28,8 @@ use Rattle.con_machine.specs.Step.{step, client_of}
 use Rattle.con_machine.specs.Turns.{moved}
 use Rattle.con_machine.specs.Client.{is_fail}
 use Rattle.con_machine.specs.declared.reads.noted.Noted.{Noted}
-use Rattle.con_laws.specs.Answers.{read_opened, opens, EndsSo}
+use Rattle.con_laws.specs.Answers.{read_opened, EndsSo}
+use Rattle.con_laws.specs.Words.Answers.{opens}
 use Rattle.con_laws.specs.AnswerWalks.{is_interruption, is_cut, was_interrupted, was_cut_off, is_aborted, is_closed}
 use Rattle.con_laws.specs.Fates.{Taker, How, Interrupted, CutOff, Piece, done_for}
 use Rattle.con_laws.specs.Left.{LineLeaves}

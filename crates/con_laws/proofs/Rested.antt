@@ -19,10 +19,12 @@ use Rattle.con_readers.specs.declared.answer.Answer.{Answer}
 use Rattle.con_readers.specs.declared.answer.Answer.TheVariants as answers
 use Rattle.con_readers.specs.declared.open.OpenRead.TheVariants as reads
 use Rattle.con_screens.specs.Resize.{all_resized}
-use Rattle.con_machine.specs.State.{State, noted_of, without_noted, is_rest_of, is_rest_by, rest_in, with_rest, without_rest, without_rests}
-use Rattle.con_machine.specs.Outcome.{Outcome, refused, done, by_answer, with_object, has_bit}
-use Rattle.con_machine.specs.HandleCalls.{owned as object_owned, handle_closed}
-use Rattle.con_laws.specs.Answers.{opens}
+use Rattle.con_machine.specs.State.{State, noted_of, without_noted, is_rest_of, rest_in, with_rest}
+use Rattle.con_machine.specs.Words.State.{is_rest_by, without_rest, without_rests}
+use Rattle.con_machine.specs.Outcome.{Outcome, refused, done, by_answer, has_bit}
+use Rattle.con_machine.specs.Words.Outcome.{with_object}
+use Rattle.con_machine.specs.Words.HandleCalls.{owned as object_owned, handle_closed}
+use Rattle.con_laws.specs.Words.Answers.{opens}
 use Rattle.con_machine.specs.Call.{called}
 use Rattle.con_machine.specs.Closing.{hung_up}
 use Rattle.con_machine.specs.EventLaws.{Core, call_walk, fed_walk, quiet_walk, hung_walk, size_core, finished_walk}
@@ -30,7 +32,8 @@ use Rattle.con_machine.specs.History.{run}
 use Rattle.con_laws.specs.Left.{LineLeaves}
 use Rattle.con_laws.specs.Remains.{handle_of}
 use Rattle.con_machine.specs.Painting.{painted}
-use Rattle.con_machine.specs.Reads.{began as read_began, began_line, began_units, collected, took_ctrl, left, answer_told, line_cut, part_told, part_left, line_front, front_of, back_of, answered_with, with_read, rest_answered, line_begun, history_used, read_answer, records_answer, is_empty, line_opened, line_read, units_read}
+use Rattle.con_machine.specs.Reads.{began as read_began, began_line, collected, took_ctrl, left, answer_told, line_front, front_of, back_of, answered_with, with_read, line_begun, line_opened}
+use Rattle.con_machine.specs.Words.Reads.{began_units, line_cut, part_told, part_left, rest_answered, history_used, read_answer, records_answer, is_empty, line_read, units_read}
 use Rattle.con_laws.specs.Rested.{takes, takes_in, at_once, ends, ends_in, closes, is_line_of, IsLeft}
 use Rattle.con_machine.specs.Step.{step, effect, finished, is_outside, client_of}
 use Rattle.con_machine.specs.Terminal.{fed, quiet, resized}

@@ -8,9 +8,10 @@ use Rattle.con_cooked.specs.Mask.{is_masked}
 use Rattle.con_cooked.specs.declared.cooked.Cooked.{Cooked}
 use Rattle.con_history.specs.Histories.{LineHistories}
 use Rattle.con_readers.specs.Act.{typed}
-use Rattle.con_readers.specs.Lines.{line_after}
+use Rattle.con_readers.specs.Words.Lines.{line_after}
 use Rattle.con_readers.specs.Pieces.{front}
-use Rattle.con_readers.specs.Serving.{is_done, took_units, Served, served, served_line, served_on}
+use Rattle.con_readers.specs.Serving.{is_done, Served, served, served_line}
+use Rattle.con_readers.specs.Words.Serving.{took_units, served_on}
 use Rattle.con_readers.specs.Wants.{units_of}
 use Rattle.con_readers.specs.declared.answer.Answer.TheVariants as answers
 use Rattle.con_readers.specs.declared.open.OpenRead.{OpenRead}

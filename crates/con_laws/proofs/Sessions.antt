@@ -42,7 +42,8 @@ use Rattle.con_machine.specs.Serving.{settled_state}
 use Rattle.con_machine.specs.Closing.{closing}
 use Rattle.con_machine.specs.Reads.{began, collected, took_ctrl, left, line_front}
 use Rattle.con_machine.specs.Terminal.{fed, quiet, resized}
-use Rattle.con_machine.specs.Painting.{painted, same_view, view_now, differs}
+use Rattle.con_machine.specs.Painting.{painted, same_view, view_now}
+use Rattle.con_machine.specs.Words.Painting.{differs}
 use Rattle.con_machine.specs.Turns.{turns, sent, Turn}
 use Rattle.con_machine.specs.Client.{FollowsScript, GoesOn, Gone, client_after}
 use Rattle.con_machine.specs.Follows.{Follows, session_start, FollowsLink, AreAnswered, are_of_session, steps_of, kinds_of}

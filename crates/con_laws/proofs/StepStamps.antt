@@ -52,19 +52,24 @@ use Rattle.con_vtin.specs.Keys.{quieted}
 use Rattle.con_vtin.specs.Pieces.{Piece, Typed, Ended, piece_grammar}
 use Rattle.con_machine.specs.State.{State, noted_of, without_noted, id_of, rest_in}
 use Rattle.con_machine.specs.Outcome.{Outcome, refused, done, guard, buffer_of, has_bit}
-use Rattle.con_machine.specs.HandleCalls.{released}
-use Rattle.con_machine.specs.ScreenCalls.{page_at, page_of, with_page, reported}
+use Rattle.con_machine.specs.Words.HandleCalls.{released}
+use Rattle.con_machine.specs.ScreenCalls.{page_of, with_page, reported}
+use Rattle.con_machine.specs.Words.ScreenCalls.{page_at}
 use Rattle.con_machine.specs.Call.{called}
 use Rattle.con_machine.specs.Closing.{closing, hung_up, all_wait}
 use Rattle.con_machine.specs.EventLaws.{served_first}
 use Rattle.con_laws.specs.Walks.{reports_written, call_arrivals, key_arrivals, keys_arrivals, report_arrivals, bytes_arrivals, all_bytes_arrivals, fed_arrivals, size_arrivals, effect_arrivals, step_arrivals, arrived}
 use Rattle.con_machine.specs.History.{replies_of, is_legal}
-use Rattle.con_machine.specs.Painting.{view_now, stamped, painted, next_number, differs}
-use Rattle.con_machine.specs.Reads.{began as read_began, began_line, began_units, collected, took_ctrl, left, answer_told, released_all, answered_with, with_read, line_begun, rest_answered, history_used, read_answer, records_answer, is_empty}
-use Rattle.con_machine.specs.Serving.{followed, settled_state, line_shown, line_finished, shows_line, is_born, birth_of, started_on, note_changed, origin_before, with_echo}
+use Rattle.con_machine.specs.Painting.{view_now, stamped, painted}
+use Rattle.con_machine.specs.Words.Painting.{next_number, differs}
+use Rattle.con_machine.specs.Reads.{began as read_began, began_line, collected, took_ctrl, left, answer_told, answered_with, with_read, line_begun}
+use Rattle.con_machine.specs.Words.Reads.{began_units, released_all, rest_answered, history_used, read_answer, records_answer, is_empty}
+use Rattle.con_machine.specs.Serving.{followed, settled_state, started_on, note_changed, origin_before}
+use Rattle.con_machine.specs.Words.Serving.{line_shown, line_finished, shows_line, is_born, birth_of, with_echo}
 use Rattle.con_machine.specs.Signals.{signalled_to}
 use Rattle.con_machine.specs.Step.{step, effect, is_actors, is_outside, is_due, is_ready, client_of, finished}
-use Rattle.con_machine.specs.Terminal.{is_break, key_taken, records_of, mouse_records, by_report, piece_taken, fed, quiet, resized, size_told, size_record}
+use Rattle.con_machine.specs.Terminal.{is_break, key_taken, records_of, mouse_records, piece_taken, fed, quiet, resized, size_record}
+use Rattle.con_machine.specs.Words.Terminal.{by_report, size_told}
 use Rattle.con_laws.specs.Unstamped.{unstamped_page, unstamped_screen, unstamped_buffer, unstamped_buffers, unstamped, AreSame, ActAlike, RunAlike}
 use Rattle.con_machine.specs.declared.reads.noted.Noted.{Noted}
 use Rattle.con_laws.proofs.BufferStamps.{buffer_same, told_on_same, screen_same, page_same, left_same, echoed_same, ended_same, unstamped_echo, all_resized_same}

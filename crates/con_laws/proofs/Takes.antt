@@ -31,18 +31,21 @@ use Rattle.con_records.specs.declared.record.Record.{Record}
 use Rattle.con_vtin.specs.Keys.{quieted}
 use Rattle.con_vtin.specs.Pieces.{Piece as Bytes, Typed, Ended, piece_grammar}
 use Rattle.con_machine.specs.State.{State, noted_of, without_noted}
-use Rattle.con_machine.specs.Outcome.{Outcome, refused, done, by_answer, by_result, while_open, guard, with_object, has_bit}
-use Rattle.con_machine.specs.HandleCalls.{closed_handle, owned as object_owned}
-use Rattle.con_machine.specs.ScreenCalls.{wrote}
+use Rattle.con_machine.specs.Outcome.{Outcome, refused, done, by_answer, while_open, guard, has_bit}
+use Rattle.con_machine.specs.Words.Outcome.{by_result, with_object}
+use Rattle.con_machine.specs.Words.HandleCalls.{closed_handle, owned as object_owned}
+use Rattle.con_machine.specs.Words.ScreenCalls.{wrote}
 use Rattle.con_machine.specs.InputCalls.{wrote_input}
-use Rattle.con_machine.specs.ProcessCalls.{on_place, is_no_signal, sent_signal, set_ignore, added_handler, removed_handler}
+use Rattle.con_machine.specs.ProcessCalls.{is_no_signal}
+use Rattle.con_machine.specs.Words.ProcessCalls.{on_place, sent_signal, set_ignore, added_handler, removed_handler}
 use Rattle.con_machine.specs.Call.{called}
 use Rattle.con_machine.specs.Serving.{settled_state}
 use Rattle.con_machine.specs.Signals.{signalled_to}
 use Rattle.con_machine.specs.Closing.{closing, hung_up, all_wait}
 use Rattle.con_machine.specs.Reads.{collected, took_ctrl, left, answer_told}
 use Rattle.con_machine.specs.Painting.{painted}
-use Rattle.con_machine.specs.Terminal.{fed, quiet, resized, is_break, records_of, key_taken, piece_taken, by_report, sequence_taken, asked, drained}
+use Rattle.con_machine.specs.Terminal.{fed, quiet, resized, is_break, records_of, key_taken, piece_taken}
+use Rattle.con_machine.specs.Words.Terminal.{by_report, sequence_taken, asked, drained}
 use Rattle.con_machine.specs.Step.{effect, finished}
 use Rattle.con_machine.specs.declared.reads.noted.Noted.{Noted}
 use Rattle.con_machine.specs.CallLaws.{Parts, stands}

@@ -10,11 +10,13 @@ use Rattle.con_cooked.specs.Keys.{key_of}
 use Rattle.con_cooked.specs.Mask.{is_masked}
 use Rattle.con_cooked.specs.declared.cooked.Cooked.{Cooked}
 use Rattle.con_history.specs.Histories.{LineHistories, lines_of}
-use Rattle.con_readers.specs.Answering.{is_line_end, line_through, EndsLine}
-use Rattle.con_readers.specs.Lines.{line_after, line_answer}
+use Rattle.con_readers.specs.Answering.{is_line_end}
+use Rattle.con_readers.specs.Words.Answering.{line_through, EndsLine}
+use Rattle.con_readers.specs.Words.Lines.{line_after, line_answer}
 use Rattle.con_readers.specs.Pieces.{front, joined}
 use Rattle.con_readers.specs.Reads.{answer_of}
-use Rattle.con_readers.specs.Serving.{Served as Serving, is_done, took_units, served, served_line, served_on}
+use Rattle.con_readers.specs.Serving.{Served as Serving, is_done, served, served_line}
+use Rattle.con_readers.specs.Words.Serving.{took_units, served_on}
 use Rattle.con_readers.specs.Wants.{typed_unit, units_of}
 use Rattle.con_readers.specs.declared.answer.Answer.{Answer}
 use Rattle.con_readers.specs.declared.answer.Answer.TheVariants as answers

@@ -7,7 +7,8 @@ use Rattle.con_cooked.specs.declared.cooked.Cooked.{Cooked}
 use Rattle.con_readers.specs.Act.{Act, began, typed, passed, ended, woke}
 use Rattle.con_readers.specs.Reads.{settled}
 use Rattle.con_machine.specs.State.{State, noted_of, without_noted}
-use Rattle.con_machine.specs.Serving.{settled_state, followed, started_on, line_shown, line_finished, shows_line, note_changed}
+use Rattle.con_machine.specs.Serving.{settled_state, followed, started_on, note_changed}
+use Rattle.con_machine.specs.Words.Serving.{line_shown, line_finished, shows_line}
 use Rattle.con_machine.specs.declared.reads.noted.Noted.{Noted}
 
 -- what a Collect looks at

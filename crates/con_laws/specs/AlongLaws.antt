@@ -5,12 +5,15 @@ use Rattle.con_events.specs.declared.entry.Entry.{Entry}
 use Rattle.con_events.specs.declared.script.Step.{Step}
 use Rattle.con_machine.specs.State.{State}
 use Rattle.con_machine.specs.Step.{is_ready}
-use Rattle.con_machine.specs.Along.{after, Along}
+use Rattle.con_machine.specs.Along.{Along}
+use Rattle.con_machine.specs.Words.Along.{after}
 use Rattle.con_machine.specs.History.{run, is_legal}
 use Rattle.con_machine.specs.HistoryLaws.{legal-append, along-one, turns-own, sent-own}
 use Rattle.con_machine.specs.Turns.{turns, turn_of, sent, is_client, is_terminal}
-use Rattle.con_machine.specs.Client.{May, moved_on, starting, FollowsScript, client_after}
-use Rattle.con_machine.specs.Follows.{is_one_of, are_of_session, Sender, MaySend, sent_one, FollowsLink, MayAct, asks, AreAnswered}
+use Rattle.con_machine.specs.Client.{moved_on, starting, FollowsScript, client_after}
+use Rattle.con_machine.specs.Words.Client.{May}
+use Rattle.con_machine.specs.Follows.{is_one_of, are_of_session, Sender, MaySend, sent_one, FollowsLink, MayAct, AreAnswered}
+use Rattle.con_machine.specs.Words.Follows.{asks}
 
 -- ---- lists that go on as they may
 

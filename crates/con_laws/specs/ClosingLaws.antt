@@ -12,11 +12,14 @@ use Rattle.con_events.specs.declared.entry.Entry.{Entry}
 use Rattle.con_events.specs.declared.event.Event.{Event}
 use Rattle.con_events.specs.declared.event.Event.TheVariants as events
 use Rattle.con_events.specs.declared.script.Script.{Script}
-use Rattle.con_procs.specs.Procs.{is_attached, is_live, live_in, ids_from, ids_of, signalled}
+use Rattle.con_procs.specs.Procs.{is_attached, is_live, ids_from, ids_of, signalled}
+use Rattle.con_procs.specs.Words.Procs.{live_in}
 use Rattle.con_procs.specs.declared.proc.Proc.{Proc}
-use Rattle.con_readers.specs.Reads.{all_closed, is_of, place_of, done_in, undone_in, is_open, has_done, has_undone}
+use Rattle.con_readers.specs.Reads.{all_closed, place_of, is_open, has_done, has_undone}
+use Rattle.con_readers.specs.Words.Reads.{is_of, done_in, undone_in}
 use Rattle.con_readers.specs.declared.open.Open.{Open}
-use Rattle.con_machine.specs.State.{State, behind_first, procs_of}
+use Rattle.con_machine.specs.State.{State}
+use Rattle.con_machine.specs.Words.State.{behind_first, procs_of}
 use Rattle.con_machine.specs.Outcome.{Outcome, refused}
 use Rattle.con_machine.specs.Closing.{hung_up, closing, all_wait}
 use Rattle.con_machine.specs.Reads as waits

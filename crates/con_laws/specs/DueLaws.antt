@@ -8,7 +8,8 @@ use Rattle.con_events.specs.declared.entry.Entry.{Entry}
 use Rattle.con_events.specs.declared.event.Event.{Event}
 use Rattle.con_events.specs.declared.event.Event.TheVariants as events
 use Rattle.con_machine.specs.State.{State}
-use Rattle.con_machine.specs.Painting.{view_now, differs}
+use Rattle.con_machine.specs.Painting.{view_now}
+use Rattle.con_machine.specs.Words.Painting.{differs}
 use Rattle.con_machine.specs.Moves.{resizes_by, painted_by}
 use Rattle.con_laws.specs.PictureLaws.{step_moves}
 use Rattle.con_machine.specs.SameViews.{shows_same}
@@ -16,8 +17,8 @@ use Rattle.con_machine.specs.Step.{is_ready, is_due}
 use Rattle.con_machine.specs.History.{run}
 use Rattle.con_machine.specs.HistoryLaws.{run-append}
 use Rattle.con_machine.specs.Turns.{moved, is_paint, is_terminal}
-use Rattle.con_machine.specs.Follows.{asks}
-use Rattle.con_machine.specs.Along.{after}
+use Rattle.con_machine.specs.Words.Follows.{asks}
+use Rattle.con_machine.specs.Words.Along.{after}
 use Rattle.con_laws.specs.Whole.{is_pictured, ShowsAll}
 use Rattle.con_laws.specs.WholeWords.{are_pictured}
 

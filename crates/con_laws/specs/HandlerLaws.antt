@@ -13,7 +13,8 @@ use Rattle.con_events.specs.declared.entry.Entry.{Entry}
 use Rattle.con_events.specs.declared.event.Event.{Event}
 use Rattle.con_events.specs.declared.event.Event.TheVariants as events
 use Rattle.con_events.specs.declared.reply.Reply.{Reply}
-use Rattle.con_procs.specs.Procs.{rack_in, place_in, is_fresh, granted, placed, add_answer, handler_added}
+use Rattle.con_procs.specs.Procs.{place_in, is_fresh, granted, placed, add_answer, handler_added}
+use Rattle.con_procs.specs.Words.Procs.{rack_in}
 use Rattle.con_procs.specs.declared.proc.Proc.{Proc}
 use Rattle.con_procs.specs.declared.rack.Place.{Place}
 use Rattle.con_procs.specs.declared.rack.Place.TheVariants as place
@@ -25,7 +26,7 @@ use Rattle.con_machine.specs.Reads as waits
 use Rattle.con_machine.specs.Terminal.{resized}
 use Rattle.con_machine.specs.Painting.{painted}
 use Rattle.con_machine.specs.Step.{step, effect, is_outside, finished, client_of}
-use Rattle.con_machine.specs.ProcessCalls.{added_handler}
+use Rattle.con_machine.specs.Words.ProcessCalls.{added_handler}
 use Rattle.con_machine.specs.Client.{is_fail}
 use Rattle.con_machine.specs.History.{run}
 use Rattle.con_machine.specs.Turns.{Turn, turns, turn_of, moved, is_client}

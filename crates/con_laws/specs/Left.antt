@@ -12,7 +12,7 @@ use Rattle.con_readers.specs.declared.open.OpenRead.TheVariants as reads
 use Rattle.con_machine.specs.State.{State, noted_of, rest_in}
 use Rattle.con_machine.specs.History.{run}
 use Rattle.con_machine.specs.Step.{step, client_of}
-use Rattle.con_laws.specs.Answers.{opens}
+use Rattle.con_laws.specs.Words.Answers.{opens}
 use Rattle.con_machine.specs.declared.reads.noted.Noted.{Noted}
 use Rattle.con_laws.specs.Remains.{handle_of}
 

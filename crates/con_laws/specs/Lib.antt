@@ -33,3 +33,5 @@ pub mod ShowingLaws
 pub mod ClosingLaws
 pub mod AlongLaws
 pub mod DueLaws
+-- The words of the code and of laws about these files, which a reader need not believe.
+pub mod Words

@@ -4,9 +4,9 @@ use Rattle.std.specs.Prelude.{◌&&◌, ◌==◌, nat_lt, nat_le, is_some, slice
 use Rattle.std.proofs.lemmas.Bool.Decides.{nat_tests}
 use Rattle.con_events.specs.Session.{Clients}
 use Rattle.con_events.specs.declared.script.Script.{Script}
-use Rattle.con_procs.specs.Procs.{live_in, pending_in}
+use Rattle.con_procs.specs.Words.Procs.{live_in, pending_in}
 use Rattle.con_procs.specs.declared.proc.Proc.{Proc}
-use Rattle.con_machine.specs.State.{procs_of, behind_first}
+use Rattle.con_machine.specs.Words.State.{procs_of, behind_first}
 use Rattle.con_machine.specs.Follows.{session_start}
 use Rattle.con_laws.specs.Opens.{Opens}
 

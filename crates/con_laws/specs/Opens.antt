@@ -4,7 +4,8 @@ use Rattle.con_events.specs.Session.{Clients}
 use Rattle.con_procs.specs.Procs.{is_attached}
 use Rattle.con_readers.specs.Reads.{is_open, has_done}
 use Rattle.con_machine.specs.State.{State}
-use Rattle.con_machine.specs.Painting.{view_now, is_fresh}
+use Rattle.con_machine.specs.Painting.{view_now}
+use Rattle.con_machine.specs.Words.Painting.{is_fresh}
 use Rattle.con_machine.specs.Turns.{is_pending}
 
 -- The session's clients are attached, which are numbered from 1, and nobody else is. No read is open, no control event waits,

@@ -7,7 +7,8 @@ use Rattle.con_events.specs.declared.event.Event.{Event}
 use Rattle.con_events.specs.declared.event.Event.TheVariants as events
 use Rattle.con_events.specs.declared.reply.Reply.TheVariants as replies
 use Rattle.con_machine.specs.State.{State}
-use Rattle.con_machine.specs.Painting.{view_now, differs}
+use Rattle.con_machine.specs.Painting.{view_now}
+use Rattle.con_machine.specs.Words.Painting.{differs}
 use Rattle.con_machine.specs.Step.{step, effect, is_ready, is_due}
 use Rattle.con_machine.specs.Moves.{Moves}
 use Rattle.con_machine.specs.EventLaws.{Frame, step_frame}

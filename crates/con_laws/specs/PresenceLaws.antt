@@ -14,7 +14,8 @@ use Rattle.con_events.specs.declared.event.Event.{Event}
 use Rattle.con_events.specs.declared.event.Event.TheVariants as events
 use Rattle.con_events.specs.declared.event.Wanted.{Wanted}
 use Rattle.con_procs.specs.AttachedLaws.{attached_laws}
-use Rattle.con_procs.specs.Procs.{is_attached, changed, first_pending, pending_in, proc_of}
+use Rattle.con_procs.specs.Procs.{is_attached, changed, first_pending, proc_of}
+use Rattle.con_procs.specs.Words.Procs.{pending_in}
 use Rattle.con_procs.specs.declared.proc.Proc.{Proc}
 use Rattle.con_readers.specs.Distinct.{processes_in, times_in}
 use Rattle.con_readers.specs.Reads.{is_open, without, place_of, begun}

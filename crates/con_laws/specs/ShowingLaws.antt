@@ -10,7 +10,8 @@ use Rattle.con_events.specs.declared.event.Event.{Event}
 use Rattle.con_events.specs.declared.event.Event.TheVariants as events
 use Rattle.con_machine.specs.State.{State}
 use Rattle.con_machine.specs.Step.{step, is_ready, is_due}
-use Rattle.con_machine.specs.Painting.{view_now, differs, same_view}
+use Rattle.con_machine.specs.Painting.{view_now, same_view}
+use Rattle.con_machine.specs.Words.Painting.{differs}
 use Rattle.con_machine.specs.History.{run}
 use Rattle.con_machine.specs.Turns.{moved, is_paint}
 use Rattle.con_machine.specs.Follows.{session_start}

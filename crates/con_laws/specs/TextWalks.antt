@@ -6,7 +6,7 @@ use Rattle.con_cooked.specs.Cooked.{Moment}
 use Rattle.con_cooked.specs.Mask.{is_masked}
 use Rattle.con_cooked.specs.declared.cooked.Cooked.{Cooked}
 use Rattle.con_readers.specs.Answering.{is_line_end}
-use Rattle.con_readers.specs.Lines.{line_answer}
+use Rattle.con_readers.specs.Words.Lines.{line_answer}
 use Rattle.con_readers.specs.Wants.{units_of}
 use Rattle.con_readers.specs.declared.answer.Answer.TheVariants as answers
 use Rattle.con_readers.specs.declared.open.OpenRead.{OpenRead}

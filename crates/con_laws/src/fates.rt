@@ -14,7 +14,7 @@ ghost use Rattle.con_readers.specs.Reads.{has_done};
 ghost use Rattle.con_machine.specs.State.{State, rest_in};
 ghost use Rattle.con_machine.specs.History.{run};
 ghost use Rattle.con_machine.specs.Step.{step};
-ghost use Rattle.con_laws.specs.Answers.{opens};
+ghost use Rattle.con_laws.specs.Words.Answers.{opens};
 ghost use Rattle.con_laws.specs.AnswerWalks.{console_before, was_interrupted, was_cut_off, is_aborted, is_closed};
 ghost use Rattle.con_laws.specs.Left.{LeftBy};
 ghost use Rattle.con_laws.specs.TextWalks.{AnswersText};

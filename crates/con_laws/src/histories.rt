@@ -15,10 +15,12 @@ ghost use Rattle.con_machine.specs.Moves.{Moves};
 ghost use Rattle.con_machine.specs.History.{run, replies_of, is_legal};
 ghost use Rattle.con_machine.specs.Turns.{turns, turn_of, sent, is_client, is_terminal, is_last_sent, has_ended, paints};
 ghost use Rattle.con_machine.specs.Sights.{sights_of};
-ghost use Rattle.con_machine.specs.Along.{after};
+ghost use Rattle.con_machine.specs.Words.Along.{after};
 ghost use Rattle.con_laws.specs.AlongLaws.{all_coming};
-ghost use Rattle.con_machine.specs.Client.{May, FollowsScript, client_after};
-ghost use Rattle.con_machine.specs.Follows.{is_one_of, are_of_session, MaySend, sent_one, FollowsLink, MayAct, asks, AreAnswered};
+ghost use Rattle.con_machine.specs.Client.{FollowsScript, client_after};
+ghost use Rattle.con_machine.specs.Words.Client.{May};
+ghost use Rattle.con_machine.specs.Follows.{is_one_of, are_of_session, MaySend, sent_one, FollowsLink, MayAct, AreAnswered};
+ghost use Rattle.con_machine.specs.Words.Follows.{asks};
 ghost use Rattle.con_laws.specs.Rounds.{Begun};
 ghost use Rattle.con_laws.specs.RoundWords.{AreTurns, IsTurn, AreRounds, entry_of, round_entries, all_entries, all_order, is_nobody};
 

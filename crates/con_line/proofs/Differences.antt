@@ -5,8 +5,9 @@ use Rattle.std.proofs.lemmas.List.{take-append-drop, length-take-le, length-drop
 use Rattle.std.proofs.Math.Seq.{take-length}
 use Rattle.std.proofs.Math.ListN.{drop_of_length-le}
 use Rattle.std.proofs.lemmas.Bool.{eq-eqb, eqb-true, cases_Bool}
-use Rattle.con_units.specs.Units.{first_difference}
-use Rattle.con_line.specs.Line.{on_while, edit_between}
+use Rattle.con_units.specs.Words.Units.{first_difference}
+use Rattle.con_line.specs.Line.{on_while}
+use Rattle.con_line.specs.Words.Line.{edit_between}
 use Rattle.con_line.specs.declared.edit.Edit.{Edit}
 
 -- a text differs from itself nowhere

@@ -1,7 +1,9 @@
 //! The edited line.
 ghost use Rattle.std.specs.Prelude.{◌≡◌, ℕ, ◌+◌, ◌≤◌, ◌<◌, ◌==◌, length, not, [], ◌++◌, vec_capacity, if◌then◌else◌, ◌⊎◌, drop, take, IfOk};
-ghost use Rattle.con_line.specs.Line.{LineText, IsLine, back_while, on_while, pressed, typed, erased_at, recalled_as, completed_by, matched_as, edit_between};
-ghost use Rattle.con_units.specs.Units.{first_difference, is_space, is_other};
+ghost use Rattle.con_line.specs.Line.{LineText, back_while, on_while, typed, erased_at, recalled_as, completed_by, matched_as};
+ghost use Rattle.con_line.specs.Words.Line.{IsLine, pressed, edit_between};
+ghost use Rattle.con_units.specs.Units.{is_space, is_other};
+ghost use Rattle.con_units.specs.Words.Units.{first_difference};
 
 use crate::edit::Edit;
 use crate::press::Press;
@@ -22,7 +24,8 @@ pub struct Line {
 
 impl Model for Line {
     ghost use Rattle.std.specs.Prelude.{◌≤◌, vec_capacity};
-    ghost use Rattle.con_line.specs.Line.{LineText, IsLine};
+    ghost use Rattle.con_line.specs.Line.{LineText};
+    ghost use Rattle.con_line.specs.Words.Line.{IsLine};
 
     ghost Value = { LineText };
 

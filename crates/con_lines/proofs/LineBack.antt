@@ -18,15 +18,18 @@ use Rattle.con_events.specs.declared.event.Wanted.TheVariants.{Read, ReadInput, 
 use Rattle.con_events.specs.declared.reply.Reply.{Reply}
 use Rattle.con_events.specs.declared.reply.Reply.TheVariants as reply
 use Rattle.con_events.specs.Arg.{Arg}
-use Rattle.con_events.specs.Fits.{ArgsFit}
-use Rattle.con_events.specs.Table.{name_of, args_of}
+use Rattle.con_events.specs.Words.Fits.{ArgsFit}
+use Rattle.con_events.specs.Words.Table.{name_of, args_of}
 use Rattle.con_events.specs.Reading.{call_from, whole as whole_from}
 use Rattle.con_events.specs.declared.form.Form.{Form}
 use Rattle.con_lines.specs.declared.said.Said.{Said}
-use Rattle.con_lines.specs.Form.{event_name, form_of}
-use Rattle.con_lines.specs.Shown.{items, whole, units_text, shown, cell_words}
+use Rattle.con_lines.specs.Form.{form_of}
+use Rattle.con_lines.specs.Words.Form.{event_name}
+use Rattle.con_lines.specs.Shown.{whole, units_text, shown, cell_words}
+use Rattle.con_lines.specs.Words.Shown.{items}
 use Rattle.con_lines.specs.Line.{number_and_flag, reply_data, event_data, actor_text, answer_data, line_data}
-use Rattle.con_lines.specs.Fits.{IsOwn, EventFits, IsWhole, AreWhole, AreTexts, AreRead, ReplyFits, refused, is_done, is_number, are_fields, number_and_flag as number_and_flag_fit, are_sides, are_ids, are_units, are_records, are_cells, are_lines, waited_units, waited_records, is_control, AnswerFits}
+use Rattle.con_lines.specs.Fits.{IsOwn, EventFits, ReplyFits, refused, is_done, is_number, are_fields, number_and_flag as number_and_flag_fit, are_sides, are_ids, are_units, are_records, are_cells, are_lines, waited_units, waited_records, is_control, AnswerFits}
+use Rattle.con_lines.specs.Words.Fits.{IsWhole, AreWhole, AreTexts, AreRead}
 use Rattle.con_lines.specs.Ending.{Ending, IsEnding, done, no_memory, usage, document, link, terminal, missing, failed, too_long, mirror, frame, ending_data}
 use Rattle.con_lines.specs.Fits.{IsLine}
 use Rattle.con_lines.specs.Told.{whole_in, units_in, all_in, if_many, flag_of, number_and_flag_in, cells_from, reply_in, told, as_told, call_in, event_in, of_terminal, of_client, of_painter, one_digit, digits_after, actor_in, answer_in, said_in, ending_in}

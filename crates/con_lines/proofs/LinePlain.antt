@@ -26,15 +26,19 @@ use Rattle.con_events.specs.declared.event.Wanted.TheVariants.{Read, ReadInput, 
 use Rattle.con_events.specs.declared.reply.Reply.{Reply}
 use Rattle.con_events.specs.declared.reply.Reply.TheVariants as reply
 use Rattle.con_events.specs.Arg.{Arg, Number, Signed, OneUnit, Flag, Text, Area, Clip, WordsOf, WordList, Records}
-use Rattle.con_events.specs.Fits.{AreUnits, IsSmall, RectFits, RecordFits, RecordsFit, ArgFits, ArgsFit}
-use Rattle.con_events.specs.Table.{name_of}
+use Rattle.con_events.specs.Fits.{AreUnits, RectFits, RecordFits, ArgFits}
+use Rattle.con_events.specs.Words.Fits.{IsSmall, RecordsFit, ArgsFit}
+use Rattle.con_events.specs.Words.Table.{name_of}
 use Rattle.con_events.specs.declared.form.Form.{Form}
 use Rattle.con_lines.specs.declared.said.Said.{Said}
-use Rattle.con_lines.specs.Form.{event_spelled, event_name, form_of}
+use Rattle.con_lines.specs.Form.{event_spelled, form_of}
+use Rattle.con_lines.specs.Words.Form.{event_name}
 use Rattle.con_lines.specs.Hex.{hex_units, hex_bytes}
-use Rattle.con_lines.specs.Shown.{items, whole, units_text, rect_data, record_data, shown, cell_words}
+use Rattle.con_lines.specs.Shown.{whole, units_text, rect_data, record_data, shown, cell_words}
+use Rattle.con_lines.specs.Words.Shown.{items}
 use Rattle.con_lines.specs.Line.{number_and_flag, reply_data, answer_data, event_data, actor_text, line_data}
-use Rattle.con_lines.specs.Fits.{IsOwn, AreBytes, EventFits, IsWhole, AreWhole, AreTexts, ReplyFits, refused, is_done, is_number, are_fields, number_and_flag as number_and_flag_fit, are_sides, are_ids, are_units, are_records, are_cells, are_lines, waited_units, waited_records, is_control, AnswerFits}
+use Rattle.con_lines.specs.Fits.{IsOwn, EventFits, ReplyFits, refused, is_done, is_number, are_fields, number_and_flag as number_and_flag_fit, are_sides, are_ids, are_units, are_records, are_cells, are_lines, waited_units, waited_records, is_control, AnswerFits}
+use Rattle.con_lines.specs.Words.Fits.{AreBytes, IsWhole, AreWhole, AreTexts}
 use Rattle.con_lines.specs.Ending.{Ending, IsEnding, done, no_memory, usage, document, link, terminal, missing, failed, too_long, mirror, frame, kind_text, ending_data}
 use Rattle.con_lines.specs.Fits.{IsLine}
 use Rattle.con_lines.proofs.ReadBack.{IsPlain, ArePlain}

@@ -3,7 +3,7 @@ use Rattle.std.proofs.Common.{◌≡◌, refl}
 use Rattle.json.specs.Print.{escape, escape_byte}
 use Rattle.con_events.specs.declared.call.Call.{Call}
 use Rattle.con_events.specs.declared.call.Call.TheVariants as call
-use Rattle.con_events.specs.Table.{name_of}
+use Rattle.con_events.specs.Words.Table.{name_of}
 
 pub call_name_plain : (c : Call) → escape (name_of c) ≡ name_of c
 unfolding escape_byte

@@ -5,9 +5,11 @@ use Rattle.std.proofs.Common.{◌≡◌, ℕ, ◌<◌, arith, List, [], ◌∷�
 use Rattle.json.specs.Print.{escape, quoted}
 use Rattle.serde_json.specs.Data.{Data, null, boolean, string}
 use Rattle.serde_json.specs.Written.{compact_text, comma_if, items_text}
-use Rattle.con_events.specs.Arg.{Arg, put_all}
+use Rattle.con_events.specs.Arg.{Arg}
+use Rattle.con_events.specs.Words.Arg.{put_all}
 use Rattle.con_lines.specs.Hex.{hex_units, hex_bytes}
-use Rattle.con_lines.specs.Shown.{shown, items, list_of, natural, whole, units_text}
+use Rattle.con_lines.specs.Shown.{shown, list_of, natural, whole, units_text}
+use Rattle.con_lines.specs.Words.Shown.{items}
 use Rattle.con_lines.specs.Writing.{Written, more, parted, put, opened, shut, put_each, put_arg}
 use Rattle.con_lines.proofs.Plain.{units_plain, bytes_plain, client_plain}
 

@@ -5,12 +5,14 @@ use Rattle.std.specs.Str.{bytes_eq}
 use Rattle.std.proofs.lemmas.Bool.{cond_both}
 use Rattle.con_events.specs.declared.call.Call.{Call}
 use Rattle.con_events.specs.declared.call.Words.TheVariants.{One, Each}
-use Rattle.con_events.specs.Arg as arg
-use Rattle.con_events.specs.Arg.{Kind, Arg, kind_of, Number, Signed, OneUnit, Text, Area, Clip, WordsOf, WordList, Records, the_number, the_signed, the_list, the_rect, the_clip, the_words, the_records}
-use Rattle.con_events.specs.Table.{args_of, nth, Row, find, row_of, handles_rows, screens_rows, cells_rows, lines_rows, processes_rows, row_of_handles, row_of_screens, row_of_cells, row_of_lines, row_of_processes}
+use Rattle.con_events.specs.Words.Arg as arg
+use Rattle.con_events.specs.Arg.{Arg, Number, Signed, OneUnit, Text, Area, Clip, WordsOf, WordList, Records}
+use Rattle.con_events.specs.Words.Arg.{Kind, kind_of, the_number, the_signed, the_list, the_rect, the_clip, the_words, the_records}
+use Rattle.con_events.specs.Words.Table.{args_of, nth, Row, find, row_of, handles_rows, screens_rows, cells_rows, lines_rows, processes_rows, row_of_handles, row_of_screens, row_of_cells, row_of_lines, row_of_processes}
 use Rattle.con_events.specs.RecordTable.{record_rows, row_of_record}
 use Rattle.con_events.specs.Reading.{Item, first, others, args_from, row_from, call_from, nothing_left, whole}
-use Rattle.con_events.specs.Fits.{AreUnits, IsSmall, RectFits, RecordFits, RecordsFit, ArgFits, ArgsFit}
+use Rattle.con_events.specs.Fits.{AreUnits, RectFits, RecordFits, ArgFits}
+use Rattle.con_events.specs.Words.Fits.{IsSmall, RecordsFit, ArgsFit}
 
 -- ---- facts of what is there
 

@@ -6,7 +6,8 @@ use Rattle.std.specs.Str.{bytes_eq}
 use Rattle.std.proofs.lemmas.Bool.{cond_both, and_parts}
 use Rattle.std.proofs.lemmas.Bool.Decides.{nat_tests}
 use Rattle.std.proofs.lemmas.Nat.{and_assoc, and_le_l}
-use Rattle.con_units.specs.Attr.{masked, plain}
+use Rattle.con_units.specs.Attr.{plain}
+use Rattle.con_units.specs.Words.Attr.{masked}
 use Rattle.con_units.specs.Glyph.{Glyph, cell_of}
 use Rattle.con_units.specs.Stored.{is_shown, stored_unit}
 use Rattle.con_events.specs.declared.actor.Actor.{Actor}
@@ -16,10 +17,11 @@ use Rattle.con_events.specs.declared.event.Event.{Event}
 use Rattle.con_events.specs.declared.event.Event.TheVariants as event
 use Rattle.con_events.specs.declared.reply.Reply.{Reply}
 use Rattle.con_events.specs.declared.reply.Reply.TheVariants as reply
-use Rattle.con_events.specs.Arg as arg
+use Rattle.con_events.specs.Words.Arg as arg
 use Rattle.con_events.specs.Arg.{Number, Signed, OneUnit, Flag, Text, Area, Clip, WordsOf, WordList, Records}
 use Rattle.con_events.specs.Actors.{is_clients}
-use Rattle.con_events.specs.Fits.{AreUnits, IsSmall, RectFits, RecordFits, RecordsFit, ArgFits}
+use Rattle.con_events.specs.Fits.{AreUnits, RectFits, RecordFits, ArgFits}
+use Rattle.con_events.specs.Words.Fits.{IsSmall, RecordsFit}
 use Rattle.con_values.specs.Values.{below, number_in, unit_in, signed_in, four, rect_items, rect_in, clip_in, field, fields, record_items, record_in, records_items, records_in}
 use Rattle.serde_json.specs.Data.{Data, null, boolean, number, string, array, object, Items, no_items, item}
 use Rattle.serde_json.specs.Find.{as_number, as_u64, as_i64, as_bool, as_str, as_array}
@@ -28,8 +30,8 @@ use Rattle.con_events.specs.declared.form.Form.TheVariants as form
 use Rattle.con_lines.specs.declared.said.Said.{Said}
 use Rattle.con_lines.specs.Form.{form_of}
 use Rattle.con_lines.specs.Shown.{cell_words}
-use Rattle.con_lines.specs.Fits.{IsOwn, AreBytes, EventFits, IsWhole, AreWhole, AreTexts, AreRead, ReplyFits, refused, is_done, is_number, are_fields, number_and_flag, are_sides, are_ids, are_units, are_records, are_cells, are_lines, waited_units, waited_records, is_control, AnswerFits}
-use Rattle.con_lines.specs.Fits.{IsLine}
+use Rattle.con_lines.specs.Fits.{IsOwn, EventFits, ReplyFits, refused, is_done, is_number, are_fields, number_and_flag, are_sides, are_ids, are_units, are_records, are_cells, are_lines, waited_units, waited_records, is_control, AnswerFits, IsLine}
+use Rattle.con_lines.specs.Words.Fits.{AreBytes, IsWhole, AreWhole, AreTexts, AreRead}
 use Rattle.con_lines.specs.Told.{hex_value, with_digit, byte_told, unit_told, with_first, unhex_units, unhex_bytes, kept_whole, kept_length, whole_in, units_in, all_in, words_in, told, as_told, code_of, only, is_bare, if_many, number_and_flag_in, array_only, cells_from, cells_in, wait_in, value_in, control_in, fail_in, answer_named, answer_items, reply_in, number_pair_in, unit_pair_in, pair, read_with_in, none_in, feed_in, call_in, of_terminal, of_client, of_painter, event_in, unless_zero, one_digit, digits_after, client_in, actor_in, length_in, painted_in, answer_in, said_by, said_items, said_in}
 use Rattle.con_lines.proofs.TablesFit.{and_then_keeps, map_keeps, ItemFits, ItemsFit, call_fits, record_fits}
 

@@ -10,16 +10,19 @@ use Rattle.con_records.specs.declared.record.Record.{Record}
 use Rattle.con_records.specs.declared.record.Record.TheVariants as record_of
 use Rattle.con_events.specs.declared.call.Call.{Call}
 use Rattle.con_events.specs.declared.call.Words.TheVariants.{One, Each}
-use Rattle.con_events.specs.Arg.{Arg, kind_of, Number, Signed, OneUnit, Flag, Text, Area, Clip, WordsOf, WordList, Records}
-use Rattle.con_events.specs.Table.{name_of, args_of}
+use Rattle.con_events.specs.Arg.{Arg, Number, Signed, OneUnit, Flag, Text, Area, Clip, WordsOf, WordList, Records}
+use Rattle.con_events.specs.Words.Arg.{kind_of}
+use Rattle.con_events.specs.Words.Table.{name_of, args_of}
 use Rattle.con_events.specs.RecordTable.{row_of_record}
 use Rattle.con_events.specs.Reading.{call_from}
-use Rattle.con_events.specs.Fits.{AreUnits, IsSmall, RectFits, RecordFits, RecordsFit, ArgFits, ArgsFit}
+use Rattle.con_events.specs.Fits.{AreUnits, RectFits, RecordFits, ArgFits}
+use Rattle.con_events.specs.Words.Fits.{IsSmall, RecordsFit, ArgsFit}
 use Rattle.con_events.specs.TableLaws.{AllRead, call_back}
 use Rattle.con_values.specs.Values.{signed_in, rect_in, record_in, records_items}
 use Rattle.con_lines.specs.Hex.{hex_units, hex_bytes}
-use Rattle.con_lines.specs.Shown.{items, whole, rect_data, record_data, shown}
-use Rattle.con_lines.specs.Fits.{AreBytes}
+use Rattle.con_lines.specs.Shown.{whole, rect_data, record_data, shown}
+use Rattle.con_lines.specs.Words.Shown.{items}
+use Rattle.con_lines.specs.Words.Fits.{AreBytes}
 use Rattle.con_lines.specs.Told.{hex_value, byte_told, unit_told, unhex_units, unhex_bytes, told}
 
 pub is_below : (n m : ℕ) → n < m → nat_lt n m ≡ true

@@ -1,13 +1,10 @@
 -- The last line of a report.
 use Rattle.std.specs.Prelude.{ℕ, ◌<◌, List, [], ◌∷◌, codes}
-use Rattle.std.specs.Char.Utf16.{utf16_lossy_chars}
-use Rattle.std.specs.Str.{IsUtf8, encode_utf8_all}
+use Rattle.std.specs.Str.{IsUtf8}
 use Rattle.con_units.specs.declared.view.FrameFault.{FrameFault}
 use Rattle.con_units.specs.declared.view.FrameFault.TheVariants as fault
 use Rattle.serde_json.specs.Data.{Data, string}
 use Rattle.serde_json.specs.Written.{compact_text}
-use Rattle.con_lines.specs.declared.ending.EndLine.{EndLine}
-use Rattle.con_lines.specs.declared.ending.EndLine.TheVariants as end_line
 use Rattle.con_lines.specs.Shown.{list_of, natural}
 
 -- a status alone, with a text in UTF-8, or with the place and kind of a fault of the link
@@ -49,10 +46,3 @@ pub data IsEnding : Ending → Type 0 where
   too_long : IsEnding (worded 10 (codes "too long"))
   mirror : IsEnding (worded 12 (codes "mirror"))
   frame : (place : ℕ) (kind : FrameFault) → place < 18446744073709551616 → IsEnding (at_frame place kind)
-
--- the last line that a value says; a path's units as UTF-8, with U+FFFD for half of a pair
-abbrev pub ending_of : EndLine → Ending
-ending_of (end_line.Plain s) = alone s
-ending_of (end_line.Word s text) = worded s text.now
-ending_of (end_line.Path us) = worded 3 (encode_utf8_all (utf16_lossy_chars us))
-ending_of (end_line.Frame place kind) = at_frame place kind

@@ -10,7 +10,6 @@ use Rattle.con_events.specs.Actors.{is_actors, is_clients}
 use Rattle.con_events.specs.Fits.{AreUnits, IsSigned, RectFits, RecordFits, ArgFits}
 use Rattle.con_events.specs.declared.actor.Actor.{Actor}
 use Rattle.con_events.specs.declared.actor.Actor.TheVariants as actor
-use Rattle.con_events.specs.declared.entry.Entry.{Entry}
 use Rattle.con_events.specs.declared.event.Event.{Event}
 use Rattle.con_events.specs.declared.event.Event.TheVariants as event
 use Rattle.con_events.specs.declared.form.Form.{Form}
@@ -59,25 +58,3 @@ pub record IsLine (s : Said) : Type 0 where
   pub own : IsOwn s.entry.actor s.entry.event
   pub event : EventFits s.entry.event
   pub answer : AnswerFits s.entry.event s.reply s.end
-
--- ---- the code's own words
-
-abbrev pub LineFits : Entry → Reply → ℕ → Type 0
-LineFits e r end = IsLine (record { entry = e; reply = r; end = end })
-
-abbrev pub AreBytes : List ℕ → Type 0
-AreBytes bs = AllByRecursion (λ b. b < 256) bs
-
--- of 64 bits with a sign
-abbrev pub IsWhole : ℤ → Type 0
-IsWhole z = IsSigned 9223372036854775808 z
-
-abbrev pub AreWhole : List ℤ → Type 0
-AreWhole zs = AllByRecursion (IsSigned 9223372036854775808) zs
-
-abbrev pub AreTexts : List (List ℕ) → Type 0
-AreTexts ls = AllByRecursion AreUnits ls
-
--- cells as a read of cells gives them: units that cells hold, and words alone
-abbrev pub AreRead : List Glyph → Type 0
-AreRead gs = AllByRecursion (λ g. cell_of g.unit (plain g.attr.word) ≡ g) gs

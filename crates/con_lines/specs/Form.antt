@@ -2,7 +2,6 @@
 use Rattle.std.specs.Prelude.{ℕ, List, [], ◌∷◌, ◌++◌, codes}
 use Rattle.con_events.specs.Arg.{Arg, Number, OneUnit}
 use Rattle.con_events.specs.Table.{spelled, wanted_spelled}
-use Rattle.con_events.specs.declared.call.Call.{Call}
 use Rattle.con_events.specs.declared.event.Event.{Event}
 use Rattle.con_events.specs.declared.event.Event.TheVariants as event
 use Rattle.con_events.specs.declared.form.Form.{Form}
@@ -25,11 +24,3 @@ event_spelled event.Paint = (codes "paint", [], form.Nothing)
 
 abbrev pub form_of : Event → Form
 form_of e = (event_spelled e).2
-
--- ---- the code's own words
-
-abbrev pub event_name : Event → List ℕ
-event_name e = (event_spelled e).0
-
-abbrev pub call_form : Call → Form
-call_form c = (spelled c).2

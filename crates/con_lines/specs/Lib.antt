@@ -9,3 +9,5 @@ pub mod Ending
 pub mod Writing
 pub mod Told
 pub mod Last
+-- The words of the code and of laws about these files, which a reader need not believe.
+pub mod Words

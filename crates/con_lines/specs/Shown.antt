@@ -7,7 +7,7 @@ use Rattle.con_records.specs.declared.record.Record.{Record}
 use Rattle.con_records.specs.declared.record.Record.TheVariants as record_of
 use Rattle.con_events.specs.declared.call.Words.TheVariants.{One, Each}
 use Rattle.con_events.specs.Arg.{Arg, Number, Signed, OneUnit, Flag, Text, Area, Clip, WordsOf, WordList, Records}
-use Rattle.serde_json.specs.Data.{Data, null, boolean, number, string, array, unsigned, Items}
+use Rattle.serde_json.specs.Data.{Data, null, boolean, number, string, array, unsigned}
 use Rattle.serde_json.specs.View.{items_of}
 use Rattle.serde_json.specs.Find.{of_integer}
 use Rattle.con_lines.specs.Hex.{hex_units}
@@ -55,11 +55,3 @@ shown (Records rs) = list_of (map record_data rs)
 abbrev pub cell_words : List Glyph → List ℕ
 cell_words [] = []
 cell_words (g ∷ gs) = g.unit ∷ g.attr.word ∷ cell_words gs
-
--- ---- the code's own words
-
-abbrev pub items : List Data → Items
-items ds = items_of ds
-
-abbrev pub records_data : List Record → Data
-records_data rs = list_of (map record_data rs)

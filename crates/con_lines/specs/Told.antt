@@ -18,8 +18,9 @@ use Rattle.con_events.specs.declared.event.Event.TheVariants as event
 use Rattle.con_events.specs.declared.event.Wanted.TheVariants.{Read, ReadInput, ReadWith}
 use Rattle.con_events.specs.declared.reply.Reply.{Reply}
 use Rattle.con_events.specs.declared.reply.Reply.TheVariants as reply
-use Rattle.con_events.specs.Arg as arg
-use Rattle.con_events.specs.Arg.{Kind, Arg, Number, Signed, OneUnit, Flag, Text, Area, Clip, WordsOf, WordList, Records}
+use Rattle.con_events.specs.Words.Arg as arg
+use Rattle.con_events.specs.Arg.{Arg, Number, Signed, OneUnit, Flag, Text, Area, Clip, WordsOf, WordList, Records}
+use Rattle.con_events.specs.Words.Arg.{Kind}
 use Rattle.con_events.specs.Reading.{Item, call_from, whole as whole_from}
 use Rattle.con_values.specs.Values.{number_in, unit_in, signed_in, rect_in, clip_in, records_in}
 use Rattle.serde_json.specs.Data.{Data, string, Items, no_items, item}

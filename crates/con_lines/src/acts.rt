@@ -5,7 +5,7 @@ ghost use Rattle.json.specs.Print.{escape};
 ghost use Rattle.serde_json.specs.Data.{string};
 ghost use Rattle.con_lines.specs.Shown.{list_of, shown};
 ghost use Rattle.con_events.specs.Table.{wanted_spelled};
-ghost use Rattle.con_lines.specs.Form.{event_name};
+ghost use Rattle.con_lines.specs.Words.Form.{event_name};
 ghost use Rattle.con_lines.specs.Line.{actor_text, event_data};
 ghost use Rattle.con_lines.specs.Writing.{put, put_each};
 

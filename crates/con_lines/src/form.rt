@@ -1,7 +1,8 @@
 //! What an event is answered with.
 
 ghost use Rattle.std.specs.Prelude.{◌≡◌};
-ghost use Rattle.con_lines.specs.Form.{form_of, call_form};
+ghost use Rattle.con_lines.specs.Form.{form_of};
+ghost use Rattle.con_lines.specs.Words.Form.{call_form};
 
 use con_events::{Call, Event, Form};
 

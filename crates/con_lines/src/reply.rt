@@ -3,7 +3,8 @@
 ghost use Rattle.std.specs.Prelude.{◌≡◌, List, [], ◌∷◌, IfOk, map};
 ghost use Rattle.json.specs.Print.{escape};
 ghost use Rattle.serde_json.specs.Data.{string};
-ghost use Rattle.con_lines.specs.Shown.{list_of, natural as natural_data, whole as whole_data, units_text, rect_data, records_data, cell_words};
+ghost use Rattle.con_lines.specs.Shown.{list_of, natural as natural_data, whole as whole_data, units_text, rect_data, cell_words};
+ghost use Rattle.con_lines.specs.Words.Shown.{records_data};
 ghost use Rattle.con_lines.specs.Line.{ok as ok_data, number_and_flag as number_and_flag_data, numbers_data, reply_data};
 ghost use Rattle.con_lines.specs.Writing.{put, put_each};
 

@@ -4,7 +4,8 @@ ghost use Rattle.std.specs.Prelude.{◌≡◌, List, [], ◌∷◌, IfOk, map};
 ghost use Rattle.json.specs.Print.{escape};
 ghost use Rattle.serde_json.specs.Data.{boolean, string};
 ghost use Rattle.con_events.specs.Arg.{Number, Signed, OneUnit, Flag, Text, Area, Clip, WordsOf, WordList, Records};
-ghost use Rattle.con_lines.specs.Shown.{list_of, whole as whole_data, rect_data, record_data, records_data};
+ghost use Rattle.con_lines.specs.Shown.{list_of, whole as whole_data, rect_data, record_data};
+ghost use Rattle.con_lines.specs.Words.Shown.{records_data};
 ghost use Rattle.con_lines.specs.Writing.{put, put_each, put_arg};
 
 use crate::line::Line;

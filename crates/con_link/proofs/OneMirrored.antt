@@ -13,7 +13,7 @@ use Rattle.con_link.specs.declared.mirror.MirrorFrame.{MirrorFrame}
 use Rattle.con_link.specs.declared.mirror.MirrorFrame.TheVariants.{Plain, Attach, Detach}
 use Rattle.con_link.specs.Frames.{spelling, is_frame}
 use Rattle.con_link.specs.Walked.{is_part, is_less, is_tag, is_bad_tag, Takes}
-use Rattle.con_link.specs.Mirrored.{mirror_spelling, is_mirror_frame}
+use Rattle.con_link.specs.Words.Mirrored.{mirror_spelling, is_mirror_frame}
 use Rattle.con_link.specs.Walked.{is_mirror_less, is_mirror_part, is_bad_mirror_tag, MirrorTakes}
 use Rattle.con_link.specs.MirrorOnly.{OneMirrorFrame, OneMirrorAnswer, is_mirror_told}
 use Rattle.con_link.specs.Only.{is_told}

@@ -14,7 +14,7 @@ use Rattle.con_link.specs.declared.mirror.MirrorFrame.TheVariants.{Plain, Attach
 use Rattle.con_link.specs.Frames.{spelling}
 use Rattle.con_link.specs.LinkReading.{plainly, mirrored, is_part_of_bytes, is_sized, AnswersBy, ShowsBy}
 use Rattle.con_link.specs.LinkReading as reading
-use Rattle.con_link.specs.Mirrored.{mirror_spelling}
+use Rattle.con_link.specs.Words.Mirrored.{mirror_spelling}
 use Rattle.con_link.specs.Walked.{is_tag, is_bad_tag, is_part, is_less, Takes, Fails, is_mirror_tag, is_bad_mirror_tag, is_mirror_part, is_mirror_less, MirrorTakes, MirrorFails}
 
 -- ---- another first byte

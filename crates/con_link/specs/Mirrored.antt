@@ -12,14 +12,3 @@ abbrev pub row : MirrorFrame → List ℕ × Bool × Frame
 row (Plain frame) = (spelling frame, is_frame frame, frame)
 row (Attach size) = (65 ∷ drop 1 (spelling (Resize size)), is_frame (Resize size), Ask)
 row Detach = (68 ∷ [], true, Ask)
-
--- ---- each alone
-
-abbrev pub mirror_spelling : MirrorFrame → List ℕ
-mirror_spelling f = (row f).0
-
-abbrev pub is_mirror_frame : MirrorFrame → Bool
-is_mirror_frame f = (row f).1
-
-abbrev pub as_plain : MirrorFrame → Frame
-as_plain f = (row f).2

@@ -11,7 +11,7 @@ use Rattle.con_link.specs.declared.fill.Filled.TheVariants as fills
 use Rattle.con_link.specs.declared.mirror.MirrorFrame.{MirrorFrame}
 use Rattle.con_link.specs.Frames.{two, is_length, is_size, spelling, is_frame, IsEnd}
 use Rattle.con_link.specs.LinkReading.{is_part_of_bytes}
-use Rattle.con_link.specs.Mirrored.{mirror_spelling, is_mirror_frame, as_plain}
+use Rattle.con_link.specs.Words.Mirrored.{mirror_spelling, is_mirror_frame, as_plain}
 
 -- ---- a buffer that is filled
 

@@ -4,8 +4,9 @@ use Rattle.std.specs.Prelude.{remove}
 use Rattle.std.specs.List.{position_or_len}
 use Rattle.con_alias.proofs.Entries.{with-full}
 use Rattle.con_alias.proofs.Removal.{removed-first}
-use Rattle.con_alias.specs.Aliases.{Entry, AliasList, entry_of, find_entry, without_entry, with_entry, is_full, entries_in, is_known, changed_in, is_bad, is_no_source, is_over, alias_at, added, add_answer, removed, remove_answer}
-use Rattle.con_units.specs.Units.{same_units}
+use Rattle.con_alias.specs.Aliases.{Entry, AliasList, find_entry, with_entry, is_full, entries_in, changed_in, is_bad, is_no_source, alias_at, added, add_answer, removed, remove_answer}
+use Rattle.con_alias.specs.Words.Aliases.{entry_of, without_entry, is_known, is_over}
+use Rattle.con_units.specs.Words.Units.{same_units}
 use Rattle.con_alias.specs.Aliases.{same_name}
 use Rattle.con_units.specs.declared.code.Code.TheVariants as code
 use Rattle.con_machine.specs.LineCalls.{added_alias, removed_alias}

@@ -4,7 +4,8 @@ use Rattle.std.specs.Prelude.{fold, option_to_list, if◌then◌else◌}
 use Rattle.std.proofs.Math.Seq.{drop-cons}
 use Rattle.std.proofs.lemmas.List.{length-map, drop_all}
 use Rattle.std.proofs.lemmas.List.Sums.{fold-append}
-use Rattle.con_units.specs.Split.{Split, next, ended as split_ended}
+use Rattle.con_units.specs.Split.{Split, next}
+use Rattle.con_units.specs.Words.Split.{ended as split_ended}
 use Rattle.con_records.specs.declared.record.Key.{Key}
 use Rattle.con_records.specs.declared.record.Record.{Record}
 use Rattle.con_records.specs.declared.record.Record.TheVariants as kinds
@@ -13,15 +14,20 @@ use Rattle.con_mouse.specs.Reports.{report_of}
 use Rattle.con_mouse.specs.declared.report.Report.{Report}
 use Rattle.con_readers.specs.Act.{Act, began, typed, passed, ended, woke}
 use Rattle.con_readers.specs.Reads.{settled}
-use Rattle.con_vtin.specs.Keys.{grammar, is_front, whole}
-use Rattle.con_vtin.specs.Pieces.{Piece, piece_grammar, typed as keys_typed, ended_piece, ended_by, is_control, gives_none, IsReadInPieces}
-use Rattle.con_vtin.specs.Sequences.{key_units, sent}
+use Rattle.con_vtin.specs.Keys.{is_front, whole}
+use Rattle.con_vtin.specs.Words.Keys.{grammar}
+use Rattle.con_vtin.specs.Pieces.{Piece, piece_grammar, typed as keys_typed, is_control, gives_none}
+use Rattle.con_vtin.specs.Words.Pieces.{ended_piece, ended_by, IsReadInPieces}
+use Rattle.con_vtin.specs.Sequences.{key_units}
+use Rattle.con_vtin.specs.Words.Sequences.{sent}
 use Rattle.con_machine.specs.State.{State, noted_of}
 use Rattle.con_machine.specs.Outcome.{has_bit}
 use Rattle.con_machine.specs.ScreenCalls.{reported}
-use Rattle.con_machine.specs.Serving.{followed, line_shown, line_finished, shows_line, settled_state}
+use Rattle.con_machine.specs.Serving.{followed, settled_state}
+use Rattle.con_machine.specs.Words.Serving.{line_shown, line_finished, shows_line}
 use Rattle.con_machine.specs.Signals.{signalled_to}
-use Rattle.con_machine.specs.Terminal.{is_break, key_taken, piece_taken, records_of, released_key}
+use Rattle.con_machine.specs.Terminal.{is_break, key_taken, piece_taken, records_of}
+use Rattle.con_machine.specs.Words.Terminal.{released_key}
 use Rattle.con_machine.specs.Feeding.{byte_taken, stored_count, told_report, report_taken_in}
 use Rattle.con_machine.specs.declared.reads.noted.Noted.{Noted}
 use Rattle.con_machine.specs.FeedingLaws.{pieces_held}

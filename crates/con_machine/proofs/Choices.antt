@@ -14,9 +14,12 @@ use Rattle.con_rects.specs.Rules.{rect_written}
 use Rattle.con_screen.specs.ModeSet.{mode_set}
 use Rattle.con_screens.specs.Buffers.{Buffers, screen_at}
 use Rattle.con_screens.specs.Lending.{screen_left}
-use Rattle.con_machine.specs.CellCalls.{are_cells, cells_for, cells_of, rect_answer, sides_of, with_cells, wrote_rect}
-use Rattle.con_machine.specs.Outcome.{Outcome, buffer_of, by_answer, by_result, checked, done, guard, on_buffer, refused, with_object}
-use Rattle.con_machine.specs.ScreenCalls.{is_size, mode_changed, refitted_at, set_mode, set_size, with_screen}
+use Rattle.con_machine.specs.CellCalls.{are_cells, cells_for, cells_of, with_cells}
+use Rattle.con_machine.specs.Words.CellCalls.{rect_answer, sides_of, wrote_rect}
+use Rattle.con_machine.specs.Outcome.{Outcome, buffer_of, by_answer, checked, done, guard, on_buffer, refused}
+use Rattle.con_machine.specs.Words.Outcome.{by_result, with_object}
+use Rattle.con_machine.specs.ScreenCalls.{mode_changed, with_screen}
+use Rattle.con_machine.specs.Words.ScreenCalls.{is_size, refitted_at, set_mode, set_size}
 use Rattle.con_machine.specs.State.{State}
 
 -- a call on a buffer, where its handle serves

@@ -4,13 +4,14 @@ use Rattle.std.specs.Prelude.{◌==◌, ◌&&◌, not, filter, option_map}
 use Rattle.std.specs.List.{find}
 use Rattle.std.proofs.lemmas.Bool.Decides.{nat_tests}
 use Rattle.con_handles.specs.CountLaws.{count_laws}
-use Rattle.con_handles.specs.Handles.{Table, is_at, is_owned, least_of, taken, taken_of, without}
+use Rattle.con_handles.specs.Handles.{is_at, is_owned, without}
+use Rattle.con_handles.specs.Words.Handles.{Table, least_of, taken, taken_of}
 use Rattle.con_handles.specs.Tables.{IsTable, tally}
 use Rattle.con_handles.specs.declared.handle.Handle.{Handle}
 use Rattle.con_handles.specs.declared.handle.Object.{Object}
 use Rattle.con_screens.specs.Buffers.{Buffers}
-use Rattle.con_machine.specs.HandleCalls.{released}
-use Rattle.con_machine.specs.Reads.{released_all}
+use Rattle.con_machine.specs.Words.HandleCalls.{released}
+use Rattle.con_machine.specs.Words.Reads.{released_all}
 
 absent : (t : Handle → Bool) (hs : List Handle) → tally t hs ≡ 0 → filter (λ h. not (t h)) hs ≡ hs
 absent t [] e = refl

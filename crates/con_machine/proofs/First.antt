@@ -5,9 +5,11 @@ use Rattle.std.specs.Option.{option_map_or}
 use Rattle.std.proofs.lemmas.Bool.Decides.{nat_tests}
 use Rattle.std.proofs.Math.Seq.{drop-cons}
 use Rattle.std.proofs.lemmas.Bool.{and_parts}
-use Rattle.con_events.specs.Session.{is_within, all_scripts, step_count, are_scripts}
+use Rattle.con_events.specs.Session.{is_within}
+use Rattle.con_events.specs.Words.Session.{all_scripts, step_count, are_scripts}
 use Rattle.con_events.specs.declared.script.Script.{Script}
-use Rattle.con_handles.specs.Handles.{entered, is_used, free_from, new_number, opened_at}
+use Rattle.con_handles.specs.Handles.{entered, free_from, new_number}
+use Rattle.con_handles.specs.Words.Handles.{is_used, opened_at}
 use Rattle.con_handles.specs.Tables.{tally, on}
 use Rattle.con_handles.specs.declared.handle.Handle.{Handle}
 use Rattle.con_handles.specs.declared.handle.Object.{Object}
@@ -17,7 +19,8 @@ use Rattle.con_screens.specs.Buffers.{Buffers, first_buffers, handles_of}
 use Rattle.con_screens.specs.declared.buffer.Buffer.{Buffer}
 use Rattle.con_machine.specs.Opened.{AreBefore, opened_ones}
 use Rattle.con_machine.specs.Sound.{AreCounted, stands_for}
-use Rattle.con_machine.specs.State.{first_handles, handles_from, id_of, start_of, starts_of, first_or_none, behind_first}
+use Rattle.con_machine.specs.State.{handles_from, id_of, starts_of}
+use Rattle.con_machine.specs.Words.State.{first_handles, start_of, first_or_none, behind_first}
 
 abbrev one : ℕ → ℕ → Object → Handle
 one p n o = record { process = p; number = n; object = o; rights = 3 }

@@ -3,13 +3,16 @@ use Rattle.std.proofs.Common.{◌≡◌, ℕ, Bool, true, false, cond, List, ◌
 use Rattle.std.specs.Prelude.{◌<◌, fold, not, is_some}
 use Rattle.con_cooked.specs.declared.cooked.Cooked.{Cooked}
 use Rattle.con_cooked.specs.declared.progress.Echo.{Echo}
-use Rattle.con_cooked.specs.Cooked.{line_of, echo_between}
+use Rattle.con_cooked.specs.Cooked.{line_of}
+use Rattle.con_cooked.specs.Words.Cooked.{echo_between}
 use Rattle.con_records.specs.declared.record.Record.{Record}
 use Rattle.con_history.specs.Histories.{LineHistories}
 use Rattle.con_alias.specs.Aliases.{AliasList}
-use Rattle.con_readers.specs.Act.{Act, began, typed, passed, ended, woke, IsOf}
+use Rattle.con_readers.specs.Act.{Act, began, typed, passed, ended, woke}
+use Rattle.con_readers.specs.Words.Act.{IsOf}
 use Rattle.con_readers.specs.Lines.{line_text}
-use Rattle.con_readers.specs.Reads.{Pumped, Settled, settled, settled_after, after_act, before, head_text, work}
+use Rattle.con_readers.specs.Reads.{Settled, settled}
+use Rattle.con_readers.specs.Words.Reads.{Pumped, settled_after, after_act, before, head_text, work}
 use Rattle.con_readers.specs.declared.step.ReadStep.{ReadStep}
 use Rattle.con_readers.specs.declared.step.ReadStep.TheVariants as steps
 use Rattle.con_readers.specs.declared.open.Open.{Open}
@@ -19,7 +22,8 @@ use Rattle.con_screens.specs.Buffers.{Buffers, screen_at}
 use Rattle.con_screens.specs.Lending.{screen_left}
 use Rattle.con_machine.specs.State.{State, noted_of}
 use Rattle.con_machine.specs.ScreenCalls.{page_of, with_page}
-use Rattle.con_machine.specs.Serving.{followed, line_shown, line_finished, shows_line, with_echo, note_changed, settled_state, settled_from}
+use Rattle.con_machine.specs.Serving.{followed, note_changed, settled_state}
+use Rattle.con_machine.specs.Words.Serving.{line_shown, line_finished, shows_line, with_echo, settled_from}
 use Rattle.con_machine.specs.Pumping.{pumped_of, with_pumped, followed_by, stepped, IsTold}
 use Rattle.con_machine.specs.declared.reads.noted.Noted.{Noted}
 

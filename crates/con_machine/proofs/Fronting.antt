@@ -2,7 +2,8 @@
 use Rattle.std.proofs.Common.{◌≡◌, ℕ, zero, suc, ◌+◌, ◌-◌, ◌<◌, ◌≤◌, Bool, true, false, cond, List, [], ◌∷◌, length, take, drop, min, get_or, refl, sym, ap, ◌∙◌, arith, length-drop}
 use Rattle.std.proofs.Math.Seq.{drop-cons}
 use Rattle.std.proofs.lemmas.List.{take_all}
-use Rattle.con_machine.specs.Reads.{ends_line, line_front}
+use Rattle.con_machine.specs.Reads.{line_front}
+use Rattle.con_machine.specs.Words.Reads.{ends_line}
 
 one_more : (m u : ℕ) (us : List ℕ) → ends_line u us ≡ false → suc (line_front m us) ≡ line_front (suc m) (u ∷ us)
 unfolding line_front

@@ -6,18 +6,21 @@ use Rattle.con_units.specs.declared.code.Code.{Code}
 use Rattle.con_units.specs.declared.code.Code.TheVariants as code
 use Rattle.con_units.specs.declared.place.Coord.{Coord}
 use Rattle.con_units.specs.declared.place.Rect.{Rect}
-use Rattle.con_grid.specs.Picture.{Picture, IsPicture}
+use Rattle.con_grid.specs.Picture.{Picture}
+use Rattle.con_grid.specs.Words.Picture.{IsPicture}
 use Rattle.con_rects.specs.Rules.{redrawn, rect_written}
 use Rattle.con_rects.specs.Runs.{units_written, words_written, unit_filled, word_filled}
 use Rattle.con_rects.specs.Scroll.{scrolled}
-use Rattle.con_page.specs.Page.{Page, IsPage}
+use Rattle.con_page.specs.Page.{Page}
+use Rattle.con_page.specs.Words.Page.{IsPage}
 use Rattle.con_screen.specs.Screen.{Screen}
 use Rattle.con_page.specs.Sides.{Sides, sides}
-use Rattle.con_screens.specs.Buffers.{Buffers, AreBuffers, IsLive, screen_at}
+use Rattle.con_screens.specs.Buffers.{Buffers, screen_at}
+use Rattle.con_screens.specs.Words.Buffers.{AreBuffers, IsLive}
 use Rattle.con_screens.specs.Lending.{screen_left}
 use Rattle.con_screens.specs.LentLaws.{lent_keeps, left_same, screen_has}
 use Rattle.con_screens.specs.StampLaws.{remembers}
-use Rattle.con_screens.specs.Stamps.{all_remembered}
+use Rattle.con_screens.specs.Words.Stamps.{all_remembered}
 
 abbrev with_grid : Screen → Picture → Screen
 with_grid s g = record s { page = record s.page { grid = g } }

@@ -5,12 +5,14 @@ use Rattle.std.proofs.Math.Seq.{take-append_seam}
 use Rattle.con_records.specs.declared.record.Key.{Key}
 use Rattle.con_records.specs.declared.record.Record.{Record}
 use Rattle.con_records.specs.declared.record.Record.TheVariants as kinds
-use Rattle.con_vtin.specs.Sequences.{key_units, padded}
+use Rattle.con_vtin.specs.Sequences.{key_units}
+use Rattle.con_vtin.specs.Words.Sequences.{padded}
 use Rattle.con_vtin.specs.declared.sequence.Sequence.{Sequence}
 use Rattle.con_machine.specs.Outcome.{has_bit}
 use Rattle.con_machine.specs.ScreenCalls.{reported}
 use Rattle.con_machine.specs.State.{State}
-use Rattle.con_machine.specs.Terminal.{records_of, released_key}
+use Rattle.con_machine.specs.Terminal.{records_of}
+use Rattle.con_machine.specs.Words.Terminal.{released_key}
 
 chosen : (b : Bool) (xs ys : List Record) → b ≡ true → xs ≡ (if b then xs else ys)
 chosen true xs ys e = refl

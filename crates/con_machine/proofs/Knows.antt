@@ -8,18 +8,20 @@ use Rattle.std.proofs.lemmas.Grind.{replicate_next}
 use Rattle.std.proofs.lemmas.List.{get_or_append_left}
 use Rattle.con_units.specs.declared.view.View.{View}
 use Rattle.con_page.specs.Sides.{Sides, sides}
-use Rattle.con_screens.specs.Buffers.{Buffers, AreBuffers, buffer_at, screen_at}
-use Rattle.con_screens.specs.Stamps.{Remembered, remembered, all_remembered, WasShown, IsAsShown}
+use Rattle.con_screens.specs.Buffers.{Buffers, buffer_at, screen_at}
+use Rattle.con_screens.specs.Words.Buffers.{AreBuffers}
+use Rattle.con_screens.specs.Words.Stamps.{Remembered, remembered, all_remembered, WasShown, IsAsShown}
 use Rattle.con_screens.specs.StampLaws.{remembers_shown}
 use Rattle.con_screens.specs.Lending.{screen_left}
 use Rattle.con_screens.specs.Stamps.{numbered}
 use Rattle.con_screens.specs.View.{view_of}
 use Rattle.con_screens.specs.declared.buffer.Buffer.{Buffer}
-use Rattle.con_machine.specs.ScreenCalls.{page_at}
+use Rattle.con_machine.specs.Words.ScreenCalls.{page_at}
 use Rattle.con_machine.specs.Sound.{IsPaintedOf, IsPainted, side_of}
 use Rattle.con_machine.specs.State.{State}
 use Rattle.con_machine.specs.Marks.{seen_at, IsSameRow, AreMarks}
-use Rattle.con_machine.specs.Painting.{view_now, next_number, stamped}
+use Rattle.con_machine.specs.Painting.{view_now, stamped}
+use Rattle.con_machine.specs.Words.Painting.{next_number}
 use Rattle.con_machine.specs.declared.painting.seen.Seen.{Seen}
 
 looked : (xs : List (Option Buffer)) (k : ℕ) → get_or (map (option_map remembered) xs) k None ≡ option_map remembered (get_or xs k None)

@@ -1,7 +1,8 @@
 -- A list that is told item by item.
 use Rattle.std.proofs.Common.{◌≡◌, ℕ, ◌+◌, ◌<◌, List, [], ◌∷◌, ◌++◌, length, take, get_or, map, append_assoc, refl, ap, sym, ◌∙◌}
 use Rattle.std.proofs.lemmas.List.{take_more, map_more}
-use Rattle.con_alias.specs.Aliases.{Entry, entry_of}
+use Rattle.con_alias.specs.Aliases.{Entry}
+use Rattle.con_alias.specs.Words.Aliases.{entry_of}
 use Rattle.con_machine.specs.LineCalls.{pair_of}
 
 -- one item more

@@ -12,7 +12,8 @@ use Rattle.con_handles.specs.declared.handle.Handle.{Handle}
 use Rattle.con_handles.specs.declared.handle.Kind.{Kind}
 use Rattle.con_handles.specs.declared.handle.Object.{Object}
 use Rattle.con_handles.specs.declared.handle.Object.TheVariants as object
-use Rattle.con_screens.specs.Buffers.{Buffers, AreBuffers, IsLive, buffer_at}
+use Rattle.con_screens.specs.Buffers.{Buffers, buffer_at}
+use Rattle.con_screens.specs.Words.Buffers.{AreBuffers, IsLive}
 use Rattle.con_screens.specs.declared.buffer.Buffer.{Buffer}
 use Rattle.con_machine.specs.Sound.{stands_for, AreCounted, HasLive}
 

@@ -6,14 +6,16 @@ use Rattle.con_units.specs.declared.code.Code.{Code}
 use Rattle.con_units.specs.declared.code.Code.TheVariants as code
 use Rattle.con_units.specs.declared.view.BufferId.{BufferId}
 use Rattle.con_handles.specs.CountLaws.{count_laws}
-use Rattle.con_handles.specs.Handles.{Table, entered, opened, opened_at, new_number}
+use Rattle.con_handles.specs.Handles.{entered, new_number}
+use Rattle.con_handles.specs.Words.Handles.{Table, opened, opened_at}
 use Rattle.con_handles.specs.Tables.{IsTable, tally, on}
 use Rattle.con_handles.specs.declared.handle.Handle.{Handle}
 use Rattle.con_handles.specs.declared.handle.Object.{Object}
 use Rattle.con_handles.specs.declared.handle.Object.TheVariants as object
 use Rattle.con_screens.specs.Buffers.{Buffers, handles_of, created, free_id}
 use Rattle.con_screens.specs.HandleLaws.{retained_handles, released_handles, created_handles}
-use Rattle.con_machine.specs.HandleCalls.{retained, released, created_buffer, buffer_made}
+use Rattle.con_machine.specs.HandleCalls.{buffer_made}
+use Rattle.con_machine.specs.Words.HandleCalls.{retained, released, created_buffer}
 use Rattle.con_machine.specs.Outcome.{refused, are_rights}
 use Rattle.con_machine.specs.Sound.{stands_for, AreCounted, HasLive}
 use Rattle.con_machine.specs.State.{State}

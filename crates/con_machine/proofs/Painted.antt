@@ -7,10 +7,11 @@ use Rattle.std.proofs.lemmas.List.Quantifiers.{position-Some}
 use Rattle.con_units.specs.declared.view.View.{View}
 use Rattle.con_handles.specs.declared.handle.Object.{Object}
 use Rattle.con_handles.specs.declared.handle.Object.TheVariants as object
-use Rattle.con_screens.specs.Buffers.{Buffers, created, free_id, handle_released, handles_of, with_handles, buffer_at, with_buffer, gone}
-use Rattle.con_screens.specs.Stamps.{Remembered, remembered, all_remembered}
+use Rattle.con_screens.specs.Buffers.{Buffers, created, free_id, handle_released, handles_of, buffer_at, with_buffer, gone}
+use Rattle.con_screens.specs.Words.Buffers.{with_handles}
+use Rattle.con_screens.specs.Words.Stamps.{Remembered, remembered, all_remembered}
 use Rattle.con_screens.specs.declared.buffer.Buffer.{Buffer}
-use Rattle.con_machine.specs.HandleCalls.{released}
+use Rattle.con_machine.specs.Words.HandleCalls.{released}
 use Rattle.con_machine.specs.Sound.{IsPaintedOf, IsPainted, known_without}
 use Rattle.con_machine.specs.declared.painting.seen.Seen.{Seen}
 

@@ -10,7 +10,8 @@ use Rattle.con_units.specs.declared.place.Rect.{Rect}
 use Rattle.con_events.specs.declared.call.Words.{Words}
 use Rattle.con_events.specs.declared.call.Words.TheVariants as words
 use Rattle.con_rects.specs.Area.{cell_count}
-use Rattle.con_machine.specs.CellCalls.{paired, cells_for, are_words, are_cells}
+use Rattle.con_machine.specs.CellCalls.{cells_for, are_words, are_cells}
+use Rattle.con_machine.specs.Words.CellCalls.{paired}
 
 pub one_word : (us : List ℕ) (w : ℕ) → map (λ u. cell_of u (plain w)) us ≡ paired us (replicate (length us) w)
 one_word [] w = refl

@@ -22,12 +22,15 @@ use Rattle.con_readers.specs.declared.open.OpenRead.TheVariants as reads
 use Rattle.con_records.specs.declared.record.Record.{Record}
 use Rattle.con_machine.specs.Call.{called}
 use Rattle.con_machine.specs.CallLaws.{stands}
-use Rattle.con_machine.specs.HandleCalls.{owned, handle_closed}
+use Rattle.con_machine.specs.Words.HandleCalls.{owned, handle_closed}
 use Rattle.con_machine.specs.Marks.{told}
-use Rattle.con_machine.specs.Outcome.{Outcome, refused, answered, done, by_answer, while_open, guard, has_bit, with_object, buffer_of}
-use Rattle.con_machine.specs.ProcessCalls.{is_no_signal, on_place}
-use Rattle.con_machine.specs.Reads.{began, began_line, began_units, history_used, with_read, read_answer, records_answer, collected, took_ctrl, answer_told}
-use Rattle.con_machine.specs.ScreenCalls.{written_to}
+use Rattle.con_machine.specs.Outcome.{Outcome, refused, answered, done, by_answer, while_open, guard, has_bit, buffer_of}
+use Rattle.con_machine.specs.Words.Outcome.{with_object}
+use Rattle.con_machine.specs.ProcessCalls.{is_no_signal}
+use Rattle.con_machine.specs.Words.ProcessCalls.{on_place}
+use Rattle.con_machine.specs.Reads.{began, began_line, with_read, collected, took_ctrl, answer_told}
+use Rattle.con_machine.specs.Words.Reads.{began_units, history_used, read_answer, records_answer}
+use Rattle.con_machine.specs.Words.ScreenCalls.{written_to}
 use Rattle.con_machine.specs.Signals.{signalled_to}
 use Rattle.con_machine.specs.State.{State, noted_of, without_noted}
 use Rattle.con_machine.specs.Step.{effect}

@@ -2,7 +2,8 @@
 use Rattle.std.proofs.Common.{◌≡◌, ℕ, Bool, true, false, cond, ◌||◌, List, [], ◌∷◌, ap, refl, sym}
 use Rattle.std.specs.List.{list_any}
 use Rattle.con_units.specs.Units.{changed_where}
-use Rattle.con_machine.specs.State.{is_rest_of, with_rest, has_rest}
+use Rattle.con_machine.specs.State.{is_rest_of, with_rest}
+use Rattle.con_machine.specs.Words.State.{has_rest}
 use Rattle.con_machine.specs.declared.reads.rest.Rest.{Rest}
 
 none_step : {X : Type 0} (b any : Bool) (x y : X) (xs ys : List X) → (b || any) ≡ false → (any ≡ false → ys ≡ xs) → cond b (y ∷ xs) (x ∷ ys) ≡ x ∷ xs

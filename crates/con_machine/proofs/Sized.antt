@@ -4,9 +4,9 @@ use Rattle.std.specs.Prelude.{◌==◌}
 use Rattle.std.proofs.lemmas.Bool.{and_parts}
 use Rattle.std.proofs.lemmas.Bool.Decides.{nat_tests}
 use Rattle.con_units.specs.declared.place.Size.{Size}
-use Rattle.con_page.specs.Fit.{Fit}
+use Rattle.con_page.specs.Words.Fit.{Fit}
 use Rattle.con_screens.specs.Buffers.{Buffers, is_alternate}
-use Rattle.con_machine.specs.ScreenCalls.{is_size}
+use Rattle.con_machine.specs.Words.ScreenCalls.{is_size}
 
 last_of : (a b c d e : Bool) → (a && b && c && d && e) ≡ true → e ≡ true
 last_of true true true true e h = h

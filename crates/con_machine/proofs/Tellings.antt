@@ -16,10 +16,13 @@ use Rattle.con_page.specs.Setters.{info_of}
 use Rattle.con_alias.specs.Aliases.{Entry, alias_at, entries_in}
 use Rattle.con_history.specs.Histories.{lines_of}
 use Rattle.con_machine.specs.State.{State}
-use Rattle.con_machine.specs.Outcome.{Outcome, refused, answered, while_open, guard, with_object, buffer_of}
+use Rattle.con_machine.specs.Outcome.{Outcome, refused, answered, while_open, guard, buffer_of}
+use Rattle.con_machine.specs.Words.Outcome.{with_object}
 use Rattle.con_machine.specs.Call.{called}
-use Rattle.con_machine.specs.ScreenCalls.{mode_in, numbers_of, cursor_numbers, page_of, set_size}
-use Rattle.con_machine.specs.CellCalls.{cells_of, rect_told, run_told, at_place, wrote_rect}
+use Rattle.con_machine.specs.ScreenCalls.{mode_in, page_of}
+use Rattle.con_machine.specs.Words.ScreenCalls.{numbers_of, cursor_numbers, set_size}
+use Rattle.con_machine.specs.CellCalls.{cells_of, run_told, at_place}
+use Rattle.con_machine.specs.Words.CellCalls.{rect_told, wrote_rect}
 use Rattle.con_machine.specs.InputCalls.{peek_told}
 use Rattle.con_machine.specs.LineCalls.{info_numbers, pair_of, told_alias_in, added_alias, removed_alias}
 

@@ -2,7 +2,8 @@
 use Rattle.std.proofs.Common.{◌≡◌, ℕ, zero, suc, ◌+◌, ◌-◌, ◌<◌, ◌≤◌, ◌&&◌, ◌||◌, Bool, true, false, cond, not, List, [], ◌∷◌, length, drop, slice_get, refl, sym, ap, ◌∙◌, arith, add-one, nat_lt}
 use Rattle.std.proofs.lemmas.Bool.Decides.{nat_tests}
 use Rattle.con_procs.proofs.Changes.{drop_past}
-use Rattle.con_procs.specs.Procs.{is_attached, live_in, is_live, ids_from}
+use Rattle.con_procs.specs.Procs.{is_attached, is_live, ids_from}
+use Rattle.con_procs.specs.Words.Procs.{live_in}
 use Rattle.con_procs.specs.declared.proc.Proc.{Proc}
 use Rattle.con_readers.specs.Reads.{has_undone}
 use Rattle.con_readers.specs.declared.open.Open.{Open}

@@ -6,7 +6,8 @@ use Rattle.con_handles.specs.declared.handle.Handle.{Handle}
 use Rattle.con_screen.specs.Laws.{IsToldWithin}
 use Rattle.con_screen.specs.Told.{nothing_told}
 use Rattle.con_screen.specs.Written.{written, switches}
-use Rattle.con_screens.specs.Buffer.{BufferStage, turned, carried, unit_written, written_on, buffer_written, told_on}
+use Rattle.con_screens.specs.Buffer.{BufferStage, turned, unit_written, written_on, buffer_written, told_on}
+use Rattle.con_screens.specs.Words.Buffer.{carried}
 use Rattle.con_screens.specs.Buffers.{Buffers, with_buffer}
 use Rattle.con_screens.specs.declared.buffer.Buffer.{Buffer}
 use Rattle.con_machine.specs.Sound.{AreCounted}

@@ -1,12 +1,14 @@
 -- The memory of a read, and of what is left when one is collected: the code's own words.
 use Rattle.std.specs.Prelude.{◌≡◌, ℕ, true, false, List, [], length, min, Option, None, Some, if◌then◌else◌}
-use Rattle.con_history.specs.Histories.{room_for_use}
+use Rattle.con_history.specs.Words.Histories.{room_for_use}
 use Rattle.con_procs.specs.Procs.{program_of}
 use Rattle.con_readers.specs.declared.answer.Answer.{Answer}
 use Rattle.con_readers.specs.declared.answer.Answer.TheVariants as answers
-use Rattle.con_machine.specs.State.{State, rest_in, has_rest}
+use Rattle.con_machine.specs.State.{State, rest_in}
+use Rattle.con_machine.specs.Words.State.{has_rest}
 use Rattle.con_machine.specs.Outcome.{has_bit}
-use Rattle.con_machine.specs.Reads.{line_front, back_of, part_left, line_read, units_read}
+use Rattle.con_machine.specs.Reads.{line_front, back_of}
+use Rattle.con_machine.specs.Words.Reads.{part_left, line_read, units_read}
 use Rattle.con_machine.specs.declared.reads.noted.Noted.{Noted}
 use Rattle.con_machine.specs.declared.reads.rest.Rest.{Rest}
 use Rattle.con_machine.specs.declared.rooms.read_room.LineRoom.{LineRoom}

@@ -23,7 +23,8 @@ use Rattle.con_procs.specs.Procs.{ids_of, program_of}
 use Rattle.con_procs.specs.declared.proc.Proc.{Proc}
 use Rattle.con_readers.specs.declared.open.Open.{Open}
 use Rattle.con_records.specs.declared.record.Record.{Record}
-use Rattle.con_screens.specs.Buffers.{Buffers, screen_at, free_id, gone, with_buffer, with_handles, handles_of}
+use Rattle.con_screens.specs.Buffers.{Buffers, screen_at, free_id, gone, with_buffer, handles_of}
+use Rattle.con_screens.specs.Words.Buffers.{with_handles}
 use Rattle.con_screen.specs.ModeSet.{mode_set}
 use Rattle.con_page.specs.Setters.{info_of, cursor_set, origin_set, pen_of_word}
 use Rattle.con_rects.specs.Rules.{rect_cells, rect_written}
@@ -33,14 +34,15 @@ use Rattle.con_alias.specs.Aliases as alias
 use Rattle.con_alias.specs.Aliases.{Entry, added, removed, alias_at, entries_in}
 use Rattle.con_history.specs.Histories.{configured, is_refused, cleared, lines_of}
 use Rattle.con_machine.specs.State.{State}
-use Rattle.con_machine.specs.Outcome.{Outcome, refused, answered, done, by_answer, by_result, while_open, guard, with_object, on_input, on_buffer, buffer_of}
-use Rattle.con_machine.specs.Outcome.{are_rights, checked}
+use Rattle.con_machine.specs.Outcome.{Outcome, refused, answered, done, by_answer, while_open, guard, on_input, on_buffer, buffer_of, are_rights, checked}
+use Rattle.con_machine.specs.Words.Outcome.{by_result, with_object}
 use Rattle.con_machine.specs.Call.{called}
-use Rattle.con_machine.specs.HandleCalls.{opened, opened_at, buffer_made, handle_with, retained, released}
-use Rattle.con_machine.specs.ScreenCalls.{mode_in, numbers_of, is_size, refitted_at, is_place, cursor_numbers, is_origin, mode_changed, is_input_mode}
-use Rattle.con_machine.specs.ScreenCalls.{with_screen, with_page, page_of}
-use Rattle.con_machine.specs.CellCalls.{cells_of, with_cells, is_over, used_in, used_of, rect_told, rect_answer, cells_for, sides_of, are_cells, run_told}
-use Rattle.con_machine.specs.CellCalls.{at_place, run_answer}
+use Rattle.con_machine.specs.HandleCalls.{opened, buffer_made, handle_with}
+use Rattle.con_machine.specs.Words.HandleCalls.{opened_at, retained, released}
+use Rattle.con_machine.specs.ScreenCalls.{mode_in, mode_changed, is_input_mode, with_screen, with_page, page_of}
+use Rattle.con_machine.specs.Words.ScreenCalls.{numbers_of, is_size, refitted_at, is_place, cursor_numbers, is_origin}
+use Rattle.con_machine.specs.CellCalls.{cells_of, with_cells, cells_for, are_cells, run_told, at_place, run_answer}
+use Rattle.con_machine.specs.Words.CellCalls.{is_over, used_in, used_of, rect_told, rect_answer, sides_of}
 use Rattle.con_machine.specs.InputCalls.{peek_told}
 use Rattle.con_machine.specs.LineCalls.{info_numbers, pair_of, told_alias_in}
 use Rattle.con_machine.specs.Marks.{told}

@@ -6,17 +6,18 @@ use Rattle.con_events.specs.declared.call.Call.{Call}
 use Rattle.con_events.specs.declared.call.Call.TheVariants as calls
 use Rattle.con_events.specs.declared.call.Words.{Words}
 use Rattle.con_handles.specs.declared.handle.Kind.TheVariants as kind
-use Rattle.con_history.specs.Histories.{room_for_configure}
+use Rattle.con_history.specs.Words.Histories.{room_for_configure}
 use Rattle.con_screen.specs.Told.{nothing_told}
-use Rattle.con_screens.specs.Buffers.{IsRoom}
-use Rattle.con_machine.specs.CellCalls.{are_cells, read_rect, read_run_units, read_run_words}
+use Rattle.con_screens.specs.Words.Buffers.{IsRoom}
+use Rattle.con_machine.specs.CellCalls.{are_cells}
+use Rattle.con_machine.specs.Words.CellCalls.{read_rect, read_run_units, read_run_words}
 use Rattle.con_machine.specs.Held.{Held}
 use Rattle.con_machine.specs.InputCalls.{peeked, counted}
 use Rattle.con_machine.specs.LineCalls.{told_history_info, listed_history, told_alias, listed_aliases}
 use Rattle.con_machine.specs.Outcome.{Outcome, guard}
-use Rattle.con_machine.specs.ProcessCalls.{listed_processes}
+use Rattle.con_machine.specs.Words.ProcessCalls.{listed_processes}
 use Rattle.con_machine.specs.Rooms.{IsRectRoom, IsSizeRoom}
-use Rattle.con_machine.specs.ScreenCalls.{told_mode, told_info, told_cursor, told_title}
+use Rattle.con_machine.specs.Words.ScreenCalls.{told_mode, told_info, told_cursor, told_title}
 use Rattle.con_machine.specs.declared.rooms.call_room.CallRoom.{CallRoom}
 use Rattle.con_machine.specs.declared.rooms.call_room.CallRoom.TheVariants as rooms
 

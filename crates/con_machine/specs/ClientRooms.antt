@@ -9,7 +9,7 @@ use Rattle.con_readers.specs.Reads.{answer_in, place_of}
 use Rattle.con_machine.specs.Began.{IsBeginning, HasBack}
 use Rattle.con_machine.specs.CallRooms.{IsCallRoom}
 use Rattle.con_machine.specs.Held.{Held}
-use Rattle.con_machine.specs.Reads.{read_answer, records_answer}
+use Rattle.con_machine.specs.Words.Reads.{read_answer, records_answer}
 use Rattle.con_machine.specs.State.{noted_of}
 use Rattle.con_machine.specs.declared.rooms.client_room.ClientRoom.{ClientRoom}
 use Rattle.con_machine.specs.declared.rooms.client_room.ClientRoom.TheVariants as rooms

@@ -49,18 +49,24 @@ use Rattle.con_screen.specs.Echo.{Echoed, echoed}
 use Rattle.con_screens.specs.Buffers.{Buffers, screen_at}
 use Rattle.con_screens.specs.Resize.{all_resized}
 use Rattle.con_machine.specs.State.{State, rest_in, noted_of, without_noted}
-use Rattle.con_machine.specs.Outcome.{Outcome, refused, answered, done, by_answer, while_open, guard, guarded, with_object, buffer_of, has_bit}
-use Rattle.con_machine.specs.HandleCalls.{owned, handle_closed, released}
-use Rattle.con_machine.specs.ScreenCalls.{page_of, with_page, written_to}
-use Rattle.con_machine.specs.ProcessCalls.{is_no_signal, on_place}
+use Rattle.con_machine.specs.Outcome.{Outcome, refused, answered, done, by_answer, while_open, guard, buffer_of, has_bit}
+use Rattle.con_machine.specs.Words.Outcome.{guarded, with_object}
+use Rattle.con_machine.specs.Words.HandleCalls.{owned, handle_closed, released}
+use Rattle.con_machine.specs.ScreenCalls.{page_of, with_page}
+use Rattle.con_machine.specs.Words.ScreenCalls.{written_to}
+use Rattle.con_machine.specs.ProcessCalls.{is_no_signal}
+use Rattle.con_machine.specs.Words.ProcessCalls.{on_place}
 use Rattle.con_machine.specs.Call.{called}
-use Rattle.con_machine.specs.Serving.{followed, settled_state, line_shown, line_finished, shows_line, with_echo}
+use Rattle.con_machine.specs.Serving.{followed, settled_state}
+use Rattle.con_machine.specs.Words.Serving.{line_shown, line_finished, shows_line, with_echo}
 use Rattle.con_machine.specs.Signals.{signalled_to}
 use Rattle.con_machine.specs.Closing.{hung_up, closing, all_wait}
 use Rattle.con_machine.specs.Reads as waits
-use Rattle.con_machine.specs.Reads.{began, began_line, began_units, answered_with, rest_answered, line_begun, with_read, front_of, is_empty, history_used}
-use Rattle.con_machine.specs.Reads.{read_answer, records_answer, is_no_initial}
-use Rattle.con_machine.specs.Terminal.{key_taken, is_break, records_of, by_report, piece_taken, fed, quiet, resized, size_told, size_record, asked, drained}
+use Rattle.con_machine.specs.Words.Reads as waits_words
+use Rattle.con_machine.specs.Reads.{began, began_line, answered_with, line_begun, with_read, front_of}
+use Rattle.con_machine.specs.Words.Reads.{began_units, rest_answered, is_empty, history_used, read_answer, records_answer, is_no_initial}
+use Rattle.con_machine.specs.Terminal.{key_taken, is_break, records_of, piece_taken, fed, quiet, resized, size_record}
+use Rattle.con_machine.specs.Words.Terminal.{by_report, size_told, asked, drained}
 use Rattle.con_machine.specs.Painting.{painted}
 use Rattle.con_machine.specs.Step.{step, effect, is_outside, is_clients, finished, client_of}
 use Rattle.con_machine.specs.Client.{is_fail}
@@ -592,7 +598,7 @@ unfolding waits.collected
 collected_seats s q = told_seats (record s { reads = without s.reads q; noted = without_noted s.noted q }) (noted_of s.noted q)
     (answer_in (slice_get s.reads (place_of s.reads q)))
 
-all_released : (b : Buffers) (hs : List Handle) (f : Buffers → ℕ) → ((x : Buffers) (o : Object) → f (released o x) ≡ f x) → f (waits.released_all b hs) ≡ f b
+all_released : (b : Buffers) (hs : List Handle) (f : Buffers → ℕ) → ((x : Buffers) (o : Object) → f (released o x) ≡ f x) → f (waits_words.released_all b hs) ≡ f b
 all_released b [] f k = refl
 all_released b (h ∷ hs) f k = all_released (released h.object b) hs f k ∙ k b h.object
 
@@ -600,7 +606,7 @@ left_frame : (s : State) (q status : ℕ) → frame_of (waits.left s q status) �
 unfolding waits.left
 left_frame s q status =
     let hs : List Handle = filter (is_owned q) s.handles in
-    framed_same (frame_of s) (waits.released_all s.buffers hs).w (waits.released_all s.buffers hs).h
+    framed_same (frame_of s) (waits_words.released_all s.buffers hs).w (waits_words.released_all s.buffers hs).h
     (all_released s.buffers hs (λ b. b.w) (λ x o. released_is o x (λ b. b.w) (λ id. refl) (λ id n. refl)))
     (all_released s.buffers hs (λ b. b.h) (λ x o. released_is o x (λ b. b.h) (λ id. refl) (λ id n. refl)))
 

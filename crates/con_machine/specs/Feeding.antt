@@ -7,7 +7,8 @@ use Rattle.con_machine.specs.State.{State}
 use Rattle.con_mouse.specs.Reports.{report_of}
 use Rattle.con_mouse.specs.declared.report.Report.{Report}
 use Rattle.con_machine.specs.Outcome.{has_bit}
-use Rattle.con_machine.specs.Terminal.{records_of, by_report, piece_taken}
+use Rattle.con_machine.specs.Terminal.{records_of, piece_taken}
+use Rattle.con_machine.specs.Words.Terminal.{by_report}
 
 -- the pieces that a byte ends, after those bytes that are held, are taken
 unfoldable pub byte_taken : State → ℕ → State

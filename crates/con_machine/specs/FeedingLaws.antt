@@ -2,7 +2,8 @@
 use Rattle.std.proofs.Common.{◌≡◌, ℕ, Bool, true, false, cond, List, [], ◌∷◌, ◌++◌, Option, None, Some, refl, sym, ap, ◌∙◌}
 use Rattle.std.specs.Prelude.{fold}
 use Rattle.std.proofs.lemmas.List.Sums.{fold-append}
-use Rattle.con_units.specs.Split.{Split, next, read_on, split_after}
+use Rattle.con_units.specs.Split.{Split, next, split_after}
+use Rattle.con_units.specs.Words.Split.{read_on}
 use Rattle.con_records.specs.declared.record.Key.{Key}
 use Rattle.con_cooked.specs.declared.cooked.Cooked.{Cooked}
 use Rattle.con_mouse.specs.Reports.{report_of}
@@ -12,9 +13,11 @@ use Rattle.con_readers.specs.Reads.{settled}
 use Rattle.con_vtin.specs.Pieces.{Piece, Typed, Ended, piece_grammar}
 use Rattle.con_machine.specs.State.{State, noted_of}
 use Rattle.con_machine.specs.Outcome.{has_bit}
-use Rattle.con_machine.specs.Serving.{followed, line_shown, line_finished, shows_line, settled_state}
+use Rattle.con_machine.specs.Serving.{followed, settled_state}
+use Rattle.con_machine.specs.Words.Serving.{line_shown, line_finished, shows_line}
 use Rattle.con_machine.specs.Signals.{signalled_to}
-use Rattle.con_machine.specs.Terminal.{is_break, key_taken, by_report, sequence_taken, piece_taken, records_of, fed}
+use Rattle.con_machine.specs.Terminal.{is_break, key_taken, piece_taken, records_of, fed}
+use Rattle.con_machine.specs.Words.Terminal.{by_report, sequence_taken}
 use Rattle.con_machine.specs.Feeding.{byte_taken}
 use Rattle.con_machine.specs.declared.reads.noted.Noted.{Noted}
 

@@ -51,3 +51,5 @@ pub mod CallRooms
 pub mod ClientRooms
 pub mod Fits
 pub mod Numbered
+-- The words of the code and of laws about these files, which a reader need not believe.
+pub mod Words

@@ -8,8 +8,9 @@ use Rattle.con_events.specs.declared.reply.Reply.{Reply}
 use Rattle.con_events.specs.declared.reply.Reply.TheVariants as replies
 use Rattle.con_screens.specs.Buffers.{Buffers, is_alternate}
 use Rattle.con_machine.specs.State.{State, id_of}
-use Rattle.con_machine.specs.ScreenCalls.{page_at}
-use Rattle.con_machine.specs.Painting.{view_now, is_fresh}
+use Rattle.con_machine.specs.Words.ScreenCalls.{page_at}
+use Rattle.con_machine.specs.Painting.{view_now}
+use Rattle.con_machine.specs.Words.Painting.{is_fresh}
 use Rattle.con_machine.specs.declared.painting.seen.Seen.{Seen}
 use Rattle.con_machine.specs.declared.rooms.paint_room.PaintRoom.{PaintRoom}
 

@@ -1,6 +1,6 @@
 -- Handles of processes that have started: the code's own words.
 use Rattle.std.specs.Prelude.{ℕ, ◌<◌, List, [], ◌∷◌}
-use Rattle.con_handles.specs.Handles.{opened}
+use Rattle.con_handles.specs.Words.Handles.{opened}
 use Rattle.con_handles.specs.declared.handle.Handle.{Handle}
 use Rattle.con_handles.specs.declared.handle.Object.{Object}
 

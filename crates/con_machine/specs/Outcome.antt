@@ -1,9 +1,7 @@
 -- What an event comes to, and what stands before each call.
 use Rattle.std.specs.Prelude.{ℕ, ◌==◌, ◌&&◌, Bool, not, nat_le, nat_lt, Result, Ok, Err, bit_and, if◌then◌else◌}
-use Rattle.std.specs.Result.{result_and}
 use Rattle.con_units.specs.declared.code.Code.{Code}
 use Rattle.con_units.specs.declared.code.Code.TheVariants as code
-use Rattle.con_units.specs.declared.view.BufferId.{BufferId}
 use Rattle.con_events.specs.declared.reply.Reply.{Reply}
 use Rattle.con_events.specs.declared.reply.Reply.TheVariants as replies
 use Rattle.con_handles.specs.Handles.{look}
@@ -69,20 +67,3 @@ are_rights n = nat_lt 0 n && nat_le n 3
 -- a bit of a mode
 abbrev pub has_bit : ℕ → ℕ → Bool
 has_bit mode bit = not (bit_and mode bit == 0)
-
--- ---- the words of the code and of laws
-
-abbrev pub by_result : {A : Type 0} → State → Result A Code → State → (A → Reply) → Outcome
-by_result s r changed reply = or_refused s r (λ a. answered changed (reply a))
-
-abbrev pub with_object : State → Result Object Code → (Object → Outcome) → Outcome
-with_object s r f = or_refused s r f
-
--- an answer, where the handle serves
-abbrev pub guarded : Result Object Code → Result (Unit {0}) Code → Result (Unit {0}) Code
-guarded r answer = result_and r answer
-
--- what a buffer's handle stands for, or why there is none
-abbrev pub object_or : Result BufferId Code → Result Object Code
-object_or (Err why) = Err why
-object_or (Ok id) = Ok (object.Output id)

@@ -1,8 +1,7 @@
 -- What is painted, and when.
-use Rattle.std.specs.Prelude.{ℕ, ℤ, ◌+◌, ◌==◌, ◌&&◌, ◌||◌, Bool, true, false, not, List, Option, Some, is_none, nat_lt, int_le, if◌then◌else◌}
+use Rattle.std.specs.Prelude.{ℤ, ◌+◌, ◌==◌, ◌&&◌, ◌||◌, Bool, true, false, not, Some, nat_lt, int_le, if◌then◌else◌}
 use Rattle.std.specs.Cmp.Lexicographic.{pointwise}
 use Rattle.std.specs.Option.{option_map_or}
-use Rattle.con_units.specs.Attr.{Attribute}
 use Rattle.con_units.specs.Glyph.{Glyph}
 use Rattle.con_units.specs.declared.shade.Shade.{Shade}
 use Rattle.con_units.specs.declared.shade.Shade.TheVariants as shade
@@ -46,25 +45,3 @@ stamped b = let now = (screen_at b b.active).page.grid.now in
 
 unfoldable pub painted : State → State
 painted s = record s { buffers = stamped s.buffers; painted = Some (view_now s); resized = false; asked = false }
-
--- ---- the words of the code and of laws
-
-abbrev pub same_attribute : Attribute → Attribute → Bool
-same_attribute a b = (a.word == b.word) && same_shade a.fore b.fore && same_shade a.back b.back
-
-abbrev pub same_cells : List Glyph → List Glyph → Bool
-same_cells cs bs = pointwise same_cell cs bs
-
-abbrev pub same_bool : Bool → Bool → Bool
-same_bool a b = if a then b else not b
-
-abbrev pub differs : View → Option View → Bool
-differs view painted = option_map_or (λ last. not (same_view view last)) painted true
-
--- nothing was painted on a terminal of this size: at the first Paint, and where a Resize stands after the last one
-abbrev pub is_fresh : State → Bool
-is_fresh s = s.resized || is_none s.painted
-
--- the number that a screen's rows are stamped with from this Paint on; the greatest one stays
-abbrev pub next_number : ℕ → ℕ
-next_number n = if nat_lt n 0xFFFFFFFFFFFFFFFF then n + 1 else n

@@ -5,8 +5,8 @@ use Rattle.std.proofs.lemmas.List.{length-map}
 use Rattle.con_units.specs.Units.{changed_at}
 use Rattle.con_procs.specs.AttachedLaws.{KeepsLive, attached_laws}
 use Rattle.con_procs.specs.Pending.{pended}
-use Rattle.con_procs.specs.Procs.{is_attached, signalled, told, reaches, changed, first_pending, pending_in, rack_in, place_in, is_chained}
-use Rattle.con_procs.specs.Procs.{placed, handler_removed}
+use Rattle.con_procs.specs.Procs.{is_attached, signalled, reaches, changed, first_pending, place_in, is_chained, placed, handler_removed}
+use Rattle.con_procs.specs.Words.Procs.{told, pending_in, rack_in}
 use Rattle.con_procs.specs.declared.proc.Proc.{Proc}
 use Rattle.con_procs.specs.declared.rack.Place.{Place}
 use Rattle.con_procs.specs.declared.rack.Place.TheVariants as place

@@ -1,38 +1,8 @@
--- Calls on processes, control events and handlers.
-use Rattle.std.specs.Prelude.{ℕ, pos, ◌==◌, ◌&&◌, ◌||◌, Bool, not, nat_lt, nat_le, List, map, if◌then◌else◌}
-use Rattle.con_units.specs.declared.code.Code.TheVariants as code
-use Rattle.con_procs.specs.Procs.{ids_of, group_known, ignoring, add_answer, handler_added, remove_answer, handler_removed}
+-- Which control events can be sent.
+use Rattle.std.specs.Prelude.{ℕ, ◌==◌, ◌&&◌, ◌||◌, Bool, not, nat_lt, List}
+use Rattle.con_procs.specs.Procs.{group_known}
 use Rattle.con_procs.specs.declared.proc.Proc.{Proc}
-use Rattle.con_machine.specs.State.{State}
-use Rattle.con_machine.specs.Outcome.{Outcome, refused, answered, done, while_open, by_answer}
-use Rattle.con_machine.specs.Signals.{signalled_to}
-use Rattle.con_events.specs.declared.reply.Reply.TheVariants as replies
 
 -- ctrl+C (0) and ctrl+break (1) can be sent, and ctrl+break to a group that there is
 abbrev pub is_no_signal : List Proc → ℕ → ℕ → Bool
 is_no_signal ps event group = nat_lt 1 event || ((event == 1) && not (group == 0) && not (group_known ps group))
-
--- ---- the words of the code and of laws
-
--- GetConsoleProcessList
-abbrev pub listed_processes : State → Outcome
-listed_processes s = while_open s (answered s (replies.Numbers (map (λ id. pos id) (ids_of s.procs))))
-
--- GenerateConsoleCtrlEvent
-abbrev pub sent_signal : State → ℕ → ℕ → Outcome
-sent_signal s event group = while_open s (if is_no_signal s.procs event group then refused s code.BadArgument else done (signalled_to s event group))
-
--- SetConsoleCtrlHandler, without a handler
-abbrev pub set_ignore : State → ℕ → Bool → Outcome
-set_ignore s p on = while_open s (done (record s { procs = ignoring s.procs p on }))
-
--- no rack has more than 255 places
-abbrev pub on_place : State → ℕ → Outcome → Outcome
-on_place s place o = if nat_le place 255 then o else refused s code.BadArgument
-
--- SetConsoleCtrlHandler
-abbrev pub added_handler : State → ℕ → ℕ → Outcome
-added_handler s p place = while_open s (on_place s place (by_answer s (add_answer s.procs p place) (record s { procs = handler_added s.procs p place })))
-
-abbrev pub removed_handler : State → ℕ → ℕ → Outcome
-removed_handler s p place = while_open s (on_place s place (by_answer s (remove_answer s.procs p place) (record s { procs = handler_removed s.procs p place })))

@@ -4,7 +4,7 @@ use Rattle.std.specs.Prelude.{ℕ, List}
 use Rattle.con_cooked.specs.declared.cooked.Cooked.{Cooked}
 use Rattle.con_readers.specs.Act.{Act, typed}
 use Rattle.con_readers.specs.Lines.{line_text}
-use Rattle.con_readers.specs.Reads.{Pumped, pumped, head_text}
+use Rattle.con_readers.specs.Words.Reads.{Pumped, pumped, head_text}
 use Rattle.con_readers.specs.declared.open.Open.{Open}
 use Rattle.con_machine.specs.State.{State}
 use Rattle.con_machine.specs.Serving.{followed}

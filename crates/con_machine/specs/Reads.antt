@@ -1,17 +1,15 @@
 -- Events of a client beside its calls: reads begin and are collected, control events are taken, and it exits.
-use Rattle.std.specs.Prelude.{ℕ, zero, suc, ◌==◌, ◌&&◌, ◌||◌, Bool, false, not, nat_lt, List, [], ◌∷◌, ◌++◌, length, take, drop, min, filter, fold, slice_get, is_none, unwrap_or}
-use Rattle.std.specs.Prelude.{pos, Option, Result, Ok, Err, if◌then◌else◌}
+use Rattle.std.specs.Prelude.{ℕ, zero, suc, ◌==◌, ◌&&◌, ◌||◌, false, not, nat_lt, List, [], ◌∷◌, ◌++◌, length, take, drop, min, filter, fold, slice_get, is_none, unwrap_or}
+use Rattle.std.specs.Prelude.{pos, Option, Ok, Err, if◌then◌else◌}
 use Rattle.std.specs.List.{list_any}
 use Rattle.std.specs.Option.{option_map_or}
 use Rattle.std.specs.Result.{result_and}
 use Rattle.con_units.specs.Limits.{most_items, most_records, line_units}
 use Rattle.con_units.specs.Stored.{is_control}
-use Rattle.con_units.specs.declared.code.Code.{Code}
 use Rattle.con_units.specs.declared.code.Code.TheVariants as code
 use Rattle.con_events.specs.declared.event.Wanted.{Wanted}
 use Rattle.con_events.specs.declared.event.Wanted.TheVariants as wanted
 use Rattle.con_events.specs.declared.reply.Reply.TheVariants as replies
-use Rattle.con_handles.specs.declared.handle.Handle.{Handle}
 use Rattle.con_handles.specs.Handles.{is_owned}
 use Rattle.con_handles.specs.declared.handle.Kind.TheVariants as kind
 use Rattle.con_procs.specs.Procs.{exited, first_pending, took_pending, program_of, programs_of}
@@ -21,10 +19,10 @@ use Rattle.con_readers.specs.declared.answer.Answer.{Answer}
 use Rattle.con_readers.specs.declared.answer.Answer.TheVariants as answers
 use Rattle.con_readers.specs.declared.open.OpenRead.{OpenRead}
 use Rattle.con_readers.specs.declared.open.OpenRead.TheVariants as reads
-use Rattle.con_screens.specs.Buffers.{Buffers, handle_released}
+use Rattle.con_screens.specs.Buffers.{handle_released}
 use Rattle.con_machine.specs.State.{State, noted_of, without_noted, is_rest_of, rest_in, with_rest, id_of}
-use Rattle.con_machine.specs.Outcome.{Outcome, refused, answered, by_answer, guard, guarded, has_bit}
-use Rattle.con_machine.specs.HandleCalls.{of_output, released}
+use Rattle.con_machine.specs.Outcome.{Outcome, refused, answered, by_answer, guard, has_bit}
+use Rattle.con_machine.specs.HandleCalls.{of_output}
 use Rattle.con_machine.specs.declared.reads.noted.Noted.{Noted}
 use Rattle.con_machine.specs.declared.reads.rest.Rest.{Rest}
 
@@ -123,75 +121,3 @@ left s p status =
     let t : State = record s { reads = without s.reads p; noted = without_noted s.noted p; rests = filter (λ r. not (r.process == p)) s.rests } in
     let buffers = fold (λ b h. of_output handle_released h.object b) s.buffers (filter (is_owned p) s.handles) in
     record t { handles = filter (λ h. not (is_owned p h)) s.handles; buffers = buffers; procs = exited s.procs p status }
-
--- ---- the words of the code and of laws
-
--- CR, and then LF
-abbrev pub ends_line : ℕ → List ℕ → Bool
-ends_line u us = option_map_or (λ v. (u == 13) && (v == 10)) (slice_get us 0) false
-
-abbrev pub is_empty : List ℕ → Bool
-is_empty us = is_none (slice_get us 0)
-
--- the program's history is used, the others of attached processes being busy
-abbrev pub history_used : State → ℕ → State
-history_used s p = record s { histories = used_by s.histories (program_of s.procs p) (programs_of s.procs) }
-
--- what is left of a line answers
-abbrev pub rest_answered : State → ℕ → ℕ → ℕ → List ℕ → State
-rest_answered s p h n rest = record (answered_with s p (front_of n rest)) { rests = with_rest (back_of n rest) s.rests p h }
-
--- the read that a line read opens, by what is left for its handle: nothing was asked for; or a line; or what is left answers at once
-abbrev pub line_read : State → ℕ → ℕ → List ℕ → List ℕ → ℕ → OpenRead
-line_read s p n rest initial mask = if n == 0 then reads.Done (answers.Units [])
-    else if is_none (slice_get rest 0) then line_opened s p initial mask else reads.Done (answers.Units (front_of n rest))
-
--- the read that a read of units opens, without line mode
-abbrev pub units_read : ℕ → OpenRead
-units_read n = if n == 0 then reads.Done (answers.Units []) else reads.Units n
-
--- a read of units, without line mode
-abbrev pub began_units : State → ℕ → ℕ → State
-began_units s p n = if n == 0 then answered_with s p [] else with_read s p (reads.Units n)
-
--- an initial text with a control, of more than 1,024 units, or of more than the read asks for
-abbrev pub is_no_initial : List ℕ → ℕ → Bool
-is_no_initial text n = list_any is_control text || nat_lt 1024 (length text) || nat_lt n (length text)
-
--- whether a read of n units may begin, where its handle is right: an open read and a bad initial text, and the limit, in this order
-abbrev pub initial_checked : State → ℕ → ℕ → List ℕ → Result (Unit {0}) Code
-initial_checked s p n initial =
-    if is_open s.reads p || is_no_initial initial n then Err code.BadArgument
-    else if nat_lt most_items n then Err code.Limit
-    else Ok tt
-
-abbrev pub read_answer : State → ℕ → ℕ → ℕ → List ℕ → Result (Unit {0}) Code
-read_answer s p h n initial = guarded (guard s p h kind.Input 1) (initial_checked s p n initial)
-
-abbrev pub records_checked : State → ℕ → ℕ → Result (Unit {0}) Code
-records_checked s p n =
-    if is_open s.reads p || (n == 0) then Err code.BadArgument
-    else if nat_lt most_records n then Err code.Limit
-    else Ok tt
-
-abbrev pub records_answer : State → ℕ → ℕ → ℕ → Result (Unit {0}) Code
-records_answer s p h n = guarded (guard s p h kind.Input 1) (records_checked s p n)
-
-abbrev pub began_read_input : State → ℕ → ℕ → ℕ → Outcome
-began_read_input s p h n = by_answer s (records_answer s p h n) (with_read s p (reads.Records n))
-
-abbrev pub part_told : Noted → List ℕ → List ℕ
-part_told n text = if n.woken then take n.n text else front_of n.n text
-
-abbrev pub part_left : Noted → List ℕ → List ℕ
-part_left n text = if n.woken then drop n.n text else back_of n.n text
-
--- what follows is left for the handle
-abbrev pub line_cut : State → Noted → List ℕ → Outcome
-line_cut s n text = answered (record s { rests = with_rest (part_left n text) s.rests n.process n.handle }) (replies.Units (part_told n text))
-
-abbrev pub units_told : State → Option Noted → List ℕ → Outcome
-units_told s n text = option_map_or (λ m. line_cut s m text) n (answered s (replies.Units text))
-
-abbrev pub released_all : Buffers → List Handle → Buffers
-released_all buffers hs = fold (λ b h. released h.object b) buffers hs

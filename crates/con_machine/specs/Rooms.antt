@@ -8,13 +8,14 @@ use Rattle.con_units.specs.declared.place.Coord.{Coord}
 use Rattle.con_events.specs.declared.call.Words.{Words}
 use Rattle.con_grid.specs.Picture.{Picture}
 use Rattle.con_rects.specs.Runs.{run_count, run_cells}
-use Rattle.con_machine.specs.CellCalls.{cells_for, is_over}
+use Rattle.con_machine.specs.CellCalls.{cells_for}
+use Rattle.con_machine.specs.Words.CellCalls.{is_over}
 use Rattle.con_handles.specs.declared.handle.Object.{Object}
-use Rattle.con_page.specs.Fit.{Fit, IsFit}
+use Rattle.con_page.specs.Words.Fit.{Fit, IsFit}
 use Rattle.con_screens.specs.Buffers.{Buffers}
 use Rattle.con_machine.specs.State.{State}
 use Rattle.con_machine.specs.Outcome.{buffer_of}
-use Rattle.con_machine.specs.ScreenCalls.{page_at, is_size}
+use Rattle.con_machine.specs.Words.ScreenCalls.{page_at, is_size}
 use Rattle.con_machine.specs.declared.rooms.rect_room.RectRoom.{RectRoom}
 
 -- the cells of units and words, and memory for four numbers

@@ -8,7 +8,8 @@ use Rattle.con_units.specs.Glyph.{Glyph}
 use Rattle.con_units.specs.declared.shade.Shade.{Shade}
 use Rattle.con_units.specs.declared.shade.Shade.TheVariants as shade
 use Rattle.con_units.specs.declared.view.View.{View}
-use Rattle.con_machine.specs.Painting.{same_shade, same_attribute, same_cell, same_cells, same_number, same_bool, same_view, differs}
+use Rattle.con_machine.specs.Painting.{same_shade, same_cell, same_number, same_view}
+use Rattle.con_machine.specs.Words.Painting.{same_attribute, same_cells, same_bool, differs}
 
 -- ---- what is the same is equal
 

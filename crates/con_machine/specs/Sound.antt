@@ -6,8 +6,9 @@ use Rattle.con_handles.specs.declared.handle.Handle.{Handle}
 use Rattle.con_handles.specs.declared.handle.Object.{Object}
 use Rattle.con_handles.specs.declared.handle.Object.TheVariants as object
 use Rattle.con_page.specs.Sides.{Sides}
-use Rattle.con_screens.specs.Buffers.{Buffers, AreBuffers, IsLive, handles_of}
-use Rattle.con_screens.specs.Stamps.{Remembered, WasShown, all_remembered}
+use Rattle.con_screens.specs.Buffers.{Buffers, handles_of}
+use Rattle.con_screens.specs.Words.Buffers.{AreBuffers, IsLive}
+use Rattle.con_screens.specs.Words.Stamps.{Remembered, WasShown, all_remembered}
 use Rattle.con_machine.specs.State.{State}
 use Rattle.con_machine.specs.declared.painting.seen.Seen.{Seen}
 

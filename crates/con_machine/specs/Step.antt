@@ -2,7 +2,6 @@
 use Rattle.std.specs.Prelude.{ℕ, ◌&&◌, ◌||◌, Bool, true, false, not, is_some, [], if◌then◌else◌}
 use Rattle.con_units.specs.declared.code.Code.TheVariants as code
 pub use Rattle.con_events.specs.Actors.{is_clients, is_actors}
-use Rattle.con_events.specs.Actors.{is_paint}
 use Rattle.con_events.specs.Session.{is_size}
 use Rattle.con_events.specs.declared.actor.Actor.{Actor}
 use Rattle.con_events.specs.declared.actor.Actor.TheVariants as actors
@@ -64,12 +63,3 @@ is_due s p e = is_clients e || not s.asked
 
 unfoldable pub is_ready : State → Actor → Event → Bool
 is_ready s actor e = is_actors actor e && (is_outside s actor e || is_due s (client_of actor) e)
-
--- ---- the words of the code and of laws
-
-abbrev pub is_painters : Event → Bool
-is_painters e = is_paint e
-
--- nothing is asked for that was not painted yet
-abbrev pub is_served : State → Bool
-is_served s = not s.asked

@@ -3,7 +3,7 @@ use Rattle.std.specs.Prelude.{ℕ, ◌≡◌, ◌+◌, ◌*◌, ◌<◌, ◌≤�
 use Rattle.con_events.specs.Session.{is_size}
 use Rattle.con_events.specs.declared.event.Event.{Event}
 use Rattle.con_events.specs.declared.event.Event.TheVariants as events
-use Rattle.con_screens.specs.Resize.{AreFits}
+use Rattle.con_screens.specs.Words.Resize.{AreFits}
 use Rattle.con_units.specs.declared.place.Size.{Size}
 use Rattle.con_machine.specs.Held.{Held}
 use Rattle.con_machine.specs.Marks.{IsPaintRoom}

@@ -4,7 +4,8 @@ ghost use Rattle.con_procs.specs.Procs.{is_attached};
 ghost use Rattle.con_readers.specs.Reads.{has_done};
 ghost use Rattle.con_machine.specs.Call.{called};
 ghost use Rattle.con_machine.specs.ClientRooms.{IsRoomOfCall, HasPlaces, IsReadRoom, IsRecordsRoom, IsBeginRoom, IsBackRoom, IsClientRoom};
-ghost use Rattle.con_machine.specs.Reads.{began_read, began_read_input, began, collected};
+ghost use Rattle.con_machine.specs.Reads.{began_read, began, collected};
+ghost use Rattle.con_machine.specs.Words.Reads.{began_read_input};
 ghost use Rattle.con_machine.specs.Step.{is_clients, is_due, effect};
 
 use crate::console::Console;

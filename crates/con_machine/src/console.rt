@@ -2,8 +2,9 @@
 ghost use Rattle.std.specs.Prelude.{◌≡◌, ℕ, IfOk};
 ghost use Rattle.con_handles.specs.declared.handle.Kind.TheVariants as kind;
 ghost use Rattle.con_handles.specs.Tables.{IsTable};
-ghost use Rattle.con_screens.specs.Buffers.{IsLive};
-ghost use Rattle.con_machine.specs.Outcome.{guard, object_or};
+ghost use Rattle.con_screens.specs.Words.Buffers.{IsLive};
+ghost use Rattle.con_machine.specs.Outcome.{guard};
+ghost use Rattle.con_machine.specs.Words.Outcome.{object_or};
 ghost use Rattle.con_machine.specs.Sound.{HasLive};
 
 use crate::painting::seen::Seen;

@@ -3,10 +3,11 @@ ghost use Rattle.std.specs.Prelude.{◌≡◌, true, not, filter, Option, IfSome
 ghost use Rattle.con_handles.specs.Handles.{is_owned};
 ghost use Rattle.con_handles.specs.Tables.{IsTable};
 ghost use Rattle.con_procs.specs.Procs.{is_attached};
-ghost use Rattle.con_screens.specs.Buffers.{AreBuffers};
-ghost use Rattle.con_screens.specs.Stamps.{all_remembered};
+ghost use Rattle.con_screens.specs.Words.Buffers.{AreBuffers};
+ghost use Rattle.con_screens.specs.Words.Stamps.{all_remembered};
 ghost use Rattle.con_units.specs.declared.view.View.{View};
-ghost use Rattle.con_machine.specs.Reads.{left, released_all, took_ctrl};
+ghost use Rattle.con_machine.specs.Reads.{left, took_ctrl};
+ghost use Rattle.con_machine.specs.Words.Reads.{released_all};
 ghost use Rattle.con_machine.specs.Sound.{AreCounted, IsPainted};
 
 use crate::calls::counting;

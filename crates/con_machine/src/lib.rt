@@ -3,7 +3,8 @@
 //! The definitions stand in `specs/`. `State` is the console as contracts see it: lists, numbers and texts, and
 //! no room. `Call` is one table of what each call of a client does, with its refusals in one order: 109, 6, 5, 87, 31, 1816;
 //! what several rows say stands in `Outcome` and in the file of their group (`HandleCalls`, `ScreenCalls`, `CellCalls`,
-//! `ProcessCalls`). Each row has a name there, `InputCalls` or `LineCalls`, for the contract of the method that does it.
+//! `ProcessCalls`). Each row has a name, for the contract of the method that does it, in the file of the same name in `specs/Words/`, or in
+//! `InputCalls` or `LineCalls`.
 //! `Reads` has a client's waits, `Serving` what open reads do with the records that are there and what shows of it, `Terminal`
 //! what comes from the terminal's side, `Closing` and `Signals` how reads end early, and `Painting` what is painted and when.
 //! `Step` joins them: `step`, and `is_ready`, which says when an event may be entered; `History` runs a list of entries.

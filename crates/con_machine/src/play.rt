@@ -1,6 +1,7 @@
 //! A history is played on the console.
 ghost use Rattle.std.specs.Prelude.{◌≡◌, true, map, IfOk, IfErr};
-ghost use Rattle.con_machine.specs.History.{run, replies_of, is_legal, RanFront};
+ghost use Rattle.con_machine.specs.History.{run, replies_of, is_legal};
+ghost use Rattle.con_machine.specs.Words.History.{RanFront};
 ghost use Rattle.con_machine.specs.Marks.{told};
 
 use crate::console::Console;

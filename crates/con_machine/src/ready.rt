@@ -3,7 +3,8 @@ ghost use Rattle.std.specs.Prelude.{◌≡◌, length};
 ghost use Rattle.con_events.specs.Session.{is_size};
 ghost use Rattle.con_procs.specs.Procs.{is_attached};
 ghost use Rattle.con_machine.specs.Turns.{is_pending};
-ghost use Rattle.con_machine.specs.Step.{is_clients, is_painters, is_actors, client_of, is_outside, is_due, is_ready};
+ghost use Rattle.con_machine.specs.Step.{is_clients, is_actors, client_of, is_outside, is_due, is_ready};
+ghost use Rattle.con_machine.specs.Words.Step.{is_painters};
 
 use crate::console::Console;
 use con_events::{Actor, Event};

@@ -1,7 +1,8 @@
 //! A console at the beginning of a session.
 ghost use Rattle.std.specs.Prelude.{◌≡◌, ℕ, ◌+◌, ◌<◌, ◌≤◌, ◌++◌, [], length, IfOk, OnOk, slice_index_or};
 ghost use Rattle.con_handles.specs.Tables.{IsTable};
-ghost use Rattle.con_machine.specs.State.{opening, starts_of, first_handles, handles_from, start_of};
+ghost use Rattle.con_machine.specs.State.{opening, starts_of, handles_from};
+ghost use Rattle.con_machine.specs.Words.State.{first_handles, start_of};
 ghost use Rattle.con_machine.specs.Opened.{AreBefore, opened_ones};
 
 use crate::console::Console;

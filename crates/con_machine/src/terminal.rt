@@ -2,11 +2,13 @@
 ghost use Rattle.std.specs.Prelude.{◌≡◌, ◌<◌, true, List, IfOk};
 ghost use Rattle.con_events.specs.Session.{is_size};
 ghost use Rattle.con_handles.specs.declared.handle.Handle.{Handle};
-ghost use Rattle.con_screens.specs.Buffers.{AreBuffers};
-ghost use Rattle.con_screens.specs.Resize.{AreFits, all_resized};
+ghost use Rattle.con_screens.specs.Words.Buffers.{AreBuffers};
+ghost use Rattle.con_screens.specs.Resize.{all_resized};
+ghost use Rattle.con_screens.specs.Words.Resize.{AreFits};
 ghost use Rattle.con_machine.specs.Outcome.{has_bit};
 ghost use Rattle.con_machine.specs.Sound.{AreCounted};
-ghost use Rattle.con_machine.specs.Terminal.{resized, asked, drained};
+ghost use Rattle.con_machine.specs.Terminal.{resized};
+ghost use Rattle.con_machine.specs.Words.Terminal.{asked, drained};
 
 use crate::calls::screen_calls::has_bit;
 use crate::calls::setters;

@@ -1,7 +1,7 @@
 //! What holds of every console's view, and what an event does to its size.
 ghost use Rattle.std.specs.Prelude.{◌≡◌};
-ghost use Rattle.con_units.specs.Limits.{IsWindow};
-ghost use Rattle.con_units.specs.View.{IsWhole};
+ghost use Rattle.con_units.specs.Words.Limits.{IsWindow};
+ghost use Rattle.con_units.specs.Words.View.{IsWhole};
 ghost use Rattle.con_events.specs.declared.actor.Actor.{Actor};
 ghost use Rattle.con_events.specs.declared.event.Event.{Event};
 ghost use Rattle.con_machine.specs.State.{State};

@@ -2,8 +2,9 @@
 use Rattle.std.proofs.Common.{◌≡◌, ℕ, ◌+◌, ◌*◌, ◌<◌, Bool, true, false, List, length, drop, get_or, Option, None, Some, refl, sym, ap, ◌∙◌, subst, arith}
 use Rattle.std.specs.Prelude.{IfSome}
 use Rattle.con_units.specs.Glyph.{Glyph}
-use Rattle.con_units.specs.Limits.{IsWindow}
-use Rattle.con_units.specs.View.{IsWhole, row_of}
+use Rattle.con_units.specs.Words.Limits.{IsWindow}
+use Rattle.con_units.specs.View.{row_of}
+use Rattle.con_units.specs.Words.View.{IsWhole}
 use Rattle.con_units.specs.declared.place.Coord.{Coord}
 use Rattle.con_units.specs.declared.place.Size.{Size}
 use Rattle.con_units.specs.declared.view.View.{View}

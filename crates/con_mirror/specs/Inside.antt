@@ -1,7 +1,7 @@
 -- What a mirror's code keeps: a painter with the room of its parts.
 use Rattle.std.specs.Prelude.{◌≡◌, ℕ, ◌+◌, ◌*◌, ◌<◌, Bool, List, length, true, false, slice_index_or, Option, Some, None, IfSome, option_map}
 use Rattle.con_units.specs.Glyph.{Glyph}
-use Rattle.con_units.specs.Limits.{IsWindow}
+use Rattle.con_units.specs.Words.Limits.{IsWindow}
 use Rattle.con_units.specs.View.{row_of}
 use Rattle.con_units.specs.declared.view.View.{View}
 use Rattle.con_mirror.specs.Mirror.{Following}

@@ -6,3 +6,5 @@ pub mod Parts
 pub mod Inside
 -- Laws of these words.
 pub mod PartLaws
+-- The words of the code and of laws about these files, which a reader need not believe.
+pub mod Words

@@ -1,5 +1,5 @@
 -- The part of a view that a terminal of another size shows.
-use Rattle.std.specs.Prelude.{ℕ, pos, ◌+◌, ◌-◌, ◌*◌, ◌&&◌, nat_lt, Bool, List, ◌++◌, take, drop, flat_map, get_or, replicate, if◌then◌else◌}
+use Rattle.std.specs.Prelude.{ℕ, pos, ◌+◌, ◌-◌, Bool, List, ◌++◌, take, drop, flat_map, replicate, if◌then◌else◌}
 use Rattle.std.specs.List.{range_with_len}
 use Rattle.con_units.specs.Glyph.{Glyph, blank_cell}
 use Rattle.con_units.specs.Natural.{natural}
@@ -23,7 +23,3 @@ part v size = let x = natural v.cursor.x in let y = natural v.cursor.y in let le
   cursor = if v.visible then record { x = pos (x - left); y = pos (y - top) } else record { x = pos 0; y = pos 0 };
   visible = v.visible;
 }
-
--- the cell of a view at a column and a row; a space past the view
-abbrev pub cell_at : View → ℕ → ℕ → Glyph
-cell_at v x y = if nat_lt x v.size.w && nat_lt y v.size.h then get_or v.rows (y * v.size.w + x) blank_cell else blank_cell

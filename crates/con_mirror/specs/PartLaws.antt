@@ -12,10 +12,12 @@ use Rattle.std.proofs.lemmas.List.{length-take-le}
 use Rattle.std.proofs.lemmas.Int.{ints}
 use Rattle.con_units.specs.Glyph.{Glyph, blank_cell}
 use Rattle.con_units.specs.Natural.{natural}
-use Rattle.con_units.specs.View.{row_of, IsWhole}
+use Rattle.con_units.specs.View.{row_of}
+use Rattle.con_units.specs.Words.View.{IsWhole}
 use Rattle.con_units.specs.declared.place.Size.{Size}
 use Rattle.con_units.specs.declared.view.View.{View}
-use Rattle.con_mirror.specs.Part.{corner, part_row, part, cell_at}
+use Rattle.con_mirror.specs.Part.{corner, part_row, part}
+use Rattle.con_mirror.specs.Words.Part.{cell_at}
 use Rattle.con_mirror.specs.Parts.{padded, part_rows, cursor_from, left_of, top_of}
 
 pub length-replicate : (n : ℕ) (c : Glyph) → length (replicate n c) ≡ n

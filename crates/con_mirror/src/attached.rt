@@ -1,8 +1,8 @@
 //! A terminal that is attached.
 ghost use Rattle.std.specs.Prelude.{◌≡◌, ◌+◌, ◌*◌, ◌≤◌, ◌++◌, length, drop, true, IfOk, IfSome, None, Some};
 ghost use Rattle.std.specs.Vec.{vec_len, vec_capacity};
-ghost use Rattle.con_units.specs.Limits.{IsWindow};
-ghost use Rattle.con_units.specs.View.{IsWhole};
+ghost use Rattle.con_units.specs.Words.Limits.{IsWindow};
+ghost use Rattle.con_units.specs.Words.View.{IsWhole};
 ghost use Rattle.con_paint.specs.Painter.{IsShown, frame_room, unpainted};
 ghost use Rattle.con_mirror.specs.Inside.{IsAttached, given_in};
 ghost use Rattle.con_mirror.specs.Mirror.{AreSince, Mirrored, size_in};

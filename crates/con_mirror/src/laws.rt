@@ -2,10 +2,11 @@
 
 ghost use Rattle.std.specs.Prelude.{◌≡◌, ℕ, ◌+◌, ◌*◌, ◌<◌, get_or};
 ghost use Rattle.con_units.specs.Glyph.{blank_cell};
-ghost use Rattle.con_units.specs.View.{IsWhole};
+ghost use Rattle.con_units.specs.Words.View.{IsWhole};
 ghost use Rattle.con_units.specs.declared.place.Size.{Size};
 ghost use Rattle.con_units.specs.declared.view.View.{View};
-ghost use Rattle.con_mirror.specs.Part.{cell_at, part};
+ghost use Rattle.con_mirror.specs.Part.{part};
+ghost use Rattle.con_mirror.specs.Words.Part.{cell_at};
 ghost use Rattle.con_mirror.specs.Parts.{left_of, top_of};
 
 /// A part has all its cells, and its cursor inside. Each cell is the view's at the same place from the corner on, or a space past it.

@@ -1,8 +1,8 @@
 //! A mirror: a second terminal that attaches and detaches.
 ghost use Rattle.std.specs.Prelude.{◌≡◌, ◌++◌, length, drop, Some, None, IfNone, IfSome, MatchResult};
 ghost use Rattle.std.specs.Vec.{vec_len, vec_capacity};
-ghost use Rattle.con_units.specs.Limits.{IsWindow};
-ghost use Rattle.con_units.specs.View.{IsWhole};
+ghost use Rattle.con_units.specs.Words.Limits.{IsWindow};
+ghost use Rattle.con_units.specs.Words.View.{IsWhole};
 ghost use Rattle.con_paint.specs.Painter.{unpainted};
 ghost use Rattle.con_mirror.specs.Mirror.{AreSince, HasRoom, IsMirrored, WasMirrored, at_size};
 

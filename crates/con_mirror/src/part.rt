@@ -2,7 +2,8 @@
 ghost use Rattle.std.specs.Prelude.{◌≡◌, ℕ, ◌+◌, ◌*◌, ◌<◌, ◌≤◌, ◌≤ℤ◌, pos, true, false, ◌++◌, get_or, length, replicate, slice_index_or, take, drop};
 ghost use Rattle.con_units.specs.Glyph.{blank_cell};
 ghost use Rattle.con_units.specs.Natural.{natural};
-ghost use Rattle.con_units.specs.View.{row_of, IsWhole};
+ghost use Rattle.con_units.specs.View.{row_of};
+ghost use Rattle.con_units.specs.Words.View.{IsWhole};
 ghost use Rattle.con_mirror.specs.Part.{corner, part};
 ghost use Rattle.con_mirror.specs.Parts.{cursor_from, left_of, padded, part_rows, top_of};
 ghost use Rattle.con_mirror.specs.Inside.{IsSince};

@@ -1,5 +1,5 @@
 -- Reports of the mouse: ESC [ < b ; x ; y M, or m. (Xterm Control Sequences, Extended coordinates, SGR 1006)
-use Rattle.std.specs.Prelude.{ℕ, zero, suc, ◌+◌, ◌-◌, ◌*◌, ◌<◌, ◌≤◌, Bool, true, false, ◌&&◌, ◌==◌, nat_lt, nat_le, List, [], ◌∷◌, length, Option, Some, None, if◌then◌else◌}
+use Rattle.std.specs.Prelude.{ℕ, ◌+◌, ◌-◌, ◌*◌, Bool, true, false, ◌&&◌, ◌==◌, nat_lt, nat_le, List, [], ◌∷◌, length, Option, Some, None, if◌then◌else◌}
 use Rattle.std.specs.Int.{is_in_range}
 use Rattle.con_mouse.specs.declared.report.Report.{Report}
 
@@ -47,14 +47,6 @@ abbrev pub field : List ℕ → Option Front
 field bytes = marked (number bytes)
 
 -- ---- reports
-
--- the button below 128, and the place from 1 to 32,767
-pub record IsReport (r : Report) : Type 0 where
-  pub button : r.b < 128
-  pub left : 1 ≤ r.x
-  pub right : r.x ≤ 32767
-  pub top : 1 ≤ r.y
-  pub bottom : r.y ≤ 32767
 
 abbrev pub checked : ℕ → ℕ → ℕ → Bool → Option Report
 checked b x y press = if (nat_lt b 128 && nat_le 1 x) && nat_le 1 y then Some (record { b = b; x = x; y = y; press = press }) else None

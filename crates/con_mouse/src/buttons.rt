@@ -1,6 +1,6 @@
 //! The buttons that are held, and the records of reports.
 ghost use Rattle.std.specs.Prelude.{◌≡◌, ℕ, ◌+◌, ◌-◌, ◌*◌, ◌/◌, ◌%◌, ◌<◌, ◌≤◌, true, false, Option, Some, None};
-ghost use Rattle.con_mouse.specs.Reports.{IsReport};
+ghost use Rattle.con_mouse.specs.Words.Reports.{IsReport};
 ghost use Rattle.con_mouse.specs.Presses as spec;
 
 use crate::report::Report;

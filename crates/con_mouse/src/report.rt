@@ -1,7 +1,7 @@
 //! Reports.
 ghost use Rattle.std.specs.Prelude.{◌≡◌, ℕ, ◌+◌, ◌<◌, ◌≤◌, Bool, true, List, [], ◌∷◌, ◌++◌, length, drop, Option, Some, None, option_map, if◌then◌else◌, IfSome};
 ghost use Rattle.con_mouse.specs.Reports as spec;
-ghost use Rattle.con_mouse.specs.Reports.{IsReport};
+ghost use Rattle.con_mouse.specs.Words.Reports.{IsReport};
 
 use crate::numbers::{field, number};
 

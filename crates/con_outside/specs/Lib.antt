@@ -4,3 +4,5 @@ pub mod Named
 pub mod Reading
 -- Laws of these words, for the crates above.
 pub mod Laws
+-- The words of the code and of laws about these files, which a reader need not believe.
+pub mod Words

@@ -2,7 +2,7 @@
 
 ghost use Rattle.std.specs.Prelude.{ℕ, ◌≡◌, ◌≢◌, ◌<◌, ◌≤◌, ◌⊎◌, List, [], length, map, Option, Some, None, IfOk, OnErr, IfSome, string_bytes};
 ghost use Rattle.con_outside.specs.Outside.{Rose};
-ghost use Rattle.con_outside.specs.Named.{IsFound, file_in, place_in};
+ghost use Rattle.con_outside.specs.Words.Named.{IsFound, file_in, place_in};
 
 use crate::memory::{fails, raise};
 use crate::traits::Fault;

@@ -5,10 +5,12 @@ use Rattle.std.specs.List.{range_with_len}
 use Rattle.std.proofs.lemmas.List.FromFn.{fill_by_all, length-map-range_with_len, map-range_with_len_more}
 use Rattle.std.proofs.Math.ListN.{drop_of_length-le}
 use Rattle.con_units.specs.Glyph.{Glyph}
-use Rattle.con_grid.specs.Picture.{Picture, IsPicture, filled}
+use Rattle.con_grid.specs.Picture.{Picture, filled}
+use Rattle.con_grid.specs.Words.Picture.{IsPicture}
 use Rattle.std.proofs.lemmas.List.{length-replicate}
 use Rattle.con_page.specs.Alternate.{alternate_page}
-use Rattle.con_page.specs.Page.{Page, IsPage, blank}
+use Rattle.con_page.specs.Page.{Page, blank}
+use Rattle.con_page.specs.Words.Page.{IsPage}
 use Rattle.con_page.specs.Setters.{default_tabs}
 
 -- whether a tab stops at a column by default

@@ -10,9 +10,12 @@ use Rattle.con_units.specs.Glyph.{Glyph, cell_of}
 use Rattle.std.proofs.lemmas.Int.{ints}
 use Rattle.std.proofs.Math.Nat.{mul-le-mul_right, lt-div-mul-add}
 use Rattle.con_units.specs.Natural.{natural}
-use Rattle.con_grid.specs.Picture.{filled, units_put, written_over, glyphs_of, lifted, part_lifted}
-use Rattle.con_page.specs.Page.{Page, IsPage, attr, blank}
-use Rattle.con_page.specs.Echo.{rows_above, rows_past, scrolled, fallen, ruled, drawn_by, part_rule}
+use Rattle.con_grid.specs.Picture.{filled, lifted, part_lifted}
+use Rattle.con_grid.specs.Words.Picture.{units_put, written_over, glyphs_of}
+use Rattle.con_page.specs.Page.{Page, attr, blank}
+use Rattle.con_page.specs.Words.Page.{IsPage}
+use Rattle.con_page.specs.Echo.{rows_above, rows_past, ruled, drawn_by}
+use Rattle.con_page.specs.Words.Echo.{scrolled, fallen, part_rule}
 use Rattle.con_page.specs.declared.origin.Origin.{Origin}
 
 -- ---- cells of which a part was written over

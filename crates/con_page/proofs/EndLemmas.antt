@@ -9,8 +9,10 @@ use Rattle.std.proofs.lemmas.Bool.Decides.{nat_tests}
 use Rattle.std.proofs.Math.Nat.{mul-le-mul_right}
 use Rattle.con_units.specs.Glyph.{Glyph}
 use Rattle.con_vtgram.specs.declared.item.Item.TheVariants as items
-use Rattle.con_grid.specs.Picture.{part_of, lifted, part_lifted}
-use Rattle.con_page.specs.Page.{Page, IsPage, blank, rows_up, down_in, down, least_shift, shown}
+use Rattle.con_grid.specs.Picture.{lifted, part_lifted}
+use Rattle.con_grid.specs.Words.Picture.{part_of}
+use Rattle.con_page.specs.Page.{Page, blank, rows_up, down_in, down, least_shift, shown}
+use Rattle.con_page.specs.Words.Page.{IsPage}
 use Rattle.con_page.specs.Effect.{control_effect, act, follow, effect}
 use Rattle.con_page.specs.Ends.{is_end, act_next, all_ended, one_more, feeds_in, CanEnd, fed, goes_back, ended}
 use Rattle.con_page.proofs.RunLemmas.{still}

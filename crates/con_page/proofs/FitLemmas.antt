@@ -2,9 +2,11 @@
 use Rattle.std.proofs.Common.{◌≡◌, ℕ, ◌<◌, ◌==◌, true, length, arith, sym, ◌∙◌, ap}
 use Rattle.std.proofs.lemmas.Bool.{cond_both}
 use Rattle.std.proofs.lemmas.Bool.Decides.{nat_tests}
-use Rattle.con_page.specs.Page.{Page, IsPage}
+use Rattle.con_page.specs.Page.{Page}
+use Rattle.con_page.specs.Words.Page.{IsPage}
 use Rattle.con_page.specs.Setters.{default_tabs}
-use Rattle.con_page.specs.Fit.{Fit, IsFit, moved_in, within}
+use Rattle.con_page.specs.Fit.{within}
+use Rattle.con_page.specs.Words.Fit.{Fit, IsFit, moved_in}
 
 below : (side n : ℕ) → 0 < side → within side n < side
 below side n some = omega arith

@@ -5,12 +5,13 @@ use Rattle.std.specs.List.{list_all}
 use Rattle.std.proofs.lemmas.Nat.{mul-add-lt}
 use Rattle.std.proofs.lemmas.Bool.Decides.{nat_tests}
 use Rattle.std.proofs.lemmas.List.{take-append-drop, length-take-le, length-set, take_more_set, drop-set-lt}
-use Rattle.con_grid.specs.Picture.{units_put}
+use Rattle.con_grid.specs.Words.Picture.{units_put}
 use Rattle.con_units.specs.Attr.{Attribute}
 use Rattle.con_units.specs.Glyph.{Glyph, cell_of}
 use Rattle.con_units.specs.Plain.{is_plain}
 use Rattle.con_vtgram.specs.declared.item.Item.TheVariants as items
-use Rattle.con_page.specs.Page.{Page, IsPage, place, attr, shown, least_shift}
+use Rattle.con_page.specs.Page.{Page, place, attr, shown, least_shift}
+use Rattle.con_page.specs.Words.Page.{IsPage}
 use Rattle.con_page.specs.Print.{line_of, printed, wrapped, put, advanced}
 use Rattle.con_page.specs.Effect.{effect, act, follow}
 use Rattle.con_page.specs.Run.{drawn, is_printed, print_next, all_printed, CanRun, run_cells, ran, run_of}

@@ -3,7 +3,8 @@ use Rattle.std.proofs.Common.{◌≡◌, ℕ, ◌+◌, ◌*◌, ◌/◌, ◌%◌
 use Rattle.std.proofs.lemmas.Nat.{and_block, and_mask, and_assoc}
 use Rattle.std.proofs.lemmas.Nat.Bits.{and_high}
 use Rattle.std.proofs.lemmas.Bool.Decides.{nat_tests}
-use Rattle.con_units.specs.Attr.{masked, plain}
+use Rattle.con_units.specs.Attr.{plain}
+use Rattle.con_units.specs.Words.Attr.{masked}
 use Rattle.con_units.specs.declared.shade.Shade.TheVariants as shade
 use Rattle.con_vtgram.specs.Pen.{word_of, attr_of}
 use Rattle.con_page.specs.Setters.{pen_of_word}

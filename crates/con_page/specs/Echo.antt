@@ -75,21 +75,3 @@ changed p o end rule caret = let at = origin_after p o end in
 -- the line ends: the cursor goes to the place of its length, then to column 0 and down without margins
 unfoldable pub ended : Page → Origin → ℕ → Page
 ended p o end = shown (down_in (record (cursor_at p (origin_in p o) end) { x = 0 }) None)
-
--- ---- the same in its parts, as the code has it
-
--- the places from `offset` on show units, those behind them are blanks, and the others stay
-abbrev pub part_rule : Page → ℕ → List ℕ → ℕ → ℕ → Glyph → Glyph
-part_rule p offset units blanks k was =
-    if nat_lt k offset then was
-    else if nat_lt k (offset + length units) then cell_of (slice_index units (k - offset)) (attr p)
-    else if nat_lt k (offset + length units + blanks) then blank p
-    else was
-
--- the whole buffer, so that a line of this length and the place behind it are in it
-abbrev pub scrolled : Page → Origin → ℕ → Page
-scrolled p o end = rows_up p 0 p.grid.height (rows_past p o end)
-
--- the origin's row falls by as many
-abbrev pub fallen : Page → Origin → ℕ → Origin
-fallen p o end = record o { y = o.y -ℤ pos (rows_past p o end) }

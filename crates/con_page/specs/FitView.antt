@@ -1,5 +1,5 @@
 -- The fields of a fit.
-use Rattle.con_page.specs.Fit.{Fit}
+use Rattle.con_page.specs.Words.Fit.{Fit}
 use Rattle.con_page.specs.declared.fit.Fit.TheInside.{Inside}
 
 abbrev pub fit_of : Inside → Fit

@@ -21,3 +21,5 @@ pub mod Ends
 -- Laws of items.
 pub mod ModeLaws
 pub mod SidesLaws
+-- The words of the code and of laws about these files, which a reader need not believe.
+pub mod Words

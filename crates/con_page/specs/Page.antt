@@ -1,10 +1,10 @@
 -- A screen without its unfinished text.
-use Rattle.std.specs.Prelude.{ℕ, ◌+◌, ◌-◌, ◌*◌, ◌<◌, ◌≡◌, ◌≤◌, Bool, false, ◌==◌, nat_lt, List, length, Option, None, Some, if◌then◌else◌}
+use Rattle.std.specs.Prelude.{ℕ, ◌+◌, ◌-◌, ◌*◌, Bool, ◌==◌, nat_lt, List, Option, None, Some, if◌then◌else◌}
 use Rattle.std.specs.Option.{option_map_or}
 use Rattle.con_units.specs.Attr.{Attribute}
 use Rattle.con_units.specs.Glyph.{Glyph, blank_in}
-use Rattle.con_grid.specs.Picture.{Picture, IsPicture, filled, part_lifted, part_lowered}
-use Rattle.con_vtgram.specs.Pen.{attr_of, IsPen}
+use Rattle.con_grid.specs.Picture.{Picture, filled, part_lifted, part_lowered}
+use Rattle.con_vtgram.specs.Pen.{attr_of}
 use Rattle.con_vtgram.specs.declared.pen.Pen.{Pen}
 use Rattle.con_page.specs.declared.mode.Mode.{Mode}
 use Rattle.con_page.specs.declared.margins.Margins.{Margins}
@@ -31,26 +31,6 @@ pub record Page : Type 0 where
   pub drawing : Bool
   -- a print stood in the last column, and the next one wraps first
   pub late : Bool
-
-abbrev pub AreMargins : ℕ → Option Margins → Type 0
-AreMargins h None = Unit {0}
-AreMargins h (Some m) = (0 < m.top) × (m.top < m.bottom) × (m.bottom ≤ h)
-
-pub record IsPage (p : Page) : Type 0 where
-  pub grid : IsPicture p.grid
-  pub column : p.x < p.grid.width
-  pub row : p.y < p.grid.height
-  pub cursor_size : p.cursor_size ≤ 100
-  pub wide : 0 < p.w
-  pub tall : 0 < p.h
-  pub low : p.h ≤ 256
-  pub right : p.left + p.w ≤ p.grid.width
-  pub bottom : p.top + p.h ≤ p.grid.height
-  pub pen : IsPen p.pen
-  pub saved_column : p.saved_x < p.grid.width
-  pub saved_row : p.saved_y < p.grid.height
-  pub margins : AreMargins p.h p.margins
-  pub tabs : length p.tabs ≡ p.grid.width
 
 abbrev pub place : Page → ℕ
 place p = p.y * p.grid.width + p.x

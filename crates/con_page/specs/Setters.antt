@@ -1,9 +1,6 @@
 -- A new screen, what sets its parts, and what there is to know of it.
-use Rattle.std.specs.Prelude.{ℕ, zero, suc, pos, ◌≤ℤ◌, ◌+◌, ◌-◌, ◌*◌, ◌/◌, ◌%◌, ◌≤◌, ◌==◌, ◌&&◌}
-use Rattle.std.specs.Prelude.{Bool, true, false, nat_lt, List, [], ◌∷◌, ◌++◌, replicate, None}
+use Rattle.std.specs.Prelude.{ℕ, zero, suc, pos, ◌+◌, ◌-◌, ◌*◌, ◌/◌, ◌%◌, ◌==◌, ◌&&◌, Bool, true, false, nat_lt, List, [], ◌∷◌, ◌++◌, replicate, None}
 use Rattle.con_units.specs.Glyph.{blank_in}
-use Rattle.con_units.specs.Natural.{natural}
-use Rattle.con_units.specs.declared.place.Coord.{Coord}
 use Rattle.con_units.specs.declared.place.Size.{Size}
 use Rattle.con_vtgram.specs.Pen.{attr_of, starting_pen}
 use Rattle.con_page.specs.Mode.{mode_of, number_of}
@@ -39,13 +36,6 @@ new_page buffer window = record {
 
 abbrev pub cursor_set : Page → ℕ → ℕ → Page
 cursor_set p x y = shown (record p { x = x; y = y; late = false })
-
--- the window stays in the buffer with its corner there
-pub record IsOrigin (p : Page) (at : Coord) : Type 0 where
-  pub left : pos 0 ≤ℤ at.x
-  pub top : pos 0 ≤ℤ at.y
-  pub right : natural at.x + p.w ≤ p.grid.width
-  pub bottom : natural at.y + p.h ≤ p.grid.height
 
 abbrev pub origin_set : Page → ℕ → ℕ → Page
 origin_set p x y = record p { left = x; top = y }

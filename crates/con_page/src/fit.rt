@@ -13,7 +13,7 @@ pub struct Fit {
 }
 
 impl Model for Fit {
-    ghost use Rattle.con_page.specs.Fit.{Fit};
+    ghost use Rattle.con_page.specs.Words.Fit.{Fit};
 
     ghost Value = { Fit };
 

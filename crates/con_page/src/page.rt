@@ -1,7 +1,7 @@
 //! A screen without its unfinished text.
 ghost use Rattle.std.specs.Prelude.{IfOk, ◌≡◌, ℕ, ◌+◌, ◌<◌, ◌≤◌, ◌*◌, ◌^◌, None, length, true};
-ghost use Rattle.con_page.specs.Page.{IsPage, place, row_end, blank, erased, rows_up, rows_down};
-ghost use Rattle.con_page.specs.Page.{region_first, region_end, down, down_in, shown, least_shift};
+ghost use Rattle.con_page.specs.Page.{place, row_end, blank, erased, rows_up, rows_down, region_first, region_end, down, down_in, shown, least_shift};
+ghost use Rattle.con_page.specs.Words.Page.{IsPage};
 ghost use Rattle.con_page.specs.Effect as now;
 ghost use Rattle.con_page.specs.Sides.{sides};
 ghost use Rattle.con_page.specs.Setters.{new_page};

@@ -3,7 +3,7 @@ use Rattle.std.specs.Prelude.{ℕ, pos, ◌+◌, ◌*◌, ◌<◌, ◌≤◌, �
 use Rattle.con_units.specs.Attr.{Attribute, plain}
 use Rattle.con_units.specs.Glyph.{Glyph, blank_cell}
 use Rattle.con_units.specs.declared.view.View.{View}
-use Rattle.con_units.specs.Limits.{IsWindow}
+use Rattle.con_units.specs.Words.Limits.{IsWindow}
 use Rattle.con_vtgram.specs.Pen.{IsPen}
 use Rattle.con_term.specs.Page.{Page}
 use Rattle.con_term.specs.Play.{play, printed}

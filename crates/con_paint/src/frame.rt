@@ -1,7 +1,8 @@
 //! The part of a frame behind its begin: the rows, and the cursor.
 ghost use Rattle.std.specs.Prelude.{◌≡◌, ◌+◌, ◌-◌, ◌*◌, ◌<◌, ◌≤◌, ℕ, true, false, length, slice_index_or, if◌then◌else◌};
 ghost use Rattle.std.specs.Vec.{vec_len, vec_capacity};
-ghost use Rattle.con_units.specs.View.{row_of, IsWhole};
+ghost use Rattle.con_units.specs.View.{row_of};
+ghost use Rattle.con_units.specs.Words.View.{IsWhole};
 ghost use Rattle.con_term.specs.Page.{Page};
 ghost use Rattle.con_strokes.specs.Leads.{Leads};
 ghost use Rattle.con_paint.specs.Frame.{rows_to_paint, Stands};

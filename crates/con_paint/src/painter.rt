@@ -1,8 +1,9 @@
 //! The painter.
 ghost use Rattle.std.specs.Prelude.{◌≡◌, ◌+◌, ◌-◌, ◌*◌, ◌<◌, ◌≤◌, ℕ, true, false, ◌++◌, length, drop, slice_index_or, if◌then◌else◌, IfOk, MatchResult};
 ghost use Rattle.std.specs.Vec.{vec_len, vec_capacity};
-ghost use Rattle.con_units.specs.View.{row_of, IsWhole};
-ghost use Rattle.con_units.specs.Limits.{IsWindow};
+ghost use Rattle.con_units.specs.View.{row_of};
+ghost use Rattle.con_units.specs.Words.View.{IsWhole};
+ghost use Rattle.con_units.specs.Words.Limits.{IsWindow};
 ghost use Rattle.con_term.specs.Terminal.{Terminal};
 ghost use Rattle.con_strokes.specs.Paint.{pasted};
 ghost use Rattle.con_paint.specs.Painter.{Allows, IsShown, Paints, frame_room, unpainted};

@@ -6,7 +6,8 @@ use Rattle.std.proofs.lemmas.Bool.{and_parts}
 use Rattle.std.proofs.lemmas.Bool.Decides.{nat_tests}
 use Rattle.con_units.specs.Units.{changed_at}
 use Rattle.con_procs.specs.declared.proc.Proc.{Proc}
-use Rattle.con_procs.specs.Procs.{changed, is_attached, live_in, is_live, ids_from, first_pending}
+use Rattle.con_procs.specs.Procs.{changed, is_attached, is_live, ids_from, first_pending}
+use Rattle.con_procs.specs.Words.Procs.{live_in}
 
 pub set_changed : (f : Proc → Proc) (ps : List Proc) (k : ℕ) (p : Proc) → p ≡ slice_index_or ps k p → slice_set ps k (f p) ≡ changed_at f ps k
 set_changed f [] k p e = refl

@@ -7,7 +7,8 @@ use Rattle.std.proofs.lemmas.List.{take_all}
 use Rattle.con_procs.proofs.Changes.{drop_past}
 use Rattle.con_procs.specs.declared.proc.Proc.{Proc}
 use Rattle.con_procs.specs.declared.proc.ProcStart.{ProcStart}
-use Rattle.con_procs.specs.Procs.{programs_of, is_live, live_in, is_attached, started, told, reaches}
+use Rattle.con_procs.specs.Procs.{programs_of, is_live, is_attached, started, reaches}
+use Rattle.con_procs.specs.Words.Procs.{live_in, told}
 
 -- a change that leaves who is attached, and its program
 pub record KeepsProgram (f : Proc → Proc) : Type 0 where

@@ -4,7 +4,8 @@ use Rattle.std.specs.Prelude.{◌==◌, ◌&&◌, not, map, slice_get, nat_lt}
 use Rattle.std.proofs.lemmas.Bool.Decides.{nat_tests}
 use Rattle.con_units.specs.Units.{changed_at}
 use Rattle.con_procs.specs.declared.proc.Proc.{Proc}
-use Rattle.con_procs.specs.Procs.{is_live, live_in, is_attached, signalled, told, reaches, changed, exited}
+use Rattle.con_procs.specs.Procs.{is_live, is_attached, signalled, reaches, changed, exited}
+use Rattle.con_procs.specs.Words.Procs.{live_in, told}
 
 -- a change that leaves a process as attached as it was
 abbrev pub KeepsLive : (Proc → Proc) → Type 0

@@ -1,5 +1,5 @@
 -- The processes, the first of which has the number 1.
-use Rattle.std.specs.Prelude.{ℕ, ◌+◌, ◌-◌, ◌==◌, ◌&&◌, ◌||◌, Bool, true, false, not, List, [], ◌∷◌, Option, Some, None, Result, Ok, Err, option_and_then, drop, map, nat_lt, slice_get, slice_set, if◌then◌else◌, is_some, replicate}
+use Rattle.std.specs.Prelude.{ℕ, ◌+◌, ◌-◌, ◌==◌, ◌&&◌, ◌||◌, Bool, true, false, not, List, [], ◌∷◌, Option, Some, None, Result, Ok, Err, drop, map, nat_lt, slice_get, slice_set, if◌then◌else◌, is_some, replicate}
 use Rattle.std.specs.List.{list_any}
 use Rattle.std.specs.Option.{option_map_or}
 use Rattle.con_units.specs.Units.{changed_at}
@@ -62,9 +62,6 @@ changed f ps k = if k == 0 then ps else changed_at f ps (k - 1)
 abbrev pub exited : List Proc → ℕ → ℕ → List Proc
 exited ps k status = changed (λ p. record p { ended = Some status }) ps k
 
-abbrev pub status_of : List Proc → ℕ → Option ℕ
-status_of ps k = option_and_then (λ p. p.ended) (proc_of ps k)
-
 abbrev pub ignoring : List Proc → ℕ → Bool → List Proc
 ignoring ps k on = changed (λ p. record p { ignore = on }) ps k
 
@@ -105,25 +102,3 @@ remove_answer ps k at = granted (is_chained (place_in ps k at))
 
 abbrev pub handler_removed : List Proc → ℕ → ℕ → List Proc
 handler_removed ps k at = if is_chained (place_in ps k at) then placed ps k at place.Removed else ps
-
--- The words below are the code's own and those of proofs: what the words above say of one process that is there or not.
-
-abbrev pub live_in : Option Proc → Bool
-live_in o = option_map_or is_live o false
-
--- an attached process of this group
-abbrev pub is_member : ℕ → Proc → Bool
-is_member group p = is_live p && p.group == group
-
-abbrev pub program_in : Option Proc → List ℕ
-program_in o = option_map_or (λ p. p.program) o []
-
--- a process after an event was signalled to a group
-abbrev pub told : ℕ → ℕ → Proc → Proc
-told event group p = if reaches event group p then record p { pending = pended p.pending event } else p
-
-abbrev pub pending_in : Option Proc → List ℕ
-pending_in o = option_map_or (λ p. p.pending) o []
-
-abbrev pub rack_in : Option Proc → List Place
-rack_in o = option_map_or (λ p. p.rack) o []

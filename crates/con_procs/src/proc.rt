@@ -1,6 +1,7 @@
 // One process.
 ghost use Rattle.std.specs.Prelude.{◌≡◌, ◌<◌, ◌≤◌, ◌+◌, IfOk, [], ◌∷◌, ◌++◌, vec_len, vec_capacity, if◌then◌else◌};
-ghost use Rattle.con_procs.specs.Procs.{reaches, told, started, is_live};
+ghost use Rattle.con_procs.specs.Procs.{reaches, started, is_live};
+ghost use Rattle.con_procs.specs.Words.Procs.{told};
 
 use crate::pending::Pending;
 use crate::rack::Rack;

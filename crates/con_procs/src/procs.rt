@@ -1,7 +1,8 @@
 // All processes.
 ghost use Rattle.std.specs.Prelude.{◌≡◌, ℕ, ◌+◌, ◌-◌, ◌<◌, ◌≤◌, List, [], length, IfOk, Some, None, true, map, take, vec_len, vec_capacity, if◌then◌else◌};
 ghost use Rattle.std.specs.List.{list_any};
-ghost use Rattle.con_procs.specs.Procs.{started, is_live, is_attached, is_member, group_known, ids_of, ids_from, program_of, programs_of, signalled, told, exited, status_of, ignoring, is_fresh, is_chained, first_pending, took_pending, place_in, add_answer, handler_added, remove_answer, handler_removed, placed};
+ghost use Rattle.con_procs.specs.Procs.{started, is_live, is_attached, group_known, ids_of, ids_from, program_of, programs_of, signalled, exited, ignoring, is_fresh, is_chained, first_pending, took_pending, place_in, add_answer, handler_added, remove_answer, handler_removed, placed};
+ghost use Rattle.con_procs.specs.Words.Procs.{is_member, told, status_of};
 
 use crate::proc::{Proc, ProcStart};
 use crate::rack::Place;

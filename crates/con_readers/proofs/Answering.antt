@@ -9,11 +9,13 @@ use Rattle.con_cooked.specs.Keys.{key_of}
 use Rattle.con_cooked.specs.Mask.{is_masked}
 use Rattle.con_cooked.specs.Cooked.{is_return}
 use Rattle.con_readers.specs.Wants.{typed_unit, units_of, rest_of}
-use Rattle.con_readers.specs.Lines.{line_after}
+use Rattle.con_readers.specs.Words.Lines.{line_after}
 use Rattle.con_readers.specs.Act.{Act, typed}
-use Rattle.con_readers.specs.Serving.{is_done, took_units, Served, served, served_line, served_on}
+use Rattle.con_readers.specs.Serving.{is_done, Served, served, served_line}
+use Rattle.con_readers.specs.Words.Serving.{took_units, served_on}
 use Rattle.con_readers.specs.Pieces.{front}
-use Rattle.con_readers.specs.Answering.{is_line_end, EndsLine}
+use Rattle.con_readers.specs.Answering.{is_line_end}
+use Rattle.con_readers.specs.Words.Answering.{EndsLine}
 use Rattle.con_readers.proofs.Pieces.{EndsWith, front_is, ends_line, front_more}
 use Rattle.con_readers.specs.declared.answer.Answer.TheVariants as answers
 use Rattle.con_readers.specs.declared.open.OpenRead.TheVariants as reads

@@ -8,7 +8,8 @@ use Rattle.con_records.specs.declared.record.Record.{Record}
 use Rattle.con_history.specs.declared.histories.Histories.{Histories}
 use Rattle.con_alias.specs.Aliases.{AliasList}
 use Rattle.con_readers.specs.Serving.{is_done, served}
-use Rattle.con_readers.specs.Reads.{pumped, moved, settled, closed_one, all_closed, failed, line_aborted, is_open_line, is_open, place_of, without, begun}
+use Rattle.con_readers.specs.Reads.{settled, all_closed, failed, line_aborted, is_open_line, is_open, place_of, without, begun}
+use Rattle.con_readers.specs.Words.Reads.{pumped, moved, closed_one}
 use Rattle.con_readers.specs.Distinct.{processes_in, times_in, AreDistinct}
 use Rattle.con_readers.specs.declared.open.Open.{Open}
 use Rattle.con_readers.specs.declared.open.OpenRead.{OpenRead}

@@ -7,7 +7,7 @@ use Rattle.con_history.specs.declared.histories.Histories.{Histories}
 use Rattle.con_alias.specs.Aliases.{AliasList}
 use Rattle.con_readers.specs.declared.open.Open.{Open}
 use Rattle.con_readers.specs.Serving.{is_done}
-use Rattle.con_readers.specs.Reads.{Pumped, pumped, moved, done_upto, head_text, text_in}
+use Rattle.con_readers.specs.Words.Reads.{Pumped, pumped, moved, done_upto, head_text, text_in}
 
 pub done_upto-suc : (k : ℕ) (os : List Open) (o : Open) → done_upto k os ≡ true → o ≡ slice_index_or os k o → is_done o.read ≡ true → done_upto (suc k) os ≡ true
 done_upto-suc zero [] o h e d = refl

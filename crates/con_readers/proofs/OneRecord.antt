@@ -4,16 +4,17 @@ use Rattle.std.specs.Prelude.{if◌then◌else◌}
 use Rattle.con_records.specs.declared.record.Record.{Record}
 use Rattle.con_history.specs.declared.histories.Histories.{Histories}
 use Rattle.con_alias.specs.Aliases.{AliasList}
-use Rattle.con_cooked.specs.Cooked.{line_of, is_return, echo_between}
+use Rattle.con_cooked.specs.Cooked.{line_of, is_return}
+use Rattle.con_cooked.specs.Words.Cooked.{echo_between}
 use Rattle.con_cooked.specs.Keys.{key_of}
 use Rattle.con_cooked.specs.Mask.{is_masked}
 use Rattle.con_cooked.specs.declared.cooked.Cooked.{Cooked}
 use Rattle.con_cooked.specs.declared.progress.Echo.{Echo}
 use Rattle.con_cooked.specs.declared.progress.Progress.{Progress}
 use Rattle.con_cooked.specs.declared.progress.Progress.TheVariants as progress
-use Rattle.con_readers.specs.Lines.{line_after, line_progress}
-use Rattle.con_readers.specs.Act.{told}
-use Rattle.con_readers.specs.Serving.{Took, took_one, took_line}
+use Rattle.con_readers.specs.Words.Lines.{line_after, line_progress}
+use Rattle.con_readers.specs.Words.Act.{told}
+use Rattle.con_readers.specs.Words.Serving.{Took, took_one, took_line}
 use Rattle.con_readers.specs.declared.step.ReadStep.TheVariants as steps
 
 -- which way a press goes, by whether it is a masked control, and else whether it is return

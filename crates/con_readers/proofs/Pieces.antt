@@ -11,10 +11,12 @@ use Rattle.con_cooked.specs.Cooked.{is_return}
 use Rattle.con_cooked.specs.Keys.{key_of}
 use Rattle.con_cooked.specs.Mask.{is_masked}
 use Rattle.con_readers.specs.Wants.{typed_unit, units_of, rest_of}
-use Rattle.con_readers.specs.Lines.{line_after}
-use Rattle.con_readers.specs.Serving.{took_units, is_done, Served, served, served_line, served_on}
+use Rattle.con_readers.specs.Words.Lines.{line_after}
+use Rattle.con_readers.specs.Serving.{is_done, Served, served, served_line}
+use Rattle.con_readers.specs.Words.Serving.{took_units, served_on}
 use Rattle.con_readers.specs.Reads.{settled}
-use Rattle.con_readers.specs.Pieces.{front, pieces_of, joined}
+use Rattle.con_readers.specs.Pieces.{front, joined}
+use Rattle.con_readers.specs.Words.Pieces.{pieces_of}
 use Rattle.con_readers.specs.declared.answer.Answer.TheVariants as answers
 use Rattle.con_readers.specs.declared.open.OpenRead.{OpenRead}
 use Rattle.con_readers.specs.declared.open.OpenRead.TheVariants as reads

@@ -8,9 +8,10 @@ use Rattle.con_cooked.specs.declared.cooked.Cooked.{Cooked}
 use Rattle.con_cooked.specs.declared.progress.Progress.{Progress}
 use Rattle.con_cooked.specs.declared.progress.Progress.TheVariants as progress
 use Rattle.con_readers.specs.Wants.{units_of}
-use Rattle.con_readers.specs.Lines.{line_after, line_progress}
-use Rattle.con_readers.specs.Serving.{took, took_units, took_one, is_done}
-use Rattle.con_readers.specs.Reads.{pumped, moved, is_none_left, is_at_rest}
+use Rattle.con_readers.specs.Words.Lines.{line_after, line_progress}
+use Rattle.con_readers.specs.Serving.{is_done}
+use Rattle.con_readers.specs.Words.Serving.{took, took_units, took_one}
+use Rattle.con_readers.specs.Words.Reads.{pumped, moved, is_none_left, is_at_rest}
 use Rattle.con_readers.specs.declared.open.Open.{Open}
 use Rattle.con_readers.specs.declared.open.OpenRead.{OpenRead}
 use Rattle.con_readers.specs.declared.open.OpenRead.TheVariants as reads

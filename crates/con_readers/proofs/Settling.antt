@@ -6,15 +6,18 @@ use Rattle.con_history.specs.declared.histories.Histories.{Histories}
 use Rattle.con_alias.specs.Aliases.{AliasList}
 use Rattle.con_readers.specs.declared.open.Open.{Open}
 use Rattle.con_cooked.specs.declared.cooked.Cooked.{Cooked}
-use Rattle.con_cooked.specs.Cooked.{line_of, is_return, echo_between}
+use Rattle.con_cooked.specs.Cooked.{line_of, is_return}
+use Rattle.con_cooked.specs.Words.Cooked.{echo_between}
 use Rattle.con_cooked.specs.Keys.{key_of}
 use Rattle.con_cooked.specs.Mask.{is_masked}
 use Rattle.con_cooked.specs.declared.progress.Echo.{Echo}
 use Rattle.con_readers.specs.Wants.{units_of}
-use Rattle.con_readers.specs.Lines.{line_after}
+use Rattle.con_readers.specs.Words.Lines.{line_after}
 use Rattle.con_readers.specs.Act.{Act, began}
-use Rattle.con_readers.specs.Serving.{Took, took, took_units, took_one, is_done, Served, served, served_line, served_on, given_units}
-use Rattle.con_readers.specs.Reads.{Pumped, pumped, Moved, moved, Settled, settled, before, settled_after}
+use Rattle.con_readers.specs.Serving.{is_done, Served, served, served_line, given_units}
+use Rattle.con_readers.specs.Words.Serving.{Took, took, took_units, took_one, served_on}
+use Rattle.con_readers.specs.Reads.{Settled, settled}
+use Rattle.con_readers.specs.Words.Reads.{Pumped, pumped, Moved, moved, before, settled_after}
 use Rattle.con_readers.specs.declared.open.OpenRead.{OpenRead}
 use Rattle.con_readers.specs.declared.open.OpenRead.TheVariants as reads
 use Rattle.con_readers.proofs.OneRecord.{pressed_so}

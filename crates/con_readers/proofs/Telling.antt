@@ -1,8 +1,10 @@
 -- What a caller is told of a step.
 use Rattle.std.proofs.Common.{◌≡◌, ℕ, ◌≤◌, List, length, refl, sym, ap, subst, Option, Some, None}
 use Rattle.con_cooked.specs.declared.cooked.Cooked.{Cooked}
-use Rattle.con_cooked.specs.Cooked.{line_of, echo_between}
-use Rattle.con_readers.specs.Act.{Act, began, typed, passed, ended, woke, told, IsOf, IsIn}
+use Rattle.con_cooked.specs.Cooked.{line_of}
+use Rattle.con_cooked.specs.Words.Cooked.{echo_between}
+use Rattle.con_readers.specs.Act.{Act, began, typed, passed, ended, woke}
+use Rattle.con_readers.specs.Words.Act.{told, IsOf, IsIn}
 use Rattle.con_readers.specs.Lines.{line_text}
 use Rattle.con_readers.specs.declared.step.ReadStep.{ReadStep}
 

@@ -9,9 +9,10 @@ use Rattle.con_cooked.specs.declared.cooked.Cooked.{Cooked}
 use Rattle.con_cooked.specs.declared.progress.Progress.{Progress}
 use Rattle.con_cooked.specs.declared.progress.Progress.TheVariants as progress
 use Rattle.con_readers.specs.Wants.{typed_unit, units_of, rest_of}
-use Rattle.con_readers.specs.Lines.{line_after, line_progress}
-use Rattle.con_readers.specs.Serving.{took, took_units, took_one, is_done}
-use Rattle.con_readers.specs.Reads.{pumped, moved, work, weight}
+use Rattle.con_readers.specs.Words.Lines.{line_after, line_progress}
+use Rattle.con_readers.specs.Serving.{is_done}
+use Rattle.con_readers.specs.Words.Serving.{took, took_units, took_one}
+use Rattle.con_readers.specs.Words.Reads.{pumped, moved, work, weight}
 use Rattle.con_readers.specs.declared.open.OpenRead.{OpenRead}
 use Rattle.con_readers.specs.declared.open.OpenRead.TheVariants as reads
 

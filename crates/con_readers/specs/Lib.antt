@@ -9,3 +9,5 @@ pub mod Distinct
 pub mod Lines
 -- The code's own word: which step is none.
 pub mod Steps
+-- The words of the code and of laws about these files, which a reader need not believe.
+pub mod Words

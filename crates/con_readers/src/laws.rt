@@ -7,9 +7,11 @@ ghost use Rattle.con_cooked.specs.declared.cooked.Cooked.{Cooked};
 ghost use Rattle.con_readers.specs.declared.open.Open.{Open};
 ghost use Rattle.con_readers.specs.Wants.{units_of};
 ghost use Rattle.con_readers.specs.Serving.{is_done, served};
-ghost use Rattle.con_readers.specs.Reads.{settled, pumped, begun, is_open, without, all_closed, line_aborted};
-ghost use Rattle.con_readers.specs.Pieces.{front, joined, pieces_of};
-ghost use Rattle.con_readers.specs.Answering.{EndsLine};
+ghost use Rattle.con_readers.specs.Reads.{settled, begun, is_open, without, all_closed, line_aborted};
+ghost use Rattle.con_readers.specs.Words.Reads.{pumped};
+ghost use Rattle.con_readers.specs.Pieces.{front, joined};
+ghost use Rattle.con_readers.specs.Words.Pieces.{pieces_of};
+ghost use Rattle.con_readers.specs.Words.Answering.{EndsLine};
 ghost use Rattle.con_readers.specs.Distinct.{processes_in, AreDistinct};
 
 use crate::answer::Answer;

@@ -1,10 +1,13 @@
 // An open read.
 ghost use Rattle.std.specs.Prelude.{◌≡◌, ℕ, List, [], ◌∷◌, length, ◌≤◌, option_copied};
 ghost use Rattle.con_readers.specs.Wants.{units_of};
-ghost use Rattle.con_readers.specs.Lines.{line_after, line_progress, line_text};
-ghost use Rattle.con_readers.specs.Act.{told};
-ghost use Rattle.con_readers.specs.Serving.{took, took_units, took_one, took_line, is_done, is_line};
-ghost use Rattle.con_readers.specs.Reads.{moved, moved_on, failed, closed_one, answer_of, answered, text_in};
+ghost use Rattle.con_readers.specs.Lines.{line_text};
+ghost use Rattle.con_readers.specs.Words.Lines.{line_after, line_progress};
+ghost use Rattle.con_readers.specs.Words.Act.{told};
+ghost use Rattle.con_readers.specs.Serving.{is_done, is_line};
+ghost use Rattle.con_readers.specs.Words.Serving.{took, took_units, took_one, took_line};
+ghost use Rattle.con_readers.specs.Reads.{failed, answer_of};
+ghost use Rattle.con_readers.specs.Words.Reads.{moved, moved_on, closed_one, answered, text_in};
 
 use crate::answer::Answer;
 use crate::step::ReadStep;

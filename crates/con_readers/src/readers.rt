@@ -1,10 +1,12 @@
 // The list of reads.
 ghost use Rattle.std.specs.Prelude.{◌≡◌, slice_index_or, ℕ, ◌+◌, ◌-◌, ◌<◌, ◌≤◌, List, [], ◌∷◌, ◌++◌, length, OnOk, OnErr, true, false, not, max, is_some, slice_get, Some, option_copied};
 ghost use Rattle.con_readers.specs.Lines.{line_text};
-ghost use Rattle.con_readers.specs.Act.{told, Act, typed, IsOf, IsIn};
+ghost use Rattle.con_readers.specs.Act.{Act, typed};
+ghost use Rattle.con_readers.specs.Words.Act.{told, IsOf, IsIn};
 ghost use Rattle.con_readers.specs.Steps.{is_idle};
 ghost use Rattle.con_readers.specs.Serving.{is_done};
-ghost use Rattle.con_readers.specs.Reads.{Pumped, Queued, begun, settled, settled_after, work, pumped, done_upto, is_at_rest, head_text, is_of, is_open, has_done, has_undone, place_of, is_open_line, without, answer_in, answered_in, all_closed, line_aborted};
+ghost use Rattle.con_readers.specs.Reads.{begun, settled, is_open, has_done, has_undone, place_of, is_open_line, without, answer_in, all_closed, line_aborted};
+ghost use Rattle.con_readers.specs.Words.Reads.{Pumped, Queued, settled_after, work, pumped, done_upto, is_at_rest, head_text, is_of, answered_in};
 ghost use Rattle.std.specs.List.{position_or_len, position};
 
 use crate::answer::Answer;
@@ -26,7 +28,7 @@ pub struct Readers {
 
 impl Model for Readers {
     ghost use Rattle.std.specs.Prelude.{◌+◌, ◌≤◌, vec_len, vec_capacity};
-    ghost use Rattle.con_readers.specs.Reads.{Queued};
+    ghost use Rattle.con_readers.specs.Words.Reads.{Queued};
 
     ghost Value = { Queued };
 

@@ -7,7 +7,8 @@ use Rattle.std.proofs.lemmas.Nat.{mul-add-lt}
 use Rattle.std.proofs.lemmas.Bool.{cases_eq, cases_lt}
 use Rattle.std.proofs.Math.Nat.{mul-le-mul_right, mul-add-mod_self_right, mul-add-div_right, mod-eq_of_lt, div-eq_of_lt}
 use Rattle.con_units.specs.Glyph.{Glyph}
-use Rattle.con_grid.specs.Picture.{Picture, IsPicture}
+use Rattle.con_grid.specs.Picture.{Picture}
+use Rattle.con_grid.specs.Words.Picture.{IsPicture}
 use Rattle.con_rects.specs.Rules.{redrawn}
 use Rattle.con_rects.specs.Parts.{blank}
 use Rattle.con_rects.specs.declared.area.Area.{Area}

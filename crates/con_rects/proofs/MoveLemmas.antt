@@ -6,7 +6,8 @@ use Rattle.std.proofs.lemmas.Nat.{mul-add-lt}
 use Rattle.std.proofs.lemmas.Option.{get_or_from_slice_get}
 use Rattle.std.proofs.Math.Nat.{mul-le-mul_right}
 use Rattle.con_units.specs.Glyph.{Glyph}
-use Rattle.con_grid.specs.Picture.{Picture, IsPicture}
+use Rattle.con_grid.specs.Picture.{Picture}
+use Rattle.con_grid.specs.Words.Picture.{IsPicture}
 use Rattle.con_rects.specs.Rules.{redrawn}
 use Rattle.con_rects.specs.Parts.{is_within, has_cells, blank}
 use Rattle.con_rects.specs.Moves.{move_rule, free_rule, goes_back, goes_on, ComesFrom}

@@ -7,7 +7,8 @@ use Rattle.std.proofs.lemmas.Nat.{mul-add-lt}
 use Rattle.con_units.specs.Glyph.{Glyph}
 use Rattle.con_units.specs.Natural.{natural}
 use Rattle.con_units.specs.declared.place.Rect.{Rect}
-use Rattle.con_grid.specs.Picture.{Picture, IsPicture}
+use Rattle.con_grid.specs.Picture.{Picture}
+use Rattle.con_grid.specs.Words.Picture.{IsPicture}
 use Rattle.con_rects.specs.Area.{covers, cell_count}
 use Rattle.con_units.specs.Glyph.{plain_cell}
 use Rattle.con_rects.specs.Rules.{rect_written, redrawn}

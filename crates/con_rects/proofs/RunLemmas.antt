@@ -8,7 +8,8 @@ use Rattle.std.proofs.lemmas.List.{get_or-replicate, length-replicate}
 use Rattle.con_units.specs.Glyph.{Glyph}
 use Rattle.con_units.specs.Natural.{natural}
 use Rattle.con_units.specs.declared.place.Coord.{Coord}
-use Rattle.con_grid.specs.Picture.{Picture, IsPicture, place}
+use Rattle.con_grid.specs.Picture.{Picture, place}
+use Rattle.con_grid.specs.Words.Picture.{IsPicture}
 use Rattle.con_rects.specs.Rules.{redrawn}
 use Rattle.con_rects.specs.Runs.{run_count, units_written, words_written, unit_filled, word_filled}
 use Rattle.con_rects.specs.Parts.{blank, has_place, in_run, run_rule, with_unit, with_word}

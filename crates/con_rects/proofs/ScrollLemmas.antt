@@ -8,7 +8,8 @@ use Rattle.con_units.specs.Natural.{natural}
 use Rattle.con_units.specs.Rect.{IsIn}
 use Rattle.con_units.specs.declared.place.Coord.{Coord}
 use Rattle.con_units.specs.declared.place.Rect.{Rect}
-use Rattle.con_grid.specs.Picture.{Picture, IsPicture}
+use Rattle.con_grid.specs.Picture.{Picture}
+use Rattle.con_grid.specs.Words.Picture.{IsPicture}
 use Rattle.con_rects.specs.Area.{covers, used_rect}
 use Rattle.con_rects.specs.Rules.{cell_at, redrawn}
 use Rattle.con_rects.specs.Scroll.{scrolled}

@@ -1,7 +1,8 @@
 //! Writing over the cells of a run.
 ghost use Rattle.std.specs.Prelude.{replicate, ◌≡◌, ◌+◌, ◌-◌, ◌*◌, ◌<◌, ◌≤◌, ◌^◌, ◌&&◌, min, length, IfOk, IfErr};
 ghost use Rattle.con_units.specs.declared.code.Code.TheVariants.{Limit};
-ghost use Rattle.con_grid.specs.Picture.{IsPicture, place as place_of};
+ghost use Rattle.con_grid.specs.Picture.{place as place_of};
+ghost use Rattle.con_grid.specs.Words.Picture.{IsPicture};
 ghost use Rattle.con_rects.specs.Rules.{redrawn};
 ghost use Rattle.con_rects.specs.Runs.{run_count};
 ghost use Rattle.con_rects.specs.Runs.{units_written, words_written, unit_filled, word_filled};

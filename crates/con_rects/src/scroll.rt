@@ -1,7 +1,7 @@
 //! Scrolling a rectangle.
 ghost use Rattle.std.specs.Prelude.{◌≡◌, ◌+◌, ◌-◌, ◌*◌, ◌<◌, ◌≤◌, true, false};
 ghost use Rattle.con_units.specs.Glyph.{plain_cell};
-ghost use Rattle.con_grid.specs.Picture.{IsPicture};
+ghost use Rattle.con_grid.specs.Words.Picture.{IsPicture};
 ghost use Rattle.con_rects.specs.Parts.{has_cells};
 ghost use Rattle.con_rects.specs.Rules.{redrawn};
 ghost use Rattle.con_rects.specs.Scroll.{scrolled};

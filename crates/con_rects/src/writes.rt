@@ -3,7 +3,7 @@ ghost use Rattle.std.specs.Prelude.{true, ◌≡◌, pos, ◌-ℤ◌, ◌+◌, �
 ghost use Rattle.con_units.specs.Natural.{natural};
 ghost use Rattle.con_units.specs.Glyph.{plain_cell};
 ghost use Rattle.con_units.specs.declared.code.Code.TheVariants.{Limit};
-ghost use Rattle.con_grid.specs.Picture.{IsPicture};
+ghost use Rattle.con_grid.specs.Words.Picture.{IsPicture};
 ghost use Rattle.con_rects.specs.Area.{used_size, used_rect, cell_count};
 ghost use Rattle.con_rects.specs.Rules.{rect_written, redrawn};
 ghost use Rattle.con_rects.specs.Parts.{wide, area_in, has_cells, blank, rect_rule};

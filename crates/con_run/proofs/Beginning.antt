@@ -4,7 +4,7 @@ use Rattle.std.proofs.lemmas.List.Elements.{All-cons}
 use Rattle.con_events.specs.Session.{Clients}
 use Rattle.con_events.specs.declared.entry.Entry.{Entry}
 use Rattle.con_laws.specs.OpeningLaws.{opens}
-use Rattle.con_machine.specs.Painting.{is_fresh}
+use Rattle.con_machine.specs.Words.Painting.{is_fresh}
 use Rattle.con_machine.specs.History.{run}
 use Rattle.con_machine.specs.State.{State}
 use Rattle.con_paint.specs.Painter.{Kept}

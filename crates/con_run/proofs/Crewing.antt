@@ -18,7 +18,7 @@ use Rattle.con_laws.specs.Rounds.{Begun}
 use Rattle.con_session.specs.Opening.{AreFreshBy, fresh}
 use Rattle.con_session.specs.OpeningLaws.{get_below, seated_fresh}
 use Rattle.con_session.specs.Solo.{begins}
-use Rattle.con_session.specs.Worker.{HandsStandBy}
+use Rattle.con_session.specs.Words.Worker.{HandsStandBy}
 use Rattle.con_session.specs.declared.worker.Worker.{Worker}
 use Rattle.con_book.specs.Lock.{gave, newcomer}
 use Rattle.con_book.specs.Passes.{BookId, pass_id, view_of}

@@ -3,11 +3,12 @@ use Rattle.std.proofs.Common.{◌≡◌, ◌⊎◌, ℕ, ◌≤◌, Bool, true, 
 use Rattle.std.specs.Prelude.{nat_le}
 use Rattle.std.proofs.lemmas.Bool.{and_parts}
 use Rattle.std.proofs.lemmas.Bool.Decides.{nat_tests}
-use Rattle.con_events.specs.Session.{Clients, all_scripts, are_scripts, step_count}
+use Rattle.con_events.specs.Session.{Clients}
+use Rattle.con_events.specs.Words.Session.{all_scripts, are_scripts, step_count}
 use Rattle.con_events.specs.declared.script.Script.{Script}
 use Rattle.con_machine.specs.Follows.{session_start}
 use Rattle.con_laws.specs.OpeningLaws.{opens}
-use Rattle.con_machine.specs.Painting.{is_fresh}
+use Rattle.con_machine.specs.Words.Painting.{is_fresh}
 use Rattle.con_machine.specs.State.{State, opening}
 use Rattle.con_book.specs.Passes.{BookId, view_of}
 use Rattle.con_book.specs.declared.machine.Machine.{Ghosts}

@@ -27,12 +27,12 @@ use Rattle.con_session.specs.Painting.{CanvasIs, CanvasEnds, IsTied}
 use Rattle.con_link.specs.declared.fault.LinkFault.{LinkFault}
 use Rattle.con_link.specs.declared.fault.LinkFault.TheVariants as faults
 use Rattle.con_machine.specs.Follows.{is_cut}
-use Rattle.con_session.specs.Sender.{end_for}
+use Rattle.con_session.specs.Words.Sender.{end_for}
 use Rattle.con_session.specs.declared.terminal.Side.{Side}
 use Rattle.con_session.specs.Outcome.{Leaves}
 use Rattle.con_session.specs.Solo.{begins, end_by}
 use Rattle.con_session.specs.Standing.{ClientStands}
-use Rattle.con_session.specs.Worker.{IsStance}
+use Rattle.con_session.specs.Words.Worker.{IsStance}
 use Rattle.con_book.specs.History.{own}
 use Rattle.con_book.specs.Lock.{joined}
 use Rattle.con_book.specs.Passes.{BookId, pass_id, view_of, actor_of, seen}

@@ -13,7 +13,7 @@ use Rattle.con_laws.specs.Rounds.{Begun, client_at}
 use Rattle.con_machine.specs.Step.{is_ready}
 use Rattle.con_session.specs.Desk.{listed}
 use Rattle.con_session.specs.Painting.{CanvasIs, CanvasEnds}
-use Rattle.con_session.specs.Sender.{LinkIs, LinkEnds}
+use Rattle.con_session.specs.Words.Sender.{LinkIs, LinkEnds}
 use Rattle.con_session.specs.Solo.{AsksStand}
 use Rattle.con_session.specs.Standing.{ClientStands}
 use Rattle.con_session.specs.declared.terminal.Side.{Side}

@@ -1,7 +1,7 @@
 //! The book of a session, and all threads but the clients', before they run.
 ghost use Rattle.std.specs.Prelude.{◌≡◌, ℕ, ◌≤◌, ◌∷◌, true, false, List, [], IfOk, Option, None};
 ghost use Rattle.con_events.specs.declared.end.End.{End};
-ghost use Rattle.con_machine.specs.Painting.{is_fresh};
+ghost use Rattle.con_machine.specs.Words.Painting.{is_fresh};
 ghost use Rattle.con_events.specs.Session.{Clients};
 ghost use Rattle.con_machine.specs.Follows.{session_start};
 ghost use Rattle.con_book.specs.Passes.{book_id, view_of};

@@ -3,7 +3,7 @@ ghost use Rattle.std.specs.Prelude.{◌≡◌, ◌⊎◌, ℕ, ◌≤◌, ◌∷
 ghost use Rattle.con_outside.specs.Outside.{Rose};
 ghost use Rattle.con_events.specs.Session.{Clients};
 ghost use Rattle.con_machine.specs.Follows.{session_start};
-ghost use Rattle.con_machine.specs.Painting.{is_fresh};
+ghost use Rattle.con_machine.specs.Words.Painting.{is_fresh};
 ghost use Rattle.con_handlers.specs.Boxes.{boxed};
 ghost use Rattle.con_session.specs.Held.{AreFresh};
 ghost use Rattle.con_session.specs.Outcome.{Leaves};

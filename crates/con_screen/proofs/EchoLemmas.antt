@@ -7,13 +7,15 @@ use Rattle.std.proofs.lemmas.List.FromFn.{fill_by_all, get_or-map-range_with_len
 use Rattle.std.proofs.lemmas.List.Sums.{common_prefix_len-le}
 use Rattle.con_units.specs.Glyph.{Glyph, cell_of}
 use Rattle.con_units.specs.Natural.{natural}
-use Rattle.con_units.specs.Units.{first_difference}
+use Rattle.con_units.specs.Words.Units.{first_difference}
 use Rattle.con_page.specs.Page.{Page, attr, blank, shown}
 use Rattle.con_page.specs.Sides.{sides}
 use Rattle.con_page.specs.SidesLaws.{down_in_sides}
-use Rattle.con_page.specs.Echo.{origin_in, origin_after, cursor_at, rows_above, scrolled, ruled, drawn_by, texts_rule, part_rule, changed, ended}
+use Rattle.con_page.specs.Echo.{origin_in, origin_after, cursor_at, rows_above, ruled, drawn_by, texts_rule, changed, ended}
+use Rattle.con_page.specs.Words.Echo.{scrolled, part_rule}
 use Rattle.con_page.specs.declared.origin.Origin.{Origin}
-use Rattle.con_screen.specs.Echo.{echoed, part_echoed}
+use Rattle.con_screen.specs.Echo.{echoed}
+use Rattle.con_screen.specs.Words.Echo.{part_echoed}
 use Rattle.con_screen.specs.Screen.{Screen}
 
 no_lt : (a b : ℕ) → nat_lt a b ≡ false → b ≤ a

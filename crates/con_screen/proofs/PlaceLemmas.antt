@@ -5,7 +5,7 @@ use Rattle.std.proofs.lemmas.Bool.{cond-true, cond-false, lt-ltb, le-ltb}
 use Rattle.con_units.specs.Glyph.{Glyph}
 use Rattle.con_units.specs.Natural.{natural}
 use Rattle.con_page.specs.Echo.{rows_above}
-use Rattle.con_screen.specs.Echo.{IsLaidRowByRow}
+use Rattle.con_screen.specs.Words.Echo.{IsLaidRowByRow}
 
 -- i cells from row 0 on, where place 0 stands s - m cells from there
 abbrev by_cells : (i m s : ℕ) (rule : ℕ → Glyph → Glyph) (was : Glyph) → Glyph

@@ -15,11 +15,13 @@ use Rattle.con_page.specs.Effect.{effect}
 use Rattle.con_page.specs.Run.{is_printed, all_printed}
 use Rattle.con_page.specs.Ends.{is_end, all_ended}
 use Rattle.con_page.specs.declared.mode.Mode.{Mode}
-use Rattle.con_screen.specs.Told.{Told, Answered, told_after, is_switch}
+use Rattle.con_screen.specs.Told.{Told, told_after, is_switch}
+use Rattle.con_screen.specs.Words.Told.{Answered}
 use Rattle.con_screen.specs.Done.{Done, DoneSome, IsRun}
 use Rattle.con_screen.specs.Parts.{has_sequences}
 use Rattle.con_screen.specs.Screen.{Screen}
-use Rattle.con_screen.specs.Written.{spoken_alone, split_in, heard, Stage, written, any_switch, switches}
+use Rattle.con_screen.specs.Written.{split_in, heard, Stage, written, switches}
+use Rattle.con_screen.specs.Words.Written.{spoken_alone, any_switch}
 use Rattle.con_screen.proofs.WriteLemmas.{split_after-append, written-none, written-append, switches-none, switches-append, Stands, MoreSome}
 
 both : (a b : Bool) → (a && b) ≡ true → (a ≡ true) × (b ≡ true)

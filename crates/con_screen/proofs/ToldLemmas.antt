@@ -12,9 +12,11 @@ use Rattle.con_page.specs.Page.{Page}
 use Rattle.con_page.specs.Effect.{first, is_reset}
 use Rattle.con_units.specs.Decimal.{decimal}
 use Rattle.con_page.specs.Kinds.{report_row, report_column}
-use Rattle.con_screen.specs.Told.{Told, cursor_report, device_report, reported, private_told, csi_told, told_by, told_after, HasShortTitle}
+use Rattle.con_screen.specs.Told.{Told, cursor_report, reported, csi_told, told_by, told_after}
+use Rattle.con_screen.specs.Words.Told.{device_report, private_told, HasShortTitle}
 use Rattle.con_screen.specs.Parts.{has_sequences, item_alone}
-use Rattle.con_screen.specs.Written.{spoken_alone, split_in, split_on, Heard, heard, written}
+use Rattle.con_screen.specs.Written.{split_in, split_on, Heard, heard, written}
+use Rattle.con_screen.specs.Words.Written.{spoken_alone}
 use Rattle.con_screen.specs.Laws.{IsToldWithin}
 use Rattle.con_page.specs.declared.mode.Mode.{Mode}
 

@@ -15,3 +15,5 @@ pub mod ScreenView
 pub mod AnswersView
 pub mod Done
 pub mod Completed
+-- The words of the code and of laws about these files, which a reader need not believe.
+pub mod Words

@@ -2,7 +2,8 @@
 ghost use Rattle.std.specs.Prelude.{◌≡◌, ℕ, ◌+◌, ◌-◌, ◌*◌, ◌<◌, ◌≤◌, ◌++◌, ◌∷◌, [], Some, None, IsSome};
 ghost use Rattle.std.specs.Prelude.{IsTrue, ◌↔◌, IfOk, OnOk, OnErr, max, vec_len, vec_capacity, length};
 ghost use Rattle.con_units.specs.Decimal.{decimal};
-ghost use Rattle.con_screen.specs.Told.{Told, Answered, nothing_told, cursor_report, device_report, reported};
+ghost use Rattle.con_screen.specs.Told.{Told, nothing_told, cursor_report, reported};
+ghost use Rattle.con_screen.specs.Words.Told.{Answered, device_report};
 
 use con_units::OutOfMemory;
 use std::alloc::Global;
@@ -21,7 +22,7 @@ pub struct Answers {
 
 impl Model for Answers {
     ghost use Rattle.con_units.specs.Decimal.{decimal};
-    ghost use Rattle.con_screen.specs.Told.{Answered};
+    ghost use Rattle.con_screen.specs.Words.Told.{Answered};
 
     ghost Value = { Answered };
 

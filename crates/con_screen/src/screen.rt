@@ -2,7 +2,7 @@
 ghost use Rattle.std.specs.Prelude.{◌≡◌, ℕ, ◌+◌, ◌-◌, ◌<◌, ◌≤◌, true, false, [], length, take, None, IfOk, IfErr, OnOk, ◌⊎◌};
 ghost use Rattle.con_units.specs.Natural.{natural};
 ghost use Rattle.con_units.specs.declared.code.Code.TheVariants.{BadArgument};
-ghost use Rattle.con_grid.specs.Picture.{IsInside};
+ghost use Rattle.con_grid.specs.Words.Picture.{IsInside};
 ghost use Rattle.con_screen.specs.Laws.{IsWrittenWhole, IsToldWithin};
 
 mod alternate;
@@ -40,11 +40,14 @@ impl Screen {
     ghost use Rattle.std.specs.Borrow.{sem};
     ghost use Rattle.con_screen.specs.ScreenLending.{LendsGrid};
     ghost use Rattle.con_units.specs.Attr.{plain};
-    ghost use Rattle.con_page.specs.Page.{IsPage, attr};
+    ghost use Rattle.con_page.specs.Page.{attr};
+    ghost use Rattle.con_page.specs.Words.Page.{IsPage};
     ghost use Rattle.con_screen.specs.Written.{written, switches};
-    ghost use Rattle.con_page.specs.Setters.{new_page, cursor_set, origin_set, IsOrigin, pen_of_word, info_of};
+    ghost use Rattle.con_page.specs.Setters.{new_page, cursor_set, origin_set, pen_of_word, info_of};
+    ghost use Rattle.con_page.specs.Words.Setters.{IsOrigin};
     ghost use Rattle.con_screen.specs.ModeSet.{mode_set};
-    ghost use Rattle.con_page.specs.Fit.{AreSizes, IsFit, refitted};
+    ghost use Rattle.con_page.specs.Fit.{refitted};
+    ghost use Rattle.con_page.specs.Words.Fit.{AreSizes, IsFit};
     ghost use Rattle.con_page.specs.Sides.{sides};
 
     /// Writes units, up to the end of a sequence that switches to the alternate screen or back, and says how many.

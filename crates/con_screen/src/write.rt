@@ -5,8 +5,9 @@ ghost use Rattle.con_vtgram.specs.State.{item_of};
 ghost use Rattle.con_vtgram.specs.declared.item.Csi.{Csi as TheCsi};
 ghost use Rattle.con_vtgram.specs.declared.item.Item.TheVariants as item;
 ghost use Rattle.con_screen.specs.Told as tells;
+ghost use Rattle.con_screen.specs.Words.Told as tells_words;
 ghost use Rattle.con_screen.specs.Parts as parts;
-ghost use Rattle.con_page.specs.Page.{IsPage};
+ghost use Rattle.con_page.specs.Words.Page.{IsPage};
 ghost use Rattle.con_screen.specs.Done.{Done, DoneSome, IsRun};
 ghost use Rattle.con_page.specs.Applied.{effect_if};
 ghost use Rattle.con_screen.specs.Completed.{told_if, switch_if};
@@ -49,7 +50,7 @@ fn is_switch(csi: &Csi) -> bool
 
 fn tell_private(csi: &Csi, answers: &mut Answers)
     requires { 0 < answers.old.room }
-    ensures { answers.new ≡ record { told = tells.private_told answers.old.told csi.now; room = answers.old.room - 1 } }
+    ensures { answers.new ≡ record { told = tells_words.private_told answers.old.told csi.now; room = answers.old.room - 1 } }
 {
     let on = match csi.last {
         0x68 => true,
@@ -69,7 +70,7 @@ fn tell_private(csi: &Csi, answers: &mut Answers)
 fn tell_plain(page: &Page, csi: &Csi, answers: &mut Answers)
     requires page { IsPage page.now }
     requires room { 0 < answers.old.room }
-    ensures { answers.new ≡ record { told = tells.plain_told page.now answers.old.told csi.now; room = answers.old.room - 1 } }
+    ensures { answers.new ≡ record { told = tells_words.plain_told page.now answers.old.told csi.now; room = answers.old.room - 1 } }
 {
     if csi.last == 0x6E && csi.params[0] == 6 {
         answers.tell_cursor(page.report_row(), page.report_column());

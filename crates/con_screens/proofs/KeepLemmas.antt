@@ -4,18 +4,21 @@ use Rattle.std.specs.Prelude.{IsSome, IfSome, ◌==◌, nat_lt, ◌%◌, ◌&&�
 use Rattle.std.specs.Option.{option_map}
 use Rattle.std.proofs.lemmas.List.{get_or-set_other, length-set, length-replicate}
 use Rattle.std.proofs.lemmas.Bool.{cond_both, eqb-false}
-use Rattle.con_page.specs.Page.{Page, IsPage}
+use Rattle.con_page.specs.Page.{Page}
+use Rattle.con_page.specs.Words.Page.{IsPage}
 use Rattle.con_screen.specs.Screen.{Screen}
 use Rattle.con_page.specs.Setters.{default_tabs}
 use Rattle.con_page.specs.Sides.{Sides, sides}
-use Rattle.con_screens.specs.Buffer.{IsBuffer, HasWindow, new_buffer, new_screen}
-use Rattle.con_screens.specs.Buffers.{Buffers, AreBuffers, IsLive, buffer_at, screen_in, screen_at, with_slot, gone, created, first_buffers}
+use Rattle.con_screens.specs.Buffer.{new_buffer, new_screen}
+use Rattle.con_screens.specs.Words.Buffer.{IsBuffer, HasWindow}
+use Rattle.con_screens.specs.Buffers.{Buffers, buffer_at, screen_at, gone, created, first_buffers}
+use Rattle.con_screens.specs.Words.Buffers.{AreBuffers, IsLive, screen_in, with_slot}
 use Rattle.con_units.specs.declared.view.View.{View}
-use Rattle.con_screens.specs.Buffers.{with_handles}
+use Rattle.con_screens.specs.Words.Buffers.{with_handles}
 use Rattle.con_screens.specs.View.{view_of}
 use Rattle.con_screens.specs.Slot.{HasPages, Keeps}
 use Rattle.con_screens.specs.LentLaws.{some_not_none, live_within, set_each, keeps_slot, some_mapped, is_mapped, keeps_shown}
-use Rattle.con_screens.specs.Stamps.{Remembered, remembered, all_remembered}
+use Rattle.con_screens.specs.Words.Stamps.{Remembered, remembered, all_remembered}
 use Rattle.con_screens.specs.StampLaws.{mapped_same}
 use Rattle.con_screens.specs.declared.buffer.Buffer.{Buffer}
 

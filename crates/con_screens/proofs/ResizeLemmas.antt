@@ -5,13 +5,16 @@ use Rattle.std.specs.Option.{option_map}
 use Rattle.std.proofs.lemmas.List.{get_or-set_same, get_or-set_other, length-set, get_or_push, get_or_past, get_or_default}
 use Rattle.std.proofs.lemmas.Bool.{cases_eq, cases_lt}
 use Rattle.con_units.specs.declared.place.Size.{Size}
-use Rattle.con_page.specs.Page.{IsPage, shown}
+use Rattle.con_page.specs.Page.{shown}
+use Rattle.con_page.specs.Words.Page.{IsPage}
 use Rattle.con_screen.specs.Screen.{Screen}
 use Rattle.con_page.specs.Fit.{refitted}
-use Rattle.con_screens.specs.Buffer.{IsBuffer, HasWindow}
-use Rattle.con_screens.specs.Buffers.{Buffers, AreBuffers, buffer_at}
+use Rattle.con_screens.specs.Words.Buffer.{IsBuffer, HasWindow}
+use Rattle.con_screens.specs.Buffers.{Buffers, buffer_at}
+use Rattle.con_screens.specs.Words.Buffers.{AreBuffers}
 use Rattle.con_screens.specs.Slot.{HasPages, HaveWindow}
-use Rattle.con_screens.specs.Resize.{IsSlotFit, screen_resized, buffer_resized, all_resized}
+use Rattle.con_screens.specs.Resize.{screen_resized, buffer_resized, all_resized}
+use Rattle.con_screens.specs.Words.Resize.{IsSlotFit}
 use Rattle.con_screens.specs.declared.buffer.Buffer.{Buffer}
 use Rattle.con_screens.specs.declared.fits.BufferFit.{BufferFit}
 

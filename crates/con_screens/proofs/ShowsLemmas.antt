@@ -9,12 +9,15 @@ use Rattle.con_units.specs.View.{row_of, row_part}
 use Rattle.con_units.specs.declared.place.Coord.{Coord}
 use Rattle.con_units.specs.declared.place.Size.{Size}
 use Rattle.con_units.specs.declared.view.View.{View}
-use Rattle.con_grid.specs.Picture.{Picture, IsPicture, IsUntouched}
-use Rattle.con_page.specs.Page.{Page, IsPage}
+use Rattle.con_grid.specs.Picture.{Picture}
+use Rattle.con_grid.specs.Words.Picture.{IsPicture, IsUntouched}
+use Rattle.con_page.specs.Page.{Page}
+use Rattle.con_page.specs.Words.Page.{IsPage}
 use Rattle.con_page.specs.Sides.{sides}
-use Rattle.con_screens.specs.View.{rows_in, cursor_in, cursor_shown, view_of}
+use Rattle.con_screens.specs.View.{rows_in, cursor_shown, view_of}
+use Rattle.con_screens.specs.Words.View.{cursor_in}
 use Rattle.con_screens.specs.ViewLaws.{length-rows_in, row_of_rows, view_row}
-use Rattle.con_screens.specs.Stamps.{WasShown}
+use Rattle.con_screens.specs.Words.Stamps.{WasShown}
 use Rattle.con_screens.specs.StampLaws.{as_shown}
 
 -- one cell more is the same

@@ -8,7 +8,8 @@ use Rattle.std.proofs.lemmas.Nat.{mul-add-lt}
 use Rattle.std.proofs.Math.Nat.{mul-le-mul_right}
 use Rattle.con_units.specs.Glyph.{Glyph}
 use Rattle.con_units.specs.View.{row_of, row_part}
-use Rattle.con_grid.specs.Picture.{Picture, IsPicture, IsUntouched}
+use Rattle.con_grid.specs.Picture.{Picture}
+use Rattle.con_grid.specs.Words.Picture.{IsPicture, IsUntouched}
 use Rattle.con_screens.specs.View.{rows_in}
 use Rattle.con_screens.specs.ViewLaws.{length-rows_in}
 

@@ -4,13 +4,15 @@ use Rattle.std.specs.Prelude.{fold}
 use Rattle.std.proofs.lemmas.List.{take-append-drop, drop-take, length-drop, take_all, take-take}
 use Rattle.std.proofs.lemmas.List.Sums.{fold-append}
 use Rattle.std.proofs.lemmas.Bool.{or_parts}
-use Rattle.con_page.specs.Page.{IsPage}
-use Rattle.con_screen.specs.Told.{Told, Answered}
+use Rattle.con_page.specs.Words.Page.{IsPage}
+use Rattle.con_screen.specs.Told.{Told}
+use Rattle.con_screen.specs.Words.Told.{Answered}
 use Rattle.con_screen.specs.Written.{Stage, written, switches}
 use Rattle.con_screen.specs.Laws.{IsWrittenWhole}
-use Rattle.con_screen.specs.Alternate.{IsSwitchedWhole}
-use Rattle.con_screens.specs.Buffer.{IsBuffer, BufferStage, carried, turned, unit_written, written_on}
-use Rattle.con_screens.specs.Stamps.{remembered}
+use Rattle.con_screen.specs.Words.Alternate.{IsSwitchedWhole}
+use Rattle.con_screens.specs.Buffer.{BufferStage, turned, unit_written, written_on}
+use Rattle.con_screens.specs.Words.Buffer.{IsBuffer, carried}
+use Rattle.con_screens.specs.Words.Stamps.{remembered}
 use Rattle.con_screens.specs.declared.buffer.Buffer.{Buffer}
 
 abbrev pub stage : Buffer → Told → BufferStage

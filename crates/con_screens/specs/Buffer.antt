@@ -1,34 +1,13 @@
 -- One screen buffer: a main screen and an alternate one, of which one is shown.
-use Rattle.std.specs.Prelude.{ℕ, ◌≡◌, ◌<◌, Bool, true, false, List, [], ◌∷◌, fold, Option, None, Some, if◌then◌else◌}
+use Rattle.std.specs.Prelude.{ℕ, Bool, true, false, List, [], ◌∷◌, fold, Option, None, Some, if◌then◌else◌}
 use Rattle.std.specs.Option.{option_map_or}
 use Rattle.con_units.specs.declared.place.Size.{Size}
-use Rattle.con_page.specs.Page.{IsPage}
 use Rattle.con_screen.specs.Screen.{Screen}
 use Rattle.con_page.specs.Setters.{new_page}
 use Rattle.con_screen.specs.Told.{Told}
-use Rattle.con_screen.specs.Written.{Stage, written, switches}
+use Rattle.con_screen.specs.Written.{written, switches}
 use Rattle.con_screen.specs.Alternate.{alternate_begun, mode_taken}
 use Rattle.con_screens.specs.declared.buffer.Buffer.{Buffer}
-
-abbrev pub main_screen : Buffer → Screen
-main_screen b = if b.alternate then b.hidden else b.shown
-
-abbrev pub alternate_screen : Buffer → Screen
-alternate_screen b = if b.alternate then b.shown else b.hidden
-
--- a screen of this window
-pub record HasWindow (s : Screen) (w h : ℕ) : Type 0 where
-  pub page : IsPage s.page
-  pub wide : s.page.w ≡ w
-  pub tall : s.page.h ≡ h
-
--- both screens have the window's size, and the alternate one is no larger
-pub record IsBuffer (w h births : ℕ) (b : Buffer) : Type 0 where
-  pub shown : HasWindow b.shown w h
-  pub hidden : HasWindow b.hidden w h
-  pub columns : (alternate_screen b).page.grid.width ≡ w
-  pub rows : (alternate_screen b).page.grid.height ≡ h
-  pub born : b.birth < births
 
 -- a screen as large as the window
 abbrev pub new_screen : ℕ → ℕ → Screen
@@ -66,21 +45,3 @@ buffer_written t units b = (written_on b t units).buffer
 -- what units tell that are written on a buffer, if there is one
 abbrev pub told_on : Option Buffer → Told → List ℕ → Told
 told_on o t units = option_map_or (λ b. (written_on b t units).told) o t
-
--- ---- the same in its parts
-
--- a screen that came of the shown one, in its place; and the other one shown, where the text switched
-abbrev pub carried : Buffer → Stage → Bool → BufferStage
-carried b st switch = record {
-  buffer = if switch then turned (record b { shown = st.screen }) st.told.alternate
-      else record b { shown = st.screen };
-  told = st.told;
-}
-
--- the alternate screen comes to be shown, unless it is
-abbrev pub alternate_on : Buffer → Buffer
-alternate_on b = if b.alternate then b else record b { shown = alternate_begun b.hidden b.shown; hidden = b.shown; alternate = true }
-
--- the main screen comes to be shown as it was left, in the mode of the alternate one, unless it is shown
-abbrev pub alternate_off : Buffer → Buffer
-alternate_off b = if b.alternate then record b { shown = mode_taken b.hidden b.shown.page; hidden = b.shown; alternate = false } else b

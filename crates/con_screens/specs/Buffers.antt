@@ -1,10 +1,10 @@
 -- The screen buffers of a console.
-use Rattle.std.specs.Prelude.{ℕ, ◌≡◌, ◌+◌, ◌-◌, ◌<◌, ◌≤◌, ◌==◌, nat_le, Bool, false, List, ◌∷◌, replicate, ◌^◌, length}
-use Rattle.std.specs.Prelude.{Option, None, Some, IsSome, IfSome, is_none, slice_index_or, slice_set, if◌then◌else◌}
+use Rattle.std.specs.Prelude.{ℕ, ◌+◌, ◌-◌, ◌==◌, nat_le, Bool, false, List, ◌∷◌, replicate}
+use Rattle.std.specs.Prelude.{Option, None, Some, is_none, slice_index_or, slice_set, if◌then◌else◌}
 use Rattle.std.specs.List.{position}
 use Rattle.std.specs.Option.{option_map, option_map_or}
 use Rattle.con_screen.specs.Screen.{Screen}
-use Rattle.con_screens.specs.Buffer.{IsBuffer, new_screen, new_buffer}
+use Rattle.con_screens.specs.Buffer.{new_screen, new_buffer}
 use Rattle.con_screens.specs.declared.buffer.Buffer.{Buffer}
 
 pub record Buffers : Type 0 where
@@ -22,9 +22,6 @@ pub record Buffers : Type 0 where
 abbrev pub buffer_at : Buffers → ℕ → Option Buffer
 buffer_at s id = slice_index_or s.slots id None
 
-abbrev pub IsLive : Buffers → ℕ → Type 0
-IsLive s id = IsSome (buffer_at s id)
-
 -- the shown screen of an id; a blank one of the window's size where it has no buffer
 abbrev pub screen_at : Buffers → ℕ → Screen
 screen_at s id = option_map_or (λ b. b.shown) (buffer_at s id) (new_screen s.w s.h)
@@ -32,14 +29,6 @@ screen_at s id = option_map_or (λ b. b.shown) (buffer_at s id) (new_screen s.w 
 -- whether a buffer shows its alternate screen
 abbrev pub is_alternate : Buffers → ℕ → Bool
 is_alternate s id = option_map_or (λ b. b.alternate) (buffer_at s id) false
-
-pub record AreBuffers (s : Buffers) : Type 0 where
-  pub eight : length s.slots ≡ 8
-  pub main : IsLive s 0
-  pub active : IsLive s s.active
-  pub some : (0 < s.w) × (0 < s.h)
-  pub few : (s.w ≤ 512) × (s.h ≤ 256)
-  pub each : (id : ℕ) → IfSome (buffer_at s id) (IsBuffer s.w s.h s.births)
 
 -- the least id that no live buffer has, of the eight
 abbrev pub free_id : Buffers → Option ℕ
@@ -73,20 +62,3 @@ handle_released s id =
 -- the buffers of a new console
 abbrev pub first_buffers : ℕ → ℕ → Buffers
 first_buffers w h = record { slots = Some (new_buffer w h 0 0) ∷ replicate 7 None; w = w; h = h; active = 0; births = 1 }
-
--- the memory of a buffer was taken for these buffers
-pub record IsRoom (s : Buffers) (b : Buffer) : Type 0 where
-  pub buffer : b ≡ new_buffer s.w s.h 1 s.births
-  pub births : s.births + 1 < 2 ^ 64
-
--- ---- words of proofs
-
--- the shown screen of a place; a blank one of the window's size where it has no buffer
-abbrev pub screen_in : Buffers → Option Buffer → Screen
-screen_in s o = option_map_or (λ b. b.shown) o (new_screen s.w s.h)
-
-abbrev pub with_slot : Buffers → ℕ → Option Buffer → Buffers
-with_slot s id b = record s { slots = slice_set s.slots id b }
-
-abbrev pub with_handles : ℕ → Buffer → Buffer
-with_handles n b = record b { handles = n }

@@ -1,5 +1,5 @@
 -- The fields of what is made ready for all buffers.
-use Rattle.con_screens.specs.Resize.{Fits}
+use Rattle.con_screens.specs.Words.Resize.{Fits}
 use Rattle.con_screens.specs.declared.fits.AllFits.TheInside.{Inside}
 
 abbrev pub fits_of : Inside → Fits

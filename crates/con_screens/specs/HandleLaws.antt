@@ -7,8 +7,8 @@ use Rattle.std.proofs.lemmas.Bool.Decides.{nat_tests}
 use Rattle.std.proofs.lemmas.List.{get_or-set_same, get_or-set_other}
 use Rattle.std.proofs.lemmas.List.Quantifiers.{position-Some}
 use Rattle.con_screens.specs.Buffer.{new_buffer}
-use Rattle.con_screens.specs.Buffers.{Buffers, IsLive, buffer_at, handles_of, with_handles, with_buffer}
-use Rattle.con_screens.specs.Buffers.{free_id, created, gone, handle_retained, handle_released}
+use Rattle.con_screens.specs.Buffers.{Buffers, buffer_at, handles_of, with_buffer, free_id, created, gone, handle_retained, handle_released}
+use Rattle.con_screens.specs.Words.Buffers.{IsLive, with_handles}
 use Rattle.con_screens.specs.LentLaws.{some_not_none, live_within}
 use Rattle.con_screens.specs.declared.buffer.Buffer.{Buffer}
 

@@ -7,11 +7,13 @@ use Rattle.std.proofs.lemmas.Bool.{cases_eq, cases_lt}
 use Rattle.std.proofs.lemmas.List.{get_or-set_same, get_or-set_other, length-set, set-get_or}
 use Rattle.con_units.specs.Glyph.{Glyph}
 use Rattle.con_units.specs.declared.place.Size.{Size}
-use Rattle.con_page.specs.Page.{Page, IsPage}
+use Rattle.con_page.specs.Page.{Page}
+use Rattle.con_page.specs.Words.Page.{IsPage}
 use Rattle.con_screen.specs.Screen.{Screen}
 use Rattle.con_page.specs.Sides.{Sides, sides}
-use Rattle.con_screens.specs.Buffer.{IsBuffer, HasWindow}
-use Rattle.con_screens.specs.Buffers.{Buffers, AreBuffers, IsLive, buffer_at, screen_in, screen_at, is_alternate, handles_of, with_slot}
+use Rattle.con_screens.specs.Words.Buffer.{IsBuffer, HasWindow}
+use Rattle.con_screens.specs.Buffers.{Buffers, buffer_at, screen_at, is_alternate, handles_of}
+use Rattle.con_screens.specs.Words.Buffers.{AreBuffers, IsLive, screen_in, with_slot}
 use Rattle.con_screens.specs.Lending.{with_shown, screen_left}
 use Rattle.con_screens.specs.declared.buffer.Buffer.{Buffer}
 

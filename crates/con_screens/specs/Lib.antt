@@ -15,3 +15,5 @@ pub mod WrittenInTurn
 -- The code's own words.
 pub mod Views
 pub mod FitsView
+-- The words of the code and of laws about these files, which a reader need not believe.
+pub mod Words

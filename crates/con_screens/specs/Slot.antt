@@ -1,7 +1,7 @@
 -- The place of one buffer.
 use Rattle.std.specs.Prelude.{ℕ, Option, None, Some, IfSome}
-use Rattle.con_page.specs.Page.{IsPage}
-use Rattle.con_screens.specs.Buffer.{IsBuffer, HasWindow}
+use Rattle.con_page.specs.Words.Page.{IsPage}
+use Rattle.con_screens.specs.Words.Buffer.{IsBuffer, HasWindow}
 use Rattle.con_screens.specs.declared.buffer.Buffer.{Buffer}
 
 -- both screens, if there is a buffer, are within their bounds

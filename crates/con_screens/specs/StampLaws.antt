@@ -7,15 +7,20 @@ use Rattle.std.proofs.lemmas.Bool.{lt-ltb}
 use Rattle.con_units.specs.Glyph.{Glyph}
 use Rattle.con_units.specs.View.{row_of, row_part}
 use Rattle.con_units.specs.declared.view.View.{View}
-use Rattle.con_grid.specs.Picture.{Picture, IsPicture, IsRowOf, IsUntouched, raised}
-use Rattle.con_page.specs.Page.{Page, IsPage}
+use Rattle.con_grid.specs.Picture.{Picture, raised}
+use Rattle.con_grid.specs.Words.Picture.{IsPicture, IsRowOf, IsUntouched}
+use Rattle.con_page.specs.Page.{Page}
+use Rattle.con_page.specs.Words.Page.{IsPage}
 use Rattle.con_screen.specs.Screen.{Screen}
 use Rattle.con_page.specs.Sides.{Sides, sides}
-use Rattle.con_screens.specs.Buffer.{HasWindow, new_buffer}
-use Rattle.con_screens.specs.Buffers.{Buffers, AreBuffers, IsLive, buffer_at, screen_in, screen_at, is_alternate, gone, created}
+use Rattle.con_screens.specs.Buffer.{new_buffer}
+use Rattle.con_screens.specs.Words.Buffer.{HasWindow}
+use Rattle.con_screens.specs.Buffers.{Buffers, buffer_at, screen_at, is_alternate, gone, created}
+use Rattle.con_screens.specs.Words.Buffers.{AreBuffers, IsLive, screen_in}
 use Rattle.con_screens.specs.Lending.{with_shown, screen_left}
 use Rattle.con_screens.specs.View.{rows_in, view_of}
-use Rattle.con_screens.specs.Stamps.{Remembered, remembered, all_remembered, WereRows, WasShown, IsAsShown, numbered}
+use Rattle.con_screens.specs.Stamps.{numbered}
+use Rattle.con_screens.specs.Words.Stamps.{Remembered, remembered, all_remembered, WereRows, WasShown, IsAsShown}
 use Rattle.con_screens.specs.LentLaws.{some_not_none, screen_has, alternate_has, window_keeps}
 use Rattle.con_screens.specs.ViewLaws.{length-rows_in, row_of_rows, same_part, view_row}
 use Rattle.con_screens.specs.declared.buffer.Buffer.{Buffer}

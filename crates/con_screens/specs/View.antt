@@ -1,7 +1,6 @@
 -- What a console shows.
 use Rattle.std.specs.Prelude.{ℕ, zero, suc, pos, ◌+◌, ◌-◌, Bool, nat_le, nat_lt, ◌&&◌, List, [], ◌++◌, if◌then◌else◌}
 use Rattle.con_units.specs.Glyph.{Glyph}
-use Rattle.con_units.specs.declared.place.Coord.{Coord}
 use Rattle.con_units.specs.View.{row_part}
 use Rattle.con_units.specs.declared.view.View.{View}
 use Rattle.con_page.specs.Page.{Page}
@@ -27,9 +26,3 @@ view_of p = record {
   cursor = if cursor_shown p then record { x = pos (p.x - p.left); y = pos (p.y - p.top) } else record { x = pos 0; y = pos 0 };
   visible = cursor_shown p;
 }
-
--- ---- words of proofs
-
--- where it stands, from the window's corner; (0, 0) where it is not shown
-abbrev pub cursor_in : Page → Coord
-cursor_in p = if cursor_shown p then record { x = pos (p.x - p.left); y = pos (p.y - p.top) } else record { x = pos 0; y = pos 0 }

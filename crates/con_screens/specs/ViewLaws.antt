@@ -9,10 +9,14 @@ use Rattle.std.proofs.lemmas.Int.{ints}
 use Rattle.std.proofs.Math.Nat.{mul-le-mul_right}
 use Rattle.con_units.specs.Glyph.{Glyph}
 use Rattle.con_units.specs.declared.place.Coord.{Coord}
-use Rattle.con_units.specs.View.{IsWhole, row_of, row_part}
-use Rattle.con_grid.specs.Picture.{Picture, IsPicture}
-use Rattle.con_page.specs.Page.{Page, IsPage}
-use Rattle.con_screens.specs.View.{rows_in, is_from, cursor_shown, cursor_in, view_of}
+use Rattle.con_units.specs.View.{row_of, row_part}
+use Rattle.con_units.specs.Words.View.{IsWhole}
+use Rattle.con_grid.specs.Picture.{Picture}
+use Rattle.con_grid.specs.Words.Picture.{IsPicture}
+use Rattle.con_page.specs.Page.{Page}
+use Rattle.con_page.specs.Words.Page.{IsPage}
+use Rattle.con_screens.specs.View.{rows_in, is_from, cursor_shown, view_of}
+use Rattle.con_screens.specs.Words.View.{cursor_in}
 
 -- ---- a view is whole
 

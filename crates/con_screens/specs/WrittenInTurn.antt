@@ -14,9 +14,12 @@ use Rattle.con_vtgram.specs.Spoken.{Spoken}
 use Rattle.con_page.specs.Page.{Page}
 use Rattle.con_screen.specs.Screen.{Screen}
 use Rattle.con_page.specs.Effect.{effect, first}
-use Rattle.con_screen.specs.Told.{Told, told_after, told_by, csi_told, private_told, switched, is_switch}
-use Rattle.con_screen.specs.Written.{Stage, heard, written, switches, any_switch, split_on}
-use Rattle.con_screens.specs.Buffer.{BufferStage, carried, unit_written, written_on, buffer_written}
+use Rattle.con_screen.specs.Told.{Told, told_after, told_by, csi_told, switched, is_switch}
+use Rattle.con_screen.specs.Words.Told.{private_told}
+use Rattle.con_screen.specs.Written.{Stage, heard, written, switches, split_on}
+use Rattle.con_screen.specs.Words.Written.{any_switch}
+use Rattle.con_screens.specs.Buffer.{BufferStage, unit_written, written_on, buffer_written}
+use Rattle.con_screens.specs.Words.Buffer.{carried}
 use Rattle.con_screens.specs.Buffers.{Buffers, with_buffer}
 use Rattle.con_screens.specs.declared.buffer.Buffer.{Buffer}
 

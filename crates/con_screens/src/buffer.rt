@@ -1,8 +1,9 @@
 //! One buffer.
 ghost use Rattle.std.specs.Prelude.{◌≡◌, ℕ, ◌-◌, ◌+◌, ◌<◌, ◌≤◌, true, false, length, take, IfOk};
-ghost use Rattle.con_page.specs.Page.{IsPage};
-ghost use Rattle.con_screens.specs.Buffer.{IsBuffer, new_buffer, alternate_on, alternate_off, turned, written_on, buffer_written};
-ghost use Rattle.con_screens.specs.Stamps.{remembered};
+ghost use Rattle.con_page.specs.Words.Page.{IsPage};
+ghost use Rattle.con_screens.specs.Buffer.{new_buffer, turned, written_on, buffer_written};
+ghost use Rattle.con_screens.specs.Words.Buffer.{IsBuffer, alternate_on, alternate_off};
+ghost use Rattle.con_screens.specs.Words.Stamps.{remembered};
 
 use con_screen::{Answers, Screen, is_switched_whole, is_written_whole};
 use con_units::{OutOfMemory, Size};
@@ -36,7 +37,7 @@ impl Drop for Buffer {
 
 impl Buffer {
     ghost use Rattle.std.specs.Borrow.{sem};
-    ghost use Rattle.con_screens.specs.Lending.{LendsShown};
+    ghost use Rattle.con_screens.specs.Words.Lending.{LendsShown};
 
     pub(crate) fn new(
         alloc: Global,

@@ -17,7 +17,7 @@ pub struct AllFits {
 }
 
 impl Model for AllFits {
-    ghost use Rattle.con_screens.specs.Resize.{Fits};
+    ghost use Rattle.con_screens.specs.Words.Resize.{Fits};
 
     ghost Value = { Fits };
 

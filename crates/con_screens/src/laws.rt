@@ -2,18 +2,21 @@
 ghost use Rattle.std.specs.Prelude.{◌≡◌, ◌≢◌, ℕ, ◌+◌, ◌<◌, ◌==◌, true, List, [], ◌++◌, Option, Some, if◌then◌else◌};
 ghost use Rattle.con_units.specs.Glyph.{Glyph};
 ghost use Rattle.con_units.specs.declared.place.Size.{Size};
-ghost use Rattle.con_units.specs.View.{IsWhole, row_of, row_part};
+ghost use Rattle.con_units.specs.View.{row_of, row_part};
+ghost use Rattle.con_units.specs.Words.View.{IsWhole};
 ghost use Rattle.con_grid.specs.Picture.{raised};
-ghost use Rattle.con_page.specs.Page.{Page, IsPage};
+ghost use Rattle.con_page.specs.Page.{Page};
+ghost use Rattle.con_page.specs.Words.Page.{IsPage};
 ghost use Rattle.con_screen.specs.Screen.{Screen};
 ghost use Rattle.con_page.specs.Sides.{sides};
 ghost use Rattle.con_screen.specs.Told.{Told};
-ghost use Rattle.con_screens.specs.Buffer.{HasWindow, buffer_written};
-ghost use Rattle.con_screens.specs.Buffers.{Buffers, AreBuffers, IsLive, buffer_at, screen_at, is_alternate, handles_of};
-ghost use Rattle.con_screens.specs.Buffers.{with_buffer, free_id, created, handle_retained, handle_released};
+ghost use Rattle.con_screens.specs.Buffer.{buffer_written};
+ghost use Rattle.con_screens.specs.Words.Buffer.{HasWindow};
+ghost use Rattle.con_screens.specs.Buffers.{Buffers, buffer_at, screen_at, is_alternate, handles_of, with_buffer, free_id, created, handle_retained, handle_released};
+ghost use Rattle.con_screens.specs.Words.Buffers.{AreBuffers, IsLive};
 ghost use Rattle.con_screens.specs.Lending.{screen_left};
 ghost use Rattle.con_screens.specs.View.{view_of};
-ghost use Rattle.con_screens.specs.Stamps.{all_remembered, WasShown};
+ghost use Rattle.con_screens.specs.Words.Stamps.{all_remembered, WasShown};
 
 /// A screen that was lent and keeps its sides leaves sound buffers, and so does one that was resized behind the window;
 /// on an alternate screen, to the window's size. Nothing else changes.

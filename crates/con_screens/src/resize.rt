@@ -1,11 +1,12 @@
 //! Resizing a buffer with the window.
 ghost use Rattle.std.specs.Prelude.{◌≡◌, ℕ, ◌<◌, ◌≤◌, None, length, map, slice_index_or, IfOk};
 ghost use Rattle.std.specs.Option.{option_map};
-ghost use Rattle.con_page.specs.Page.{IsPage};
-ghost use Rattle.con_page.specs.Fit.{AreSizes};
-ghost use Rattle.con_screens.specs.Buffer.{HasWindow};
+ghost use Rattle.con_page.specs.Words.Page.{IsPage};
+ghost use Rattle.con_page.specs.Words.Fit.{AreSizes};
+ghost use Rattle.con_screens.specs.Words.Buffer.{HasWindow};
 ghost use Rattle.con_screens.specs.Slot.{HasPages, HaveWindow};
-ghost use Rattle.con_screens.specs.Resize.{side_after, target, buffer_resized, IsBufferFit, IsSlotFit};
+ghost use Rattle.con_screens.specs.Resize.{side_after, buffer_resized};
+ghost use Rattle.con_screens.specs.Words.Resize.{target, IsBufferFit, IsSlotFit};
 
 use crate::buffer::Buffer;
 use crate::fits::BufferFit;

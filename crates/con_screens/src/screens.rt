@@ -4,7 +4,8 @@ ghost use Rattle.std.specs.Prelude.{length, replicate, is_none, is_some, IsSome,
 ghost use Rattle.std.specs.List.{position};
 ghost use Rattle.std.specs.Option.{option_map_or};
 ghost use Rattle.con_units.specs.declared.code.Code.TheVariants.{Limit};
-ghost use Rattle.con_screens.specs.Buffer.{HasWindow, new_buffer, alternate_on, alternate_off, buffer_written, told_on};
+ghost use Rattle.con_screens.specs.Buffer.{new_buffer, buffer_written, told_on};
+ghost use Rattle.con_screens.specs.Words.Buffer.{HasWindow, alternate_on, alternate_off};
 ghost use Rattle.con_screens.specs.Buffers.{first_buffers};
 
 use crate::buffer::Buffer;
@@ -53,14 +54,17 @@ impl Drop for Screens {
 
 impl Screens {
     ghost use Rattle.std.specs.Borrow.{sem};
-    ghost use Rattle.con_screens.specs.Buffers.{AreBuffers, IsLive, IsRoom, buffer_at, screen_at, is_alternate, free_id};
-    ghost use Rattle.con_screens.specs.Buffers.{created, handles_of, handle_retained, handle_released, with_buffer};
+    ghost use Rattle.con_screens.specs.Buffers.{buffer_at, screen_at, is_alternate, free_id, created, handles_of, handle_retained, handle_released, with_buffer};
+    ghost use Rattle.con_screens.specs.Words.Buffers.{AreBuffers, IsLive, IsRoom};
     ghost use Rattle.con_page.specs.Sides.{sides};
-    ghost use Rattle.con_screens.specs.Lending.{LendsScreen, screen_left};
-    ghost use Rattle.con_screens.specs.Resize.{AreFits, all_resized};
-    ghost use Rattle.con_units.specs.View.{IsWhole};
+    ghost use Rattle.con_screens.specs.Lending.{screen_left};
+    ghost use Rattle.con_screens.specs.Words.Lending.{LendsScreen};
+    ghost use Rattle.con_screens.specs.Resize.{all_resized};
+    ghost use Rattle.con_screens.specs.Words.Resize.{AreFits};
+    ghost use Rattle.con_units.specs.Words.View.{IsWhole};
     ghost use Rattle.con_screens.specs.View.{view_of};
-    ghost use Rattle.con_screens.specs.Stamps.{WasShown, IsAsShown, all_remembered, numbered};
+    ghost use Rattle.con_screens.specs.Stamps.{numbered};
+    ghost use Rattle.con_screens.specs.Words.Stamps.{WasShown, IsAsShown, all_remembered};
 
     /// The buffers of a new console: the main one, as large as the window, and active.
     pub fn new(alloc: Global, window: Size) -> Result<Screens, OutOfMemory>

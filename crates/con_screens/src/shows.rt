@@ -1,11 +1,11 @@
 //! Whether a window shows a view. Where the view is known, rows that can't have changed are not looked at.
 ghost use Rattle.std.specs.Prelude.{◌≡◌, ◌↔◌, ℕ, ◌+◌, ◌-◌, ◌*◌, ◌^◌, ◌<◌, ◌≤◌, true, false, length, take, drop};
 ghost use Rattle.con_units.specs.View.{row_of, row_part};
-ghost use Rattle.con_grid.specs.Picture.{IsUntouched};
-ghost use Rattle.con_page.specs.Page.{IsPage};
+ghost use Rattle.con_grid.specs.Words.Picture.{IsUntouched};
+ghost use Rattle.con_page.specs.Words.Page.{IsPage};
 ghost use Rattle.con_page.specs.Sides.{sides};
 ghost use Rattle.con_screens.specs.View.{rows_in, view_of};
-ghost use Rattle.con_screens.specs.Stamps.{WasShown, IsAsShown};
+ghost use Rattle.con_screens.specs.Words.Stamps.{WasShown, IsAsShown};
 
 use crate::view::{corner, cursor_of};
 use con_grid::Grid;

@@ -2,11 +2,12 @@
 ghost use Rattle.std.specs.Prelude.{◌≡◌, ◌<◌, ◌≤◌, ◌-◌, false, length, is_none, is_some, IsSome, IfSome};
 ghost use Rattle.std.specs.List.{position};
 ghost use Rattle.std.specs.Option.{option_map, option_map_or};
-ghost use Rattle.con_page.specs.Page.{IsPage};
-ghost use Rattle.con_screens.specs.Buffer.{alternate_on, alternate_off, buffer_written, told_on};
-ghost use Rattle.con_screens.specs.Buffers.{with_handles};
+ghost use Rattle.con_page.specs.Words.Page.{IsPage};
+ghost use Rattle.con_screens.specs.Buffer.{buffer_written, told_on};
+ghost use Rattle.con_screens.specs.Words.Buffer.{alternate_on, alternate_off};
+ghost use Rattle.con_screens.specs.Words.Buffers.{with_handles};
 ghost use Rattle.con_screens.specs.Slot.{HasPages, Keeps};
-ghost use Rattle.con_screens.specs.Stamps.{remembered};
+ghost use Rattle.con_screens.specs.Words.Stamps.{remembered};
 
 use crate::buffer::Buffer;
 use con_screen::{Answers, Screen};

@@ -1,11 +1,12 @@
 //! The window of a screen.
 ghost use Rattle.std.specs.Prelude.{◌≡◌, ℕ, ◌+◌, ◌-◌, ◌*◌, ◌<◌, ◌≤◌, ◌^◌, ◌++◌, [], pos, length, take, drop, vec_capacity};
 ghost use Rattle.con_units.specs.View.{row_of, row_part};
-ghost use Rattle.con_grid.specs.Picture.{IsPicture, IsUntouched};
-ghost use Rattle.con_page.specs.Page.{IsPage};
+ghost use Rattle.con_grid.specs.Words.Picture.{IsPicture, IsUntouched};
+ghost use Rattle.con_page.specs.Words.Page.{IsPage};
 ghost use Rattle.con_page.specs.Sides.{sides};
-ghost use Rattle.con_screens.specs.View.{view_of, is_from, rows_in, cursor_in, cursor_shown};
-ghost use Rattle.con_screens.specs.Stamps.{WasShown};
+ghost use Rattle.con_screens.specs.View.{view_of, is_from, rows_in, cursor_shown};
+ghost use Rattle.con_screens.specs.Words.View.{cursor_in};
+ghost use Rattle.con_screens.specs.Words.Stamps.{WasShown};
 
 use con_grid::Grid;
 use con_screen::Screen;

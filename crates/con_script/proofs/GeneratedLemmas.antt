@@ -6,7 +6,8 @@ use Rattle.con_events.specs.declared.script.Step.{Step}
 use Rattle.con_events.specs.declared.script.Step.TheVariants as steps
 use Rattle.con_events.specs.declared.call.Call.TheVariants as call
 use Rattle.con_events.specs.declared.script.Script.{Script}
-use Rattle.con_events.specs.Session.{Clients, session_of}
+use Rattle.con_events.specs.Session.{Clients}
+use Rattle.con_events.specs.Words.Session.{session_of}
 use Rattle.con_units.specs.SplitLaws.{append_none}
 use Rattle.con_script.specs.Generated.{moved, session_drawn}
 use Rattle.con_script.specs.Draws.{drawn, units_drawn, step_drawn, steps_drawn, script_made, scripts_made, first_made, second_made, third_made}

@@ -5,7 +5,8 @@ use Rattle.std.proofs.lemmas.Bool.Decides.{nat_tests}
 use Rattle.con_units.specs.declared.place.Size.{Size}
 use Rattle.con_events.specs.declared.script.Step.{Step}
 use Rattle.con_events.specs.declared.script.Script.{Script}
-use Rattle.con_events.specs.Session.{Clients, is_within, is_size, is_script, all_scripts, session_of}
+use Rattle.con_events.specs.Session.{Clients, is_within, is_size}
+use Rattle.con_events.specs.Words.Session.{is_script, all_scripts, session_of}
 use Rattle.con_values.specs.Values.{below}
 use Rattle.serde_json.specs.Data.{Data, Items, no_items, item}
 use Rattle.serde_json.specs.Find.{as_array, as_number, as_u64}

@@ -5,7 +5,7 @@ use Rattle.std.specs.Result.{IsErrAnd}
 use Rattle.con_units.specs.declared.place.Size.{Size}
 use Rattle.con_events.specs.declared.script.Step.{Step}
 use Rattle.con_events.specs.declared.script.Script.{Script}
-use Rattle.con_events.specs.Session.{session_of}
+use Rattle.con_events.specs.Words.Session.{session_of}
 use Rattle.serde_json.specs.Data.{Data}
 use Rattle.con_document.specs.declared.version.Version.{Version}
 use Rattle.con_script.specs.declared.place.Halt.{Halt}

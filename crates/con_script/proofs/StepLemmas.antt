@@ -4,7 +4,7 @@ use Rattle.std.specs.Prelude.{option_map}
 use Rattle.con_events.specs.declared.call.Call.{Call}
 use Rattle.con_events.specs.declared.script.Step.{Step}
 use Rattle.con_events.specs.declared.script.Step.TheVariants as steps
-use Rattle.con_events.specs.Table.{Row}
+use Rattle.con_events.specs.Words.Table.{Row}
 use Rattle.con_events.specs.Reading.{Item, row_from, args_from}
 use Rattle.con_document.specs.Steps.{as_step}
 

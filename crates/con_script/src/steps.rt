@@ -2,7 +2,7 @@
 
 ghost use Rattle.std.specs.Prelude.{◌≡◌, Some, None, IfOk, IfErr, codes};
 ghost use Rattle.con_events.specs.Reading.{IsForm, row_from, whole};
-ghost use Rattle.con_events.specs.Table.{row_of};
+ghost use Rattle.con_events.specs.Words.Table.{row_of};
 ghost use Rattle.serde_json.specs.View.{view, items_view};
 ghost use Rattle.con_document.specs.Steps.{as_step, row_in_one, row_in_two, step_row, step_items, step_in};
 

@@ -17,9 +17,9 @@ use Rattle.con_machine.specs.State.{State, opening}
 use Rattle.con_machine.specs.Turns.{paints}
 use Rattle.con_session.specs.Opening.{AreFreshBy, fresh}
 use Rattle.con_session.specs.Seats.{AllStandBy, AllFollow}
-use Rattle.con_session.specs.Sender.{FailsBy}
+use Rattle.con_session.specs.Words.Sender.{FailsBy}
 use Rattle.con_session.specs.Solo.{GoesBy, Moment, begins, fails_at}
-use Rattle.con_session.specs.Worker.{HandsStandBy}
+use Rattle.con_session.specs.Words.Worker.{HandsStandBy}
 use Rattle.con_session.specs.declared.terminal.Side.{Side}
 use Rattle.con_session.specs.declared.worker.Worker.{Worker}
 use Rattle.con_session.specs.OpeningLaws.{seated_fresh, get_below, open_link_by, open_canvas, some_at, get_map, fresh_as, side_first}

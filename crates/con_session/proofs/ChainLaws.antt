@@ -10,12 +10,14 @@ use Rattle.std.proofs.lemmas.List.{get_or-set_other, length-map}
 use Rattle.std.proofs.Math.ListN.{get_or-map}
 use Rattle.con_units.specs.declared.code.Code.{Code}
 use Rattle.con_units.specs.declared.code.Code.TheVariants as code
-use Rattle.con_handlers.specs.Delivery.{removal}
+use Rattle.con_handlers.specs.Words.Delivery.{removal}
 use Rattle.con_handlers.specs.Memory.{Memory}
-use Rattle.con_machine.specs.Chain.{Handler, without_handler}
+use Rattle.con_machine.specs.Chain.{Handler}
+use Rattle.con_machine.specs.Words.Chain.{without_handler}
 use Rattle.con_machine.specs.Follows.{kinds_of}
 use Rattle.con_laws.specs.Rounds.{Begun}
-use Rattle.con_session.specs.Worker.{HandsAreBy, HandsStandBy, told_kind, told_in, places_in, stand_once}
+use Rattle.con_session.specs.Worker.{told_kind}
+use Rattle.con_session.specs.Words.Worker.{HandsAreBy, HandsStandBy, told_in, places_in, stand_once}
 
 -- ---- what the slots of a rack hold
 

@@ -13,7 +13,8 @@ use Rattle.con_machine.specs.History.{run, replies_of}
 use Rattle.con_machine.specs.HistoryLaws.{run-append, replies-append, legal-one}
 use Rattle.con_machine.specs.State.{State}
 use Rattle.con_machine.specs.Step.{step, is_ready}
-use Rattle.con_session.specs.Desk.{Enters, Rests, Ran, brief_of, entry, is_painter, listed}
+use Rattle.con_session.specs.Desk.{listed}
+use Rattle.con_session.specs.Words.Desk.{Enters, Rests, Ran, brief_of, entry, is_painter}
 use Rattle.con_session.specs.Door.{Saw, Entered}
 use Rattle.con_session.specs.DeskLaws.{run_one}
 use Rattle.con_session.specs.declared.desk.Brief.{Brief}

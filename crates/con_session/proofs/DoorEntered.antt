@@ -11,13 +11,14 @@ use Rattle.con_laws.specs.Rounds.{Begun, client_at}
 use Rattle.con_laws.specs.RoundWords.{IsTurn}
 use Rattle.con_machine.specs.Step.{step, is_ready}
 use Rattle.con_machine.specs.Turns.{Turn, turns, turn_of, is_pending}
-use Rattle.con_session.specs.Desk.{Enters, entry, listed}
+use Rattle.con_session.specs.Desk.{listed}
+use Rattle.con_session.specs.Words.Desk.{Enters, entry}
 use Rattle.con_session.specs.Door.{Entered, are_others}
 use Rattle.con_session.specs.DoorTurns.{ClientAt, HasActed}
 use Rattle.con_session.proofs.RackLaws.{hands_keep, own_turns}
 use Rattle.con_session.specs.Standing.{ClientStands, is_here}
 use Rattle.con_session.proofs.StandingLaws.{own_is, stands_own}
-use Rattle.con_session.specs.Worker.{HandsStandBy, ClientIs, Keeps}
+use Rattle.con_session.specs.Words.Worker.{HandsStandBy, ClientIs, Keeps}
 use Rattle.con_session.specs.declared.desk.Brief.{Brief}
 use Rattle.con_session.specs.declared.worker.Worker.{Worker}
 use Rattle.con_session.specs.DoorEntries.{turns_others, stands_others, client_by, worker_by, hands_by}

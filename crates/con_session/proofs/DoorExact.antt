@@ -13,7 +13,7 @@ use Rattle.con_machine.specs.Step.{is_ready}
 use Rattle.con_session.specs.DeskDoor.{IsNothing, Since}
 use Rattle.con_session.proofs.DeskSince.{enters_since, rests_since}
 use Rattle.con_session.specs.DoorTurns.{ClientAt, HasActed, HasTurnedBy}
-use Rattle.con_session.specs.Worker.{Acts, ClientIs, HandsStandBy, HandsTurnBy, IsWorker}
+use Rattle.con_session.specs.Words.Worker.{Acts, ClientIs, HandsStandBy, HandsTurnBy, IsWorker}
 use Rattle.con_session.specs.declared.worker.Worker.{Worker}
 
 pub client_of : (b : Begun) (p : ℕ) (s : State) (h : List Entry) (steps : List Step) (w : Worker) → ClientIs b p s h steps w → ClientAt b p h steps w

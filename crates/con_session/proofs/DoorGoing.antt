@@ -17,7 +17,8 @@ use Rattle.con_events.specs.declared.script.Step.{Step}
 use Rattle.con_handlers.specs.Memory.{Memory}
 use Rattle.con_readers.specs.Reads.{is_open, has_done}
 use Rattle.con_machine.specs.Added.{has_added}
-use Rattle.con_machine.specs.Chain.{Handler, with_handler, without_handler, delivered_to, is_handled}
+use Rattle.con_machine.specs.Chain.{Handler}
+use Rattle.con_machine.specs.Words.Chain.{with_handler, without_handler, delivered_to, is_handled}
 use Rattle.con_machine.specs.Client.{Client, GoesOn, MayBy, due, next_event, event_of, is_fail, chained, ctrl_exit}
 use Rattle.con_laws.specs.HandlerLaws.{added_first}
 use Rattle.con_machine.specs.History.{run}
@@ -25,7 +26,8 @@ use Rattle.con_laws.specs.Rounds.{Begun, client_at}
 use Rattle.con_laws.specs.RoundWords.{IsTurn}
 use Rattle.con_machine.specs.Step.{step, is_ready}
 use Rattle.con_machine.specs.Turns.{Turn, turns, turn_of, is_pending}
-use Rattle.con_session.specs.Desk.{entry, is_refused, listed}
+use Rattle.con_session.specs.Desk.{listed}
+use Rattle.con_session.specs.Words.Desk.{entry, is_refused}
 use Rattle.con_session.specs.Door.{Saw, Entered, are_others}
 use Rattle.con_session.specs.DoorEntries.{client_by, client_is, client_saw, hands_saw, stands_saw, turns_saw}
 use Rattle.con_session.proofs.DoorEntered.{client_own, turns_before, turns_behind, is_before, enters}
@@ -35,7 +37,7 @@ use Rattle.con_session.proofs.HandlerTurns.{stepped, refused_entry, granted_entr
 use Rattle.con_session.proofs.RackLaws.{rack_added, rack_removed, without}
 use Rattle.con_session.specs.Standing.{ClientStands}
 use Rattle.con_session.proofs.StepLaws.{due_next, drop_end, drop_one, plain_by, refused_is}
-use Rattle.con_session.specs.Worker.{IsStance, HandsAreBy, HandsStandBy, HandsTurnBy, IsRack, is_handlers, places_in, stand_once}
+use Rattle.con_session.specs.Words.Worker.{IsStance, HandsAreBy, HandsStandBy, HandsTurnBy, IsRack, is_handlers, places_in, stand_once}
 use Rattle.con_session.proofs.WorkerLaws.{IsEvent, collect_ready, collected_by, due_may, going_may, going_turn, is_there, leaving_may, leaving_turn}
 use Rattle.con_session.proofs.WorkerLaws.{none_pending, open_is, step_turn, take_ready, taken_by, taking_may, took_none_turn, took_turn_is, waiting_idles}
 use Rattle.con_session.specs.declared.desk.Brief.{Brief}

@@ -7,7 +7,7 @@ use Rattle.con_events.specs.declared.event.Event.{Event}
 use Rattle.con_machine.specs.History.{run}
 use Rattle.con_machine.specs.State.{State}
 use Rattle.con_machine.specs.Step.{step, is_ready}
-use Rattle.con_session.specs.Desk.{Enters, brief_of}
+use Rattle.con_session.specs.Words.Desk.{Enters, brief_of}
 use Rattle.con_session.specs.DeskDoor.{IsNothing, Since}
 use Rattle.con_session.proofs.DeskSince.{desk_entered}
 use Rattle.con_session.specs.Door.{Entered}

@@ -25,7 +25,7 @@ use Rattle.con_machine.specs.Step.{is_ready}
 use Rattle.con_machine.specs.Turns.{sent, has_ended, paints}
 use Rattle.con_laws.specs.Whole.{HaveAllLeft}
 use Rattle.con_session.specs.Outcome.{IsOutcomeBy}
-use Rattle.con_session.specs.Sender.{end_for, FailsBy}
+use Rattle.con_session.specs.Words.Sender.{end_for, FailsBy}
 use Rattle.con_session.specs.Seats.{AllStandBy, AllFollow}
 use Rattle.con_session.specs.Solo.{Moment, GoesBy, AllIdle, StopsBy, begins, end_by}
 use Rattle.con_session.specs.Standing.{ClientStands}

@@ -22,10 +22,10 @@ use Rattle.con_laws.specs.Rounds.{Begun}
 use Rattle.con_laws.specs.RoundWords.{AreTurns, IsTurn, clients_from, all_order, round_entries, entry_of, is_nobody, is_failed}
 use Rattle.con_machine.specs.State.{State}
 use Rattle.con_machine.specs.Turns.{paints, sent, has_ended, is_terminal, is_paint}
-use Rattle.con_session.specs.Desk.{Rests, Stands, entry}
+use Rattle.con_session.specs.Words.Desk.{Rests, Stands, entry}
 use Rattle.con_session.specs.Painting.{CanvasIs, CanvasEnds, EntersPaint, PaintTurn, PainterFails, PainterActs}
 use Rattle.con_session.specs.Seats.{AllStandBy, AllFollow, ClientsTurnBy}
-use Rattle.con_session.specs.Sender.{LinkBy, LinkEndsBy, SenderTurn, FailsBy}
+use Rattle.con_session.specs.Words.Sender.{LinkBy, LinkEndsBy, SenderTurn, FailsBy}
 use Rattle.con_session.proofs.Beginning.{moment_of}
 use Rattle.con_session.specs.Solo.{AllIdle, Moment, HoldsBy, GoesBy, HasRounds, BreaksOff, StopsBy, RoundTurnBy, RoundsTurnBy, fails_at}
 use Rattle.con_session.specs.declared.terminal.Side.{Side}

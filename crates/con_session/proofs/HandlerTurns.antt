@@ -7,10 +7,11 @@ use Rattle.con_events.specs.declared.event.Event.TheVariants as events
 use Rattle.con_events.specs.declared.reply.Reply.{Reply}
 use Rattle.con_events.specs.declared.script.Step.{Step}
 use Rattle.con_machine.specs.Added.{adds}
-use Rattle.con_machine.specs.Chain.{Handler, without_handler}
+use Rattle.con_machine.specs.Chain.{Handler}
+use Rattle.con_machine.specs.Words.Chain.{without_handler}
 use Rattle.con_machine.specs.Client.{Client, GoesOn, entered, is_fail, chained}
-use Rattle.con_session.specs.Desk.{brief_of, is_refused}
-use Rattle.con_session.specs.Worker.{IsStance, IsWorker, places_in}
+use Rattle.con_session.specs.Words.Desk.{brief_of, is_refused}
+use Rattle.con_session.specs.Words.Worker.{IsStance, IsWorker, places_in}
 use Rattle.con_session.proofs.RackLaws.{without}
 use Rattle.con_session.proofs.StepLaws.{drop_one, refused_is}
 use Rattle.con_session.specs.declared.desk.Brief.{Brief}

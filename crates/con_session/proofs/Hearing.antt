@@ -25,11 +25,11 @@ use Rattle.con_machine.specs.State.{State}
 use Rattle.con_machine.specs.Step.{is_ready}
 use Rattle.con_machine.specs.Turns.{sent, has_ended, paints}
 use Rattle.con_session.specs.CanvasLaws.{ends_as}
-use Rattle.con_session.specs.Desk.{Enters, Rests, entry}
+use Rattle.con_session.specs.Words.Desk.{Enters, Rests, entry}
 use Rattle.con_session.specs.LinkLaws.{failed_for}
 use Rattle.con_session.specs.LinkedLaws.{linked_frame, linked_fault, linked_stops}
 use Rattle.con_session.specs.Painting.{CanvasEnds, EntersPaint, PaintTurn, acted}
-use Rattle.con_session.specs.Sender.{FailsBy, Hears, LinkBy, LinkEndsBy, LinkIs, LinkTurn, LinkTurnBy, NoMore, SenderTurn, end_for, plain_of}
+use Rattle.con_session.specs.Words.Sender.{FailsBy, Hears, LinkBy, LinkEndsBy, LinkIs, LinkTurn, LinkTurnBy, NoMore, SenderTurn, end_for, plain_of}
 use Rattle.con_session.specs.SenderLaws.{frame_ready, hangup_ready, none_asked, sends}
 use Rattle.con_session.specs.declared.desk.Picture.{Picture}
 use Rattle.con_session.specs.declared.terminal.Side.{Side}

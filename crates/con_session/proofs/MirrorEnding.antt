@@ -14,9 +14,10 @@ use Rattle.con_machine.specs.State.{State}
 use Rattle.con_machine.specs.Turns.{paints}
 use Rattle.con_session.specs.Outcome.{IsOutcomeBy}
 use Rattle.con_session.specs.Seats.{AllStandBy, AllFollow}
-use Rattle.con_session.specs.Second.{IsMirrorOutcome, Mirrors, Seconded}
+use Rattle.con_session.specs.Second.{IsMirrorOutcome, Mirrors}
+use Rattle.con_session.specs.Words.Second.{Seconded}
 use Rattle.con_session.proofs.SecondLaws.{second_begins}
-use Rattle.con_session.specs.Sender.{FailsBy}
+use Rattle.con_session.specs.Words.Sender.{FailsBy}
 use Rattle.con_session.specs.Solo.{Moment, GoesBy, AllIdle, StopsBy, begins, end_by}
 use Rattle.con_session.specs.declared.solo.Outcome.{Outcome}
 use Rattle.con_session.proofs.Ending.{handed_none, handed_stops, handed_whole}

@@ -3,12 +3,12 @@ use Rattle.std.proofs.Common.{◌≡◌, ◌⊎◌, ℕ, ◌≤◌, Bool, true, 
 use Rattle.std.proofs.Common.{Some, None, Result, Ok, Err, refl, sym, ap, ◌∙◌, subst, inl, inr}
 use Rattle.std.specs.Prelude.{IfOk, IfSome, is_some}
 use Rattle.std.specs.Result.{IsErr}
-use Rattle.con_units.specs.View.{IsWhole}
+use Rattle.con_units.specs.Words.View.{IsWhole}
 use Rattle.con_units.specs.declared.code.OutOfMemory.{OutOfMemory}
 use Rattle.con_units.specs.declared.place.Size.{Size}
 use Rattle.con_units.specs.declared.view.Frame.{Frame}
 use Rattle.con_link.specs.Frames.{is_frame}
-use Rattle.con_link.specs.Mirrored.{is_mirror_frame}
+use Rattle.con_link.specs.Words.Mirrored.{is_mirror_frame}
 use Rattle.con_link.specs.LinkReading.{mirrored}
 use Rattle.con_link.specs.declared.fault.LinkFault.{LinkFault}
 use Rattle.con_link.specs.declared.fault.LinkFault.TheVariants as faults
@@ -26,12 +26,13 @@ use Rattle.con_machine.specs.Painting.{view_now}
 use Rattle.con_laws.specs.Rounds.{Begun}
 use Rattle.con_machine.specs.State.{State}
 use Rattle.con_machine.specs.Turns.{is_terminal, is_paint}
-use Rattle.con_session.specs.Desk.{entry}
+use Rattle.con_session.specs.Words.Desk.{entry}
 use Rattle.con_session.specs.LinkedLaws.{linked_hung, linked_stays, linked_stops}
 use Rattle.con_session.specs.Painting.{PaintTurn, PainterActs, PainterFails, Pictured, acted}
-use Rattle.con_session.specs.Second.{FollowTurn, MirrorLinkIs, Mirrors, SecondIs, Seconded, kept_behind}
+use Rattle.con_session.specs.Second.{Mirrors}
+use Rattle.con_session.specs.Words.Second.{FollowTurn, MirrorLinkIs, SecondIs, Seconded, kept_behind}
 use Rattle.con_session.proofs.SecondLaws.{second_ends, second_frame, second_hung, second_other, second_past}
-use Rattle.con_session.specs.Sender.{Hears, LinkEndsBy, LinkTurnBy, plain_of}
+use Rattle.con_session.specs.Words.Sender.{Hears, LinkEndsBy, LinkTurnBy, plain_of}
 use Rattle.con_session.specs.declared.desk.Picture.{Picture}
 use Rattle.con_session.specs.declared.terminal.Side.{Side}
 use Rattle.con_session.proofs.Hearing.{Took, heard_by, heard_failed, heard_few}

@@ -11,7 +11,8 @@ use Rattle.con_events.specs.declared.reply.Reply.{Reply}
 use Rattle.con_handlers.specs.Delivery.{asked_from}
 use Rattle.con_handlers.specs.Memory.{Memory}
 use Rattle.con_machine.specs.Added.{adds, has_added}
-use Rattle.con_machine.specs.Chain.{Handler, answers_to, asked_once, delivered_to}
+use Rattle.con_machine.specs.Chain.{Handler, answers_to, asked_once}
+use Rattle.con_machine.specs.Words.Chain.{delivered_to}
 use Rattle.con_machine.specs.Client.{Client, client_after}
 use Rattle.con_machine.specs.Follows.{steps_of, kinds_of}
 use Rattle.con_laws.specs.HandlerLaws.{has_added-append}
@@ -20,8 +21,8 @@ use Rattle.con_machine.specs.HistoryLaws.{turns-own, turns-other}
 use Rattle.con_laws.specs.Rounds.{Begun, client_at}
 use Rattle.con_machine.specs.State.{State}
 use Rattle.con_machine.specs.Turns.{Turn, turns, turn_of, is_client}
-use Rattle.con_session.specs.Desk.{Enters, entry}
-use Rattle.con_session.specs.Worker.{HandsAreBy, IsRack, HandsStandBy, Keeps, places_in, stand_once}
+use Rattle.con_session.specs.Words.Desk.{Enters, entry}
+use Rattle.con_session.specs.Words.Worker.{HandsAreBy, IsRack, HandsStandBy, Keeps, places_in, stand_once}
 
 -- ---- the rack after one more entry
 

@@ -11,7 +11,7 @@ use Rattle.con_laws.specs.RoundLaws.{turns_more, entries_more, rounds_more, all_
 use Rattle.con_laws.specs.Rounds.{Begun}
 use Rattle.con_laws.specs.RoundWords.{AreTurns, IsTurn, clients_from, entry_of, round_entries, all_order, is_failed, is_nobody}
 use Rattle.con_session.specs.Painting.{PainterFails}
-use Rattle.con_session.specs.Sender.{FailsBy}
+use Rattle.con_session.specs.Words.Sender.{FailsBy}
 use Rattle.con_session.specs.Solo.{HasRounds}
 
 -- ---- from which Paint on the terminal counts as failed

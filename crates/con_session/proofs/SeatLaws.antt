@@ -19,10 +19,10 @@ use Rattle.con_laws.specs.Rounds.{Begun, client_at}
 use Rattle.con_laws.specs.RoundWords.{AreTurns, IsTurn, clients_from, entry_of, round_entries, is_nobody}
 use Rattle.con_machine.specs.State.{State}
 use Rattle.con_machine.specs.Turns.{is_client}
-use Rattle.con_session.specs.Desk.{Enters, Rests, Stands, entry}
+use Rattle.con_session.specs.Words.Desk.{Enters, Rests, Stands, entry}
 use Rattle.con_session.specs.Seats.{Seated, AllStandBy, HaveTurns, AllFollow, ClientsTurnBy}
 use Rattle.con_session.specs.Standing.{ClientStands, is_here}
-use Rattle.con_session.specs.Worker.{IsWorker, HandsStandBy, ClientIs, Acts, HandsTurnBy}
+use Rattle.con_session.specs.Words.Worker.{IsWorker, HandsStandBy, ClientIs, Acts, HandsTurnBy}
 use Rattle.con_session.specs.declared.worker.Worker.{Worker}
 use Rattle.con_session.specs.DeskLaws.{entered_run, stands_one, stands_still}
 use Rattle.con_session.proofs.RackLaws.{hands_other}

@@ -7,13 +7,13 @@ use Rattle.con_link.specs.declared.mirror.MirrorFrame.{MirrorFrame}
 use Rattle.con_events.specs.declared.entry.Entry.{Entry}
 use Rattle.con_events.specs.declared.event.Event.{Event}
 use Rattle.con_events.specs.declared.event.Event.TheVariants as events
-use Rattle.con_machine.specs.Along.{after}
+use Rattle.con_machine.specs.Words.Along.{after}
 use Rattle.con_machine.specs.State.{State}
 use Rattle.con_machine.specs.History.{run}
 use Rattle.con_machine.specs.Turns.{moved, is_paint, paints}
 use Rattle.con_session.specs.Watched.{Watch, watched, watched_at, seconds_at, seconds_of, begun_at}
 use Rattle.con_session.specs.Watched.{begins_by, painted_at, attached_by, flag_at, flags_of, picked, Stays}
-use Rattle.con_link.specs.Mirrored.{as_plain}
+use Rattle.con_link.specs.Words.Mirrored.{as_plain}
 use Rattle.con_link.specs.declared.mirror.MirrorFrame.TheVariants.{Plain, Attach, Detach}
 use Rattle.con_units.specs.declared.view.Frame.TheVariants as frames
 use Rattle.con_machine.specs.Follows.{sent_by}

@@ -13,9 +13,9 @@ use Rattle.con_events.specs.declared.event.Wanted.{Wanted}
 use Rattle.con_events.specs.declared.reply.Reply.{Reply}
 use Rattle.con_events.specs.declared.reply.Reply.TheVariants as replies
 use Rattle.con_machine.specs.Along.{Along}
-use Rattle.con_machine.specs.Chain.{is_handled}
-use Rattle.con_machine.specs.Client.{Client, Stance, GoesOn, MayLeave, MustLeave, Gone, client_after, starting}
-use Rattle.con_machine.specs.Client.{May, MayBy, MayGoOn, moved_on, entered, took, chained, next_event, is_fail}
+use Rattle.con_machine.specs.Words.Chain.{is_handled}
+use Rattle.con_machine.specs.Client.{Client, Stance, GoesOn, MayLeave, MustLeave, Gone, client_after, starting, MayBy, MayGoOn, moved_on, entered, took, chained, next_event, is_fail}
+use Rattle.con_machine.specs.Words.Client.{May}
 use Rattle.con_machine.specs.Follows.{steps_of, kinds_of}
 use Rattle.con_machine.specs.History.{run}
 use Rattle.con_machine.specs.HistoryLaws.{after-append, along-one, turns-own}
@@ -25,7 +25,7 @@ use Rattle.con_laws.specs.Rounds.{Begun, client_at}
 use Rattle.con_machine.specs.State.{State}
 use Rattle.con_machine.specs.Step.{step}
 use Rattle.con_machine.specs.Turns.{Turn, turns, turn_of, is_client, is_pending}
-use Rattle.con_session.specs.Desk.{Enters, entry}
+use Rattle.con_session.specs.Words.Desk.{Enters, entry}
 use Rattle.con_session.specs.Standing.{ClientStands, is_here}
 use Rattle.con_session.specs.DeskLaws.{run_one}
 

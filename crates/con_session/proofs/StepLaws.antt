@@ -11,8 +11,8 @@ use Rattle.con_events.specs.declared.reply.Reply.{Reply}
 use Rattle.con_events.specs.declared.reply.Reply.TheVariants as replies
 use Rattle.con_events.specs.declared.script.Step.{Step}
 use Rattle.con_machine.specs.Client.{Client, due, next_event, is_fail, chained}
-use Rattle.con_session.specs.Desk.{brief_of, is_refused}
-use Rattle.con_session.specs.Worker.{IsWorker, is_handlers}
+use Rattle.con_session.specs.Words.Desk.{brief_of, is_refused}
+use Rattle.con_session.specs.Words.Worker.{IsWorker, is_handlers}
 use Rattle.con_session.specs.declared.worker.Worker.{Worker}
 
 pub refused_is : (r : Reply) → is_refused (brief_of r) ≡ is_fail r

@@ -22,10 +22,10 @@ use Rattle.con_laws.specs.RoundWords.{clients_from, entry_of, round_entries, is_
 use Rattle.con_machine.specs.State.{State}
 use Rattle.con_machine.specs.Step.{is_ready}
 use Rattle.con_machine.specs.Turns.{moved, paints, is_paint, is_terminal}
-use Rattle.con_session.specs.Desk.{Stands, entry}
+use Rattle.con_session.specs.Words.Desk.{Stands, entry}
 use Rattle.con_session.specs.Painting.{CanvasIs, PaintTurn, PainterFails, PainterActs}
 use Rattle.con_session.specs.Seats.{ClientsTurnBy, HaveTurns}
-use Rattle.con_session.specs.Sender.{LinkBy, SenderTurn}
+use Rattle.con_session.specs.Words.Sender.{LinkBy, SenderTurn}
 use Rattle.con_session.specs.Solo.{AsksStand, HoldsBy, Moment}
 use Rattle.con_session.specs.declared.terminal.Side.{Side}
 use Rattle.con_session.specs.declared.worker.Worker.{Worker}

@@ -11,7 +11,7 @@ use Rattle.con_events.specs.declared.script.Step.{Step}
 use Rattle.con_handlers.specs.Memory.{Memory}
 use Rattle.con_procs.specs.Procs.{is_attached}
 use Rattle.con_readers.specs.Reads.{is_open, has_done}
-use Rattle.con_machine.specs.Chain.{delivered_to, is_handled}
+use Rattle.con_machine.specs.Words.Chain.{delivered_to, is_handled}
 use Rattle.con_machine.specs.Client.{Client, Stance, GoesOn, MayLeave, MustLeave, Gone, MayBy, MayGoOn, took, verdict, due, next_event, ctrl_exit}
 use Rattle.con_machine.specs.History.{run}
 use Rattle.con_laws.specs.Rounds.{Begun, client_turn, client_at}
@@ -19,10 +19,10 @@ use Rattle.con_laws.specs.RoundWords.{IsTurn, ClientTurnBy}
 use Rattle.con_machine.specs.State.{State}
 use Rattle.con_machine.specs.Step.{step, is_ready, is_due}
 use Rattle.con_machine.specs.Turns.{turns, is_pending}
-use Rattle.con_session.specs.Desk.{Enters, brief_of, entry}
+use Rattle.con_session.specs.Words.Desk.{Enters, brief_of, entry}
 use Rattle.con_session.specs.Standing.{is_here}
 use Rattle.con_session.proofs.StandingLaws.{own_is}
-use Rattle.con_session.specs.Worker.{IsStance, HandsAreBy, IsRack, HandsStandBy, places_in, IsWorker, ClientIs, Acts, HandsTurnBy}
+use Rattle.con_session.specs.Words.Worker.{IsStance, HandsAreBy, IsRack, HandsStandBy, places_in, IsWorker, ClientIs, Acts, HandsTurnBy}
 use Rattle.con_session.proofs.RackLaws.{hands_keep, rack_delivered}
 use Rattle.con_session.specs.declared.desk.Brief.{Brief}
 use Rattle.con_session.specs.declared.desk.Brief.TheVariants as briefs

@@ -4,15 +4,16 @@ use Rattle.con_events.specs.declared.actor.Actor.{Actor}
 use Rattle.con_events.specs.declared.actor.Actor.TheVariants as actors
 use Rattle.con_events.specs.declared.entry.Entry.{Entry}
 use Rattle.con_events.specs.declared.event.Event.{Event}
-use Rattle.con_machine.specs.Along.{after}
-use Rattle.con_machine.specs.Follows.{MayAct, asks, asks_by}
+use Rattle.con_machine.specs.Words.Along.{after}
+use Rattle.con_machine.specs.Follows.{MayAct, asks_by}
+use Rattle.con_machine.specs.Words.Follows.{asks}
 use Rattle.con_machine.specs.History.{run}
 use Rattle.con_machine.specs.HistoryLaws.{after-append, along-one}
 use Rattle.con_machine.specs.State.{State}
 use Rattle.con_machine.specs.Turns.{is_terminal}
 use Rattle.con_laws.specs.PictureLaws.{step_moves}
 use Rattle.con_laws.specs.Rounds.{Begun}
-use Rattle.con_session.specs.Desk.{entry}
+use Rattle.con_session.specs.Words.Desk.{entry}
 use Rattle.con_session.specs.DeskLaws.{run_one}
 use Rattle.con_session.specs.Solo.{AsksStand}
 

@@ -17,15 +17,16 @@ use Rattle.con_events.specs.declared.event.Event.{Event}
 use Rattle.con_events.specs.declared.event.Event.TheVariants as events
 use Rattle.con_events.specs.declared.reply.Reply.{Reply}
 use Rattle.con_machine.specs.History.{run}
-use Rattle.con_machine.specs.Painting.{view_now, is_fresh}
+use Rattle.con_machine.specs.Painting.{view_now}
+use Rattle.con_machine.specs.Words.Painting.{is_fresh}
 use Rattle.con_machine.specs.HistoryLaws.{paints-append}
 use Rattle.con_laws.specs.Rounds.{Begun}
 use Rattle.con_machine.specs.Sights.{sights_of, sights_at}
 use Rattle.con_machine.specs.Turns.{moved, paints, is_paint}
 use Rattle.con_machine.specs.State.{State}
-use Rattle.con_session.specs.Desk.{Rests, entry}
+use Rattle.con_session.specs.Words.Desk.{Rests, entry}
 use Rattle.con_session.specs.Painting.{Written, PainterStands, CanvasIs, CanvasEnds, Pictures}
-use Rattle.con_session.specs.Runs.{Matched, joined, ends_from}
+use Rattle.con_session.specs.Words.Runs.{Matched, joined, ends_from}
 use Rattle.con_session.specs.PaintingLaws.{painter_paint, none_each, readied}
 
 pub joined_more : (ps : List (List ℕ)) (p : List ℕ) → joined (ps ++ p ∷ []) ≡ joined ps ++ p

@@ -5,7 +5,8 @@ use Rattle.con_events.specs.declared.entry.Entry.{Entry}
 use Rattle.con_events.specs.declared.reply.Reply.{Reply}
 use Rattle.con_machine.specs.History.{replies_of}
 use Rattle.con_machine.specs.State.{State}
-use Rattle.con_session.specs.Desk.{Ran, listed}
+use Rattle.con_session.specs.Desk.{listed}
+use Rattle.con_session.specs.Words.Desk.{Ran}
 use Rattle.con_session.specs.Door.{are_others}
 
 -- the console ran on over some entries, none of them the painter's, and what they were answered is there

@@ -10,7 +10,8 @@ use Rattle.con_machine.specs.HistoryLaws.{run-append, replies-append, legal-one}
 use Rattle.con_machine.specs.State.{State}
 use Rattle.con_machine.specs.Step.{step, is_ready}
 use Rattle.con_machine.specs.Turns.{moved}
-use Rattle.con_session.specs.Desk.{Enters, Rests, Stands, entry, listed}
+use Rattle.con_session.specs.Desk.{listed}
+use Rattle.con_session.specs.Words.Desk.{Enters, Rests, Stands, entry}
 
 pub run_one : (s : State) (h : List Entry) (x : Entry) → run s (h ++ x ∷ []) ≡ moved (run s h) x
 run_one s h x = run-append s h (x ∷ [])

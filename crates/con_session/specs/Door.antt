@@ -8,7 +8,7 @@ use Rattle.con_machine.specs.History.{run}
 use Rattle.con_machine.specs.State.{State}
 use Rattle.con_machine.specs.Step.{step, is_ready}
 use Rattle.con_machine.specs.Turns.{is_client}
-use Rattle.con_session.specs.Desk.{brief_of, entry}
+use Rattle.con_session.specs.Words.Desk.{brief_of, entry}
 use Rattle.con_session.specs.declared.desk.Brief.{Brief}
 
 -- each of these entries is another's than client p's

@@ -14,7 +14,7 @@ use Rattle.con_machine.specs.Turns.{Turn, turns, turn_of, moved, is_client, is_p
 use Rattle.con_session.specs.Door.{Saw, are_others}
 use Rattle.con_session.specs.DoorTurns.{ClientAt}
 use Rattle.con_session.specs.Standing.{ClientStands, is_here}
-use Rattle.con_session.specs.Worker.{IsWorker, HandsAreBy, IsRack, HandsStandBy, ClientIs, places_in}
+use Rattle.con_session.specs.Words.Worker.{IsWorker, HandsAreBy, IsRack, HandsStandBy, ClientIs, places_in}
 use Rattle.con_session.specs.declared.worker.Worker.{Worker}
 use Rattle.con_procs.specs.Procs.{is_attached}
 use Rattle.con_readers.specs.Reads.{is_open}

@@ -12,10 +12,10 @@ use Rattle.con_machine.specs.History.{run}
 use Rattle.con_laws.specs.Rounds.{Begun, client_at}
 use Rattle.con_laws.specs.RoundWords.{IsTurn}
 use Rattle.con_machine.specs.Step.{is_ready}
-use Rattle.con_session.specs.Desk.{entry}
+use Rattle.con_session.specs.Words.Desk.{entry}
 use Rattle.con_session.specs.Door.{Saw}
 use Rattle.con_session.specs.Standing.{ClientStands}
-use Rattle.con_session.specs.Worker.{IsWorker, HandsStandBy}
+use Rattle.con_session.specs.Words.Worker.{IsWorker, HandsStandBy}
 use Rattle.con_session.specs.declared.worker.Worker.{Worker}
 
 -- client p follows its script, and its worker keeps it

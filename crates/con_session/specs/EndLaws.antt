@@ -29,7 +29,8 @@ use Rattle.con_readers.specs.Reads.{is_open, has_done}
 use Rattle.con_machine.specs.Along.{Along}
 use Rattle.con_laws.specs.ClosingLaws.{none_waits}
 use Rattle.con_machine.specs.Client.{Client, Stance, GoesOn, MayLeave, MustLeave, Gone, next_event}
-use Rattle.con_machine.specs.Follows.{are_of_session, FollowsLink, MayAct, asks, session_start, is_cut, is_lost, sent_by}
+use Rattle.con_machine.specs.Follows.{are_of_session, FollowsLink, MayAct, session_start, is_cut, is_lost, sent_by}
+use Rattle.con_machine.specs.Words.Follows.{asks}
 use Rattle.con_machine.specs.History.{run, is_legal, replies_of}
 use Rattle.con_laws.specs.Opens.{WaitsOrGone}
 use Rattle.con_laws.specs.Rounds.{Begun, client_at}
@@ -45,8 +46,9 @@ use Rattle.con_session.specs.Outcome.{Leaves, LeavesBy, IsCutBy, HasSentBy, last
 use Rattle.con_session.specs.Watched.{end_of}
 use Rattle.con_session.specs.Painting.{CanvasEnds}
 use Rattle.con_laws.specs.TerminalRuns.{EachRun, ShowsView}
-use Rattle.con_session.specs.Runs.{EachPiece, Painted, PrintsFew, PrintsNewRows, joined, ends_from}
-use Rattle.con_session.specs.Sender.{LinkBy, LinkEnds, LinkEndsBy, NoMore, end_for, hung}
+use Rattle.con_session.specs.Runs.{PrintsFew, PrintsNewRows}
+use Rattle.con_session.specs.Words.Runs.{EachPiece, Painted, joined, ends_from}
+use Rattle.con_session.specs.Words.Sender.{LinkBy, LinkEnds, LinkEndsBy, NoMore, end_for, hung}
 use Rattle.con_session.specs.Solo.{Moment, Holds, HoldsBy, begins, end_by}
 use Rattle.con_session.specs.Standing.{ClientStands, is_here}
 use Rattle.con_session.specs.declared.terminal.Side.{Side}

@@ -15,7 +15,7 @@ use Rattle.con_session.specs.DoorTurns.{HasTakenBy, HasTurnedBy}
 use Rattle.con_session.specs.Opening.{AreFreshBy}
 use Rattle.con_session.specs.Seats.{AllStandBy, ClientsTurnBy}
 use Rattle.con_session.specs.Solo.{Moment}
-use Rattle.con_session.specs.Worker.{HandsAreBy, HandsStandBy, HandsTurnBy, told_in}
+use Rattle.con_session.specs.Words.Worker.{HandsAreBy, HandsStandBy, HandsTurnBy, told_in}
 use Rattle.con_session.specs.declared.hands.Hands.{Hands}
 use Rattle.con_session.specs.declared.seat.Seat.{Seat}
 use Rattle.con_session.specs.declared.stage.Stage.{Stage}

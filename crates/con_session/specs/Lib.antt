@@ -45,3 +45,5 @@ pub mod TiedLaws
 -- and a session's beginning and its end.
 pub mod OpeningLaws
 pub mod EndLaws
+-- The words of the code and of laws about these files, which a reader need not believe.
+pub mod Words

@@ -20,9 +20,9 @@ use Rattle.con_machine.specs.Follows.{sent_by}
 use Rattle.con_machine.specs.Turns.{is_terminal}
 use Rattle.con_laws.specs.Rounds.{Begun}
 use Rattle.con_machine.specs.State.{State}
-use Rattle.con_session.specs.Desk.{Rests, entry}
+use Rattle.con_session.specs.Words.Desk.{Rests, entry}
 use Rattle.con_session.specs.LinkedLaws.{linked_other, linked_failed, linked_hung, linked_frame, linked_fault, linked_stays, linked_stops}
-use Rattle.con_session.specs.Sender.{LinkIs, LinkEnds, NoMore, SenderTurn, end_for}
+use Rattle.con_session.specs.Words.Sender.{LinkIs, LinkEnds, NoMore, SenderTurn, end_for}
 use Rattle.con_session.specs.declared.terminal.Side.{Side}
 
 -- another's entry

@@ -20,8 +20,8 @@ use Rattle.con_events.specs.declared.entry.Entry.{Entry}
 use Rattle.con_events.specs.declared.event.Event.TheVariants as events
 use Rattle.con_machine.specs.Follows.{sent_by, is_cut}
 use Rattle.con_machine.specs.Turns.{is_terminal}
-use Rattle.con_session.specs.Desk.{entry}
-use Rattle.con_session.specs.Sender.{SideStands, LinkBy, LinkEndsBy, LinkTurnBy, end_for}
+use Rattle.con_session.specs.Words.Desk.{entry}
+use Rattle.con_session.specs.Words.Sender.{SideStands, LinkBy, LinkEndsBy, LinkTurnBy, end_for}
 use Rattle.con_session.specs.SenderLaws.{side_frame, side_hung, side_other}
 use Rattle.con_session.specs.declared.terminal.Side.{Side}
 

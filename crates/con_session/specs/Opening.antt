@@ -3,7 +3,7 @@ use Rattle.std.specs.Prelude.{◌≡◌, ℕ, ◌+◌, false, List, [], ◌∷�
 use Rattle.con_handlers.specs.Memory.{Memory}
 use Rattle.con_machine.specs.Follows.{kinds_of}
 use Rattle.con_laws.specs.Rounds.{Begun}
-use Rattle.con_session.specs.Worker.{HandsStandBy}
+use Rattle.con_session.specs.Words.Worker.{HandsStandBy}
 use Rattle.con_session.specs.declared.worker.Worker.{Worker}
 
 -- a worker that has entered nothing

@@ -13,17 +13,18 @@ use Rattle.con_events.specs.Session.{Clients}
 use Rattle.con_events.specs.declared.end.End.TheVariants as ends
 use Rattle.con_events.specs.declared.entry.Entry.{Entry}
 use Rattle.con_events.specs.declared.script.Script.{Script}
-use Rattle.con_machine.specs.Follows.{session_start, kinds_of, steps_of, steps_in}
+use Rattle.con_machine.specs.Follows.{session_start, kinds_of, steps_of}
+use Rattle.con_machine.specs.Words.Follows.{steps_in}
 use Rattle.con_laws.specs.OpeningLaws.{opens}
 use Rattle.con_laws.specs.PresenceLaws.{single_none}
 use Rattle.con_laws.specs.Rounds.{Begun, client_at}
 use Rattle.con_session.specs.Opening.{AreFreshBy, fresh}
 use Rattle.con_session.specs.Painting.{CanvasIs}
 use Rattle.con_session.specs.Seats.{Seated}
-use Rattle.con_session.specs.Sender.{LinkBy, LinkIs, NoMore, SideStands}
+use Rattle.con_session.specs.Words.Sender.{LinkBy, LinkIs, NoMore, SideStands}
 use Rattle.con_session.specs.Solo.{begins}
 use Rattle.con_session.specs.Standing.{ClientStands}
-use Rattle.con_session.specs.Worker.{HandsStandBy, IsWorker}
+use Rattle.con_session.specs.Words.Worker.{HandsStandBy, IsWorker}
 use Rattle.con_session.specs.declared.terminal.Side.{Side}
 use Rattle.con_session.specs.declared.worker.Worker.{Worker}
 

@@ -11,7 +11,7 @@ use Rattle.con_machine.specs.HistoryLaws.{paints-append}
 use Rattle.con_machine.specs.State.{State}
 use Rattle.con_machine.specs.Step.{is_ready, is_actors, is_outside, is_due, client_of}
 use Rattle.con_machine.specs.Turns.{paints, is_paint}
-use Rattle.con_session.specs.Desk.{entry}
+use Rattle.con_session.specs.Words.Desk.{entry}
 
 -- ---- what is entered is the actor's
 

@@ -3,8 +3,9 @@ use Rattle.std.proofs.Common.{◌≡◌, ℕ, ◌<◌, Bool, true, false, List, 
 use Rattle.std.specs.Prelude.{not, ◌&&◌, option_map, slice_index_or, if◌then◌else◌}
 use Rattle.std.proofs.lemmas.List.{get_or_default}
 use Rattle.con_units.specs.Glyph.{Glyph}
-use Rattle.con_units.specs.Limits.{IsWindow}
-use Rattle.con_units.specs.View.{IsWhole, row_of}
+use Rattle.con_units.specs.Words.Limits.{IsWindow}
+use Rattle.con_units.specs.View.{row_of}
+use Rattle.con_units.specs.Words.View.{IsWhole}
 use Rattle.con_units.specs.declared.view.View.{View}
 use Rattle.con_paint.specs.Painter.{Kept}
 use Rattle.con_events.specs.declared.actor.Actor.TheVariants as actors
@@ -12,14 +13,15 @@ use Rattle.con_events.specs.declared.entry.Entry.{Entry}
 use Rattle.con_events.specs.declared.event.Event.TheVariants as events
 use Rattle.con_machine.specs.History.{run}
 use Rattle.con_machine.specs.Marks.{AreMarks, IsSameRow}
-use Rattle.con_machine.specs.Painting.{view_now, is_fresh}
+use Rattle.con_machine.specs.Painting.{view_now}
+use Rattle.con_machine.specs.Words.Painting.{is_fresh}
 use Rattle.con_laws.specs.Rounds.{Begun}
 use Rattle.con_laws.specs.RoundWords.{IsTurn, is_failed}
 use Rattle.con_machine.specs.State.{State}
 use Rattle.con_machine.specs.Step.{is_ready}
 use Rattle.con_machine.specs.Turns.{paints}
 use Rattle.con_session.specs.Painting.{IsTied, Pictures}
-use Rattle.con_session.specs.Sender.{FailsBy}
+use Rattle.con_session.specs.Words.Sender.{FailsBy}
 use Rattle.con_session.specs.SenderLaws.{fails_true, fails_false}
 
 -- ---- a picture for the painter

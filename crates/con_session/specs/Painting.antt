@@ -2,7 +2,7 @@
 use Rattle.std.specs.Prelude.{◌≡◌, ◌⊎◌, ℕ, ◌+◌, ◌≤◌, Bool, true, false, List, [], ◌∷◌, ◌++◌, length, take, Option, Some, None, Result, Ok, Err, option_map}
 use Rattle.con_units.specs.declared.code.OutOfMemory.{OutOfMemory}
 use Rattle.con_units.specs.declared.place.Size.{Size}
-use Rattle.con_units.specs.View.{IsWhole}
+use Rattle.con_units.specs.Words.View.{IsWhole}
 use Rattle.con_units.specs.declared.view.View.{View}
 use Rattle.con_outside.specs.Outside.{then_written}
 use Rattle.con_term.specs.Terminal.{Terminal, IsTerminal}
@@ -12,15 +12,16 @@ use Rattle.con_events.specs.declared.entry.Entry.{Entry}
 use Rattle.con_events.specs.declared.event.Event.TheVariants as events
 use Rattle.con_events.specs.declared.reply.Reply.{Reply}
 use Rattle.con_machine.specs.History.{run}
-use Rattle.con_machine.specs.Painting.{is_fresh, view_now}
+use Rattle.con_machine.specs.Painting.{view_now}
+use Rattle.con_machine.specs.Words.Painting.{is_fresh}
 use Rattle.con_laws.specs.Rounds.{Begun}
 use Rattle.con_laws.specs.RoundWords.{IsTurn}
 use Rattle.con_machine.specs.Sights.{sights_of}
 use Rattle.con_machine.specs.State.{State}
 use Rattle.con_machine.specs.Step.{is_ready}
 use Rattle.con_machine.specs.Turns.{paints}
-use Rattle.con_session.specs.Desk.{Enters, Rests}
-use Rattle.con_session.specs.Runs.{Painted, Matched, EachPiece, Reaches, joined, ends_from}
+use Rattle.con_session.specs.Words.Desk.{Enters, Rests}
+use Rattle.con_session.specs.Words.Runs.{Painted, Matched, EachPiece, Reaches, joined, ends_from}
 use Rattle.con_session.specs.declared.desk.Picture.{Picture}
 
 -- what the painter keeps is the view that was painted last; equations alone, so that a caller can hand it on

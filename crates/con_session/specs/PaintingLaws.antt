@@ -17,7 +17,8 @@ use Rattle.con_events.specs.declared.event.Event.{Event}
 use Rattle.con_events.specs.declared.event.Event.TheVariants as events
 use Rattle.con_machine.specs.History.{run}
 use Rattle.con_machine.specs.HistoryLaws.{run-append, sights-one}
-use Rattle.con_machine.specs.Painting.{view_now, is_fresh}
+use Rattle.con_machine.specs.Painting.{view_now}
+use Rattle.con_machine.specs.Words.Painting.{is_fresh}
 use Rattle.con_laws.specs.PictureLaws.{step_moves}
 use Rattle.con_laws.specs.Rounds.{Begun}
 use Rattle.con_machine.specs.Sights.{sights_of, sights_at}
@@ -25,9 +26,9 @@ use Rattle.con_machine.specs.SizeLaws.{step_keeps_size}
 use Rattle.con_machine.specs.State.{State}
 use Rattle.con_machine.specs.Step.{step}
 use Rattle.con_machine.specs.Turns.{is_paint}
-use Rattle.con_session.specs.Desk.{entry}
+use Rattle.con_session.specs.Words.Desk.{entry}
 use Rattle.con_session.specs.Painting.{KeepsView, Reached, PainterStands}
-use Rattle.con_session.specs.Runs.{Painted, Matched, EachPiece, Reaches}
+use Rattle.con_session.specs.Words.Runs.{Painted, Matched, EachPiece, Reaches}
 use Rattle.con_session.specs.RunLaws.{matched_paint, piece_paint, reach_paint, piece_none, matched_resize, piece_resize, reach_resize}
 
 -- the same over plain lists and states

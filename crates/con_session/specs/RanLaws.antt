@@ -10,7 +10,7 @@ use Rattle.con_machine.specs.History.{run, is_legal}
 use Rattle.con_machine.specs.HistoryLaws.{run-append, legal-append}
 use Rattle.con_machine.specs.State.{State}
 use Rattle.con_machine.specs.Step.{step, is_ready}
-use Rattle.con_session.specs.Desk.{entry, is_painter, Ran}
+use Rattle.con_session.specs.Words.Desk.{entry, is_painter, Ran}
 
 pub ran_here : (s : State) (h : List Entry) → Ran s s h h
 ran_here s h = record { entries = []; after' = sym (append-nil h); state = refl; legal = refl; others = refl }

@@ -4,7 +4,8 @@ use Rattle.con_units.specs.declared.view.View.{View}
 use Rattle.con_events.specs.declared.reply.Reply.{Reply}
 use Rattle.con_events.specs.declared.reply.Reply.TheVariants as replies
 use Rattle.con_machine.specs.Marks.{told}
-use Rattle.con_session.specs.Desk.{brief_of, listed}
+use Rattle.con_session.specs.Desk.{listed}
+use Rattle.con_session.specs.Words.Desk.{brief_of}
 
 pub brief_told : (r : Reply) → brief_of (told r) ≡ brief_of r
 brief_told (replies.View v marks fresh) = refl

@@ -9,9 +9,9 @@ use Rattle.con_handlers.specs.Memory.{Memory}
 use Rattle.con_laws.specs.Rounds.{Begun}
 use Rattle.con_laws.specs.RoundWords.{AreTurns, clients_from, round_entries, is_nobody}
 use Rattle.con_machine.specs.State.{State}
-use Rattle.con_session.specs.Desk.{Stands}
+use Rattle.con_session.specs.Words.Desk.{Stands}
 use Rattle.con_session.specs.Standing.{ClientStands}
-use Rattle.con_session.specs.Worker.{ClientIs, HandsStandBy}
+use Rattle.con_session.specs.Words.Worker.{ClientIs, HandsStandBy}
 use Rattle.con_session.specs.declared.worker.Worker.{Worker}
 
 -- client k + 1 in its seat

@@ -11,7 +11,8 @@ use Rattle.con_events.specs.declared.actor.Actor.TheVariants as actors
 use Rattle.con_events.specs.declared.entry.Entry.{Entry}
 use Rattle.con_events.specs.declared.event.Event.{Event}
 use Rattle.con_events.specs.declared.event.Event.TheVariants as events
-use Rattle.con_machine.specs.Along.{after, Along}
+use Rattle.con_machine.specs.Along.{Along}
+use Rattle.con_machine.specs.Words.Along.{after}
 use Rattle.con_machine.specs.Follows.{FollowsLink, Sender, MaySend, sent_one, sent_by}
 use Rattle.con_machine.specs.HistoryLaws.{after-append, along-one, sent-other, sent-own, has_ended-one}
 use Rattle.con_laws.specs.Rounds.{Begun}
@@ -19,8 +20,8 @@ use Rattle.con_laws.specs.RoundWords.{IsTurn, SideTurn, is_failed}
 use Rattle.con_machine.specs.State.{State}
 use Rattle.con_machine.specs.Step.{is_ready, is_due}
 use Rattle.con_machine.specs.Turns.{sent, is_terminal, is_last_sent, has_ended, paints}
-use Rattle.con_session.specs.Desk.{entry}
-use Rattle.con_session.specs.Sender.{SideStands, FailsBy, hung}
+use Rattle.con_session.specs.Words.Desk.{entry}
+use Rattle.con_session.specs.Words.Sender.{SideStands, FailsBy, hung}
 
 pub ends_same : (f : Frame) → is_last_sent (sent_by f) ≡ ends_link f
 ends_same (frames.Bytes bytes) = refl

@@ -11,17 +11,19 @@ use Rattle.con_events.specs.declared.entry.Entry.{Entry}
 use Rattle.con_events.specs.declared.event.Event.{Event}
 use Rattle.con_events.specs.declared.reply.Reply.{Reply}
 use Rattle.con_events.specs.declared.script.Script.{Script}
-use Rattle.con_machine.specs.Along.{after}
-use Rattle.con_machine.specs.Follows.{AreAnswered, asks, are_of_session, session_start}
+use Rattle.con_machine.specs.Words.Along.{after}
+use Rattle.con_machine.specs.Follows.{AreAnswered, are_of_session, session_start}
+use Rattle.con_machine.specs.Words.Follows.{asks}
 use Rattle.con_machine.specs.History.{run, is_legal, replies_of}
 use Rattle.con_laws.specs.Rounds.{Begun}
 use Rattle.con_laws.specs.RoundWords.{AreTurns, AreRounds, all_entries, all_order, round_entries, is_nobody}
 use Rattle.con_machine.specs.State.{State}
 use Rattle.con_machine.specs.Turns.{paints}
-use Rattle.con_session.specs.Desk.{Stands, listed}
+use Rattle.con_session.specs.Desk.{listed}
+use Rattle.con_session.specs.Words.Desk.{Stands}
 use Rattle.con_session.specs.Painting.{CanvasIs, CanvasEnds}
 use Rattle.con_session.specs.Seats.{AllStandBy}
-use Rattle.con_session.specs.Sender.{LinkBy, LinkEndsBy, NoMore}
+use Rattle.con_session.specs.Words.Sender.{LinkBy, LinkEndsBy, NoMore}
 use Rattle.con_session.specs.Standing.{ClientStands}
 use Rattle.con_session.specs.declared.terminal.Side.{Side}
 use Rattle.con_session.specs.declared.worker.Worker.{Worker}

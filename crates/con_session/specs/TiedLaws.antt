@@ -13,14 +13,14 @@ use Rattle.con_events.specs.declared.event.Event.TheVariants as events
 use Rattle.con_events.specs.declared.reply.Reply.{Reply}
 use Rattle.con_machine.specs.History.{run, is_legal}
 use Rattle.con_machine.specs.Moves.{resizes_by, painted_by}
-use Rattle.con_machine.specs.Painting.{is_fresh}
+use Rattle.con_machine.specs.Words.Painting.{is_fresh}
 use Rattle.con_laws.specs.PictureLaws.{step_moves, asked_is_due}
 use Rattle.con_machine.specs.SizeLaws.{step_keeps_size}
 use Rattle.con_machine.specs.Sizes.{width_by, height_by}
 use Rattle.con_machine.specs.State.{State}
 use Rattle.con_machine.specs.Step.{step, is_ready}
 use Rattle.con_machine.specs.Turns.{moved, is_paint}
-use Rattle.con_session.specs.Desk.{Enters, Ran, is_painter}
+use Rattle.con_session.specs.Words.Desk.{Enters, Ran, is_painter}
 use Rattle.con_session.specs.Painting.{IsTied, Pictures}
 use Rattle.con_session.specs.PaintCounts.{no_paint}
 

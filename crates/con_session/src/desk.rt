@@ -1,11 +1,12 @@
 //! A console with its history.
 ghost use Rattle.std.specs.Prelude.{◌≡◌, ◌<◌, true, false, IfOk, OnErr, vec_capacity, vec_len};
-ghost use Rattle.con_units.specs.Limits.{IsWindow};
-ghost use Rattle.con_units.specs.View.{IsWhole};
+ghost use Rattle.con_units.specs.Words.Limits.{IsWindow};
+ghost use Rattle.con_units.specs.Words.View.{IsWhole};
 ghost use Rattle.con_machine.specs.Fits.{Fits};
 ghost use Rattle.con_machine.specs.Marks.{AreMarks};
 ghost use Rattle.con_machine.specs.Step.{is_ready, step};
-ghost use Rattle.con_session.specs.Desk.{brief_of, listed, is_painter, Enters, Rests, Ran};
+ghost use Rattle.con_session.specs.Desk.{listed};
+ghost use Rattle.con_session.specs.Words.Desk.{brief_of, is_painter, Enters, Rests, Ran};
 ghost use Rattle.con_session.specs.Painting.{Pictures};
 
 use crate::door::Door;

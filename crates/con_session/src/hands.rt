@@ -2,11 +2,13 @@
 ghost use Rattle.std.specs.Prelude.{◌≡◌, ◌==◌, ℕ, Bool, true, false, List, [], Some, None, map, length, ◌≤◌, get_or, slice_set, IfOk};
 ghost use Rattle.std.specs.Prelude.{if◌then◌else◌};
 ghost use Rattle.std.specs.List.{position, remove};
-ghost use Rattle.con_machine.specs.Chain.{Handler, delivered_to, is_handled, with_handler, without_handler};
+ghost use Rattle.con_machine.specs.Chain.{Handler};
+ghost use Rattle.con_machine.specs.Words.Chain.{delivered_to, is_handled, with_handler, without_handler};
 ghost use Rattle.con_machine.specs.Follows.{kinds_of};
 ghost use Rattle.con_laws.specs.Rounds.{Begun};
 ghost use Rattle.con_session.specs.Held.{HandsAre, HandsStand, at_place};
-ghost use Rattle.con_session.specs.Worker.{told_kind, places_in, stand_once};
+ghost use Rattle.con_session.specs.Worker.{told_kind};
+ghost use Rattle.con_session.specs.Words.Worker.{places_in, stand_once};
 
 use con_handlers::{Chain, CtrlHandler, Delivered};
 use con_units::OutOfMemory;

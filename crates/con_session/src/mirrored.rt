@@ -7,8 +7,9 @@ ghost use Rattle.con_laws.specs.Rounds.{Begun};
 ghost use Rattle.con_machine.specs.Turns.{paints};
 ghost use Rattle.con_session.specs.Held.{moment};
 ghost use Rattle.con_session.specs.Painting.{IsTied};
-ghost use Rattle.con_session.specs.Second.{IsFollowed, IsMirrorOutcome, Mirrors, Seconded};
-ghost use Rattle.con_session.specs.Sender.{FailsBy};
+ghost use Rattle.con_session.specs.Second.{IsMirrorOutcome, Mirrors};
+ghost use Rattle.con_session.specs.Words.Second.{IsFollowed, Seconded};
+ghost use Rattle.con_session.specs.Words.Sender.{FailsBy};
 ghost use Rattle.con_session.specs.Solo.{GoesBy, RoundTurnBy, RoundsTurnBy, fails_at};
 ghost use Rattle.con_session.specs.Worker.{told_kind};
 

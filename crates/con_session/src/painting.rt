@@ -1,7 +1,8 @@
 //! The painter's turn: a Paint, its frame, and the frame's bytes to the terminal.
 ghost use Rattle.std.specs.Prelude.{◌≡◌, ◌⊎◌, ℕ, ◌+◌, ◌<◌, ◌≤◌, true, false, Bool, List, length, slice_index_or, IfOk, IfSome, Option, if◌then◌else◌};
-ghost use Rattle.con_units.specs.Limits.{IsWindow};
-ghost use Rattle.con_units.specs.View.{IsWhole, row_of};
+ghost use Rattle.con_units.specs.Words.Limits.{IsWindow};
+ghost use Rattle.con_units.specs.View.{row_of};
+ghost use Rattle.con_units.specs.Words.View.{IsWhole};
 ghost use Rattle.con_units.specs.declared.place.Size.{Size};
 ghost use Rattle.con_outside.specs.Outside.{Rose};
 ghost use Rattle.con_term.specs.Terminal.{Terminal};
@@ -11,7 +12,7 @@ ghost use Rattle.con_machine.specs.Marks.{AreMarks};
 ghost use Rattle.con_laws.specs.Rounds.{Begun};
 ghost use Rattle.con_machine.specs.Turns.{paints};
 ghost use Rattle.con_session.specs.Painting.{CanvasIs, IsTied, PainterActs, PainterFails, PaintTurn, Pictured, acted};
-ghost use Rattle.con_session.specs.Sender.{FailsBy};
+ghost use Rattle.con_session.specs.Words.Sender.{FailsBy};
 
 use crate::desk::{Desk, Picture};
 use con_events::{Actor, Event};

@@ -1,9 +1,9 @@
 //! A client's seat, its turn in a round, and the turns of all clients.
 ghost use Rattle.std.specs.Prelude.{◌≡◌, ℕ, ◌≤◌, Bool, true, false, List, length, map};
 ghost use Rattle.con_laws.specs.Rounds.{Begun};
-ghost use Rattle.con_session.specs.Desk.{Ran};
+ghost use Rattle.con_session.specs.Words.Desk.{Ran};
 ghost use Rattle.con_session.specs.Held.{AllStand, ClientsTurn, HandsStand, HandsTurn};
-ghost use Rattle.con_session.specs.Worker.{ClientIs};
+ghost use Rattle.con_session.specs.Words.Worker.{ClientIs};
 
 use crate::desk::Desk;
 use crate::hands::Hands;

@@ -1,9 +1,9 @@
 //! The second terminal: it attaches and detaches by frames of the link, and follows each Paint while it is attached.
 ghost use Rattle.std.specs.Prelude.{◌≡◌, ◌⊎◌, ◌+◌, ℕ, ◌≤◌, true, false, is_some, Bool, List, ◌∷◌, [], ◌++◌, length, IfOk, IfSome, OnErr, Option, Some, None};
-ghost use Rattle.con_units.specs.View.{IsWhole};
+ghost use Rattle.con_units.specs.Words.View.{IsWhole};
 ghost use Rattle.con_units.specs.declared.place.Size.{Size};
 ghost use Rattle.con_outside.specs.Outside.{Rose};
-ghost use Rattle.con_link.specs.Mirrored.{is_mirror_frame};
+ghost use Rattle.con_link.specs.Words.Mirrored.{is_mirror_frame};
 ghost use Rattle.con_link.specs.LinkReading.{mirrored};
 ghost use Rattle.con_link.specs.declared.mirror.MirrorFrame.{MirrorFrame};
 ghost use Rattle.con_mirror.specs.Mirror.{AreSince};
@@ -15,10 +15,10 @@ ghost use Rattle.con_machine.specs.Painting.{view_now};
 ghost use Rattle.con_laws.specs.Rounds.{Begun};
 ghost use Rattle.con_machine.specs.State.{State};
 ghost use Rattle.con_machine.specs.Turns.{has_ended, paints, sent};
-ghost use Rattle.con_session.specs.Desk.{Ran, entry};
-ghost use Rattle.con_session.specs.Second.{FollowTurn, FrameOf, GivenBehind, IsGiven, MirrorLinkIs, Mirrors};
-ghost use Rattle.con_session.specs.Second.{SecondIs, SecondTurn, Seconded, StaysGiven, kept_behind, kept_by};
-ghost use Rattle.con_session.specs.Sender.{FailsBy, LinkTurnBy, SenderTurn, plain_of};
+ghost use Rattle.con_session.specs.Words.Desk.{Ran, entry};
+ghost use Rattle.con_session.specs.Second.{Mirrors};
+ghost use Rattle.con_session.specs.Words.Second.{FollowTurn, FrameOf, GivenBehind, IsGiven, MirrorLinkIs, SecondIs, SecondTurn, Seconded, StaysGiven, kept_behind, kept_by};
+ghost use Rattle.con_session.specs.Words.Sender.{FailsBy, LinkTurnBy, SenderTurn, plain_of};
 
 use crate::desk::{Desk, Picture};
 use crate::painting::{end_after, frame_length};

@@ -7,7 +7,7 @@ ghost use Rattle.con_machine.specs.Turns.{paints};
 ghost use Rattle.con_session.specs.Held.{moment};
 ghost use Rattle.con_session.specs.Outcome.{IsSoloOutcome};
 ghost use Rattle.con_session.specs.Painting.{IsTied};
-ghost use Rattle.con_session.specs.Sender.{FailsBy};
+ghost use Rattle.con_session.specs.Words.Sender.{FailsBy};
 ghost use Rattle.con_session.specs.Solo.{Goes, RoundTurn, RoundsTurn, end_by, fails_at};
 ghost use Rattle.con_session.specs.Worker.{told_kind};
 

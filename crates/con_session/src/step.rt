@@ -5,7 +5,7 @@ ghost use Rattle.con_machine.specs.Client.{event_of};
 ghost use Rattle.con_laws.specs.Rounds.{Begun};
 ghost use Rattle.con_session.specs.DoorTurns.{ClientAt, HasTurnedBy, IsNext, IsQuiet};
 ghost use Rattle.con_session.specs.Held.{HandsStand, HasTurned};
-ghost use Rattle.con_session.specs.Worker.{HandsStandBy, is_handlers};
+ghost use Rattle.con_session.specs.Words.Worker.{HandsStandBy, is_handlers};
 
 use crate::door::Door;
 use crate::hands::Hands;

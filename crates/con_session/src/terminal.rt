@@ -5,8 +5,8 @@ ghost use Rattle.con_link.specs.Frames.{ends_link, is_frame};
 ghost use Rattle.con_machine.specs.Follows.{sent_by};
 ghost use Rattle.con_laws.specs.Rounds.{Begun};
 ghost use Rattle.con_machine.specs.Turns.{has_ended, paints, sent};
-ghost use Rattle.con_session.specs.Desk.{Ran};
-ghost use Rattle.con_session.specs.Sender.{end_for, FailsBy, Hears, LinkIs, LinkTurn, SenderTurn};
+ghost use Rattle.con_session.specs.Words.Desk.{Ran};
+ghost use Rattle.con_session.specs.Words.Sender.{end_for, FailsBy, Hears, LinkIs, LinkTurn, SenderTurn};
 
 use crate::desk::Desk;
 use con_events::{Actor, End, Event};

@@ -2,10 +2,10 @@
 ghost use Rattle.std.specs.Prelude.{◌≡◌, ◌==◌, ◌||◌, ◌<◌, ℕ, Bool, true, false, not, List, IfOk};
 ghost use Rattle.con_handlers.specs.Memory.{Memory};
 ghost use Rattle.con_laws.specs.Rounds.{Begun};
-ghost use Rattle.con_session.specs.Desk.{is_refused};
+ghost use Rattle.con_session.specs.Words.Desk.{is_refused};
 ghost use Rattle.con_session.specs.DoorTurns.{ClientAt, HasTurnedBy, IsQuiet, MayExit};
 ghost use Rattle.con_session.specs.Held.{HandsStand, HasTaken, HasTurned};
-ghost use Rattle.con_session.specs.Worker.{HandsStandBy};
+ghost use Rattle.con_session.specs.Words.Worker.{HandsStandBy};
 
 use crate::desk::Brief;
 use crate::door::Door;

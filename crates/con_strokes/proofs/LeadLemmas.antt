@@ -3,7 +3,8 @@ use Rattle.std.proofs.Common.{◌≡◌, ℕ, ◌+◌, ◌-◌, ◌*◌, ◌<◌
 use Rattle.std.specs.Prelude.{nat_lt}
 use Rattle.std.proofs.lemmas.List.Sums.{fold-append}
 use Rattle.std.proofs.lemmas.Bool.Decides.{nat_tests}
-use Rattle.con_units.specs.Attr.{Attribute, IsAttribute, plain}
+use Rattle.con_units.specs.Attr.{Attribute, plain}
+use Rattle.con_units.specs.Words.Attr.{IsAttribute}
 use Rattle.con_units.specs.Stored.{stored_unit}
 use Rattle.con_units.specs.declared.shade.Shade.{Shade}
 use Rattle.con_units.specs.declared.shade.Shade.TheVariants.{Plain, Index}

@@ -4,8 +4,10 @@ use Rattle.std.proofs.lemmas.Grind.{common_steps}
 use Rattle.std.proofs.lemmas.Nat.{and_shr}
 use Rattle.std.proofs.lemmas.Nat.Bits.{and_high}
 use Rattle.std.proofs.lemmas.Bool.Decides.{nat_tests}
-use Rattle.con_units.specs.Attr.{Attribute, IsAttribute, foreground, background, masked, plain}
-use Rattle.con_units.specs.Shade.{near, near_in_cube, near_grey, IsNearest, IsNearestOrBright}
+use Rattle.con_units.specs.Attr.{Attribute, plain}
+use Rattle.con_units.specs.Words.Attr.{IsAttribute, foreground, background, masked}
+use Rattle.con_units.specs.Shade.{near, near_in_cube, near_grey, IsNearest}
+use Rattle.con_units.specs.Words.Shade.{IsNearestOrBright}
 use Rattle.con_units.specs.declared.shade.Shade.{Shade}
 use Rattle.con_units.specs.declared.shade.Shade.TheVariants.{Plain, Index}
 use Rattle.con_vtgram.specs.Text.{sixteen}

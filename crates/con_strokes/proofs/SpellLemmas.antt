@@ -8,7 +8,8 @@ use Rattle.std.proofs.lemmas.Bool.Decides.{nat_tests}
 use Rattle.con_units.specs.Split.{Grammar, split, split_after, with_items, next}
 use Rattle.con_units.specs.Laws.{GoesOnBy, IsOpen}
 use Rattle.con_units.specs.Utf8.{utf8, is_cut_character, whole_character, may_follow}
-use Rattle.con_units.specs.Stored.{is_shown, stored_unit, is_control, is_surrogate}
+use Rattle.con_units.specs.Stored.{is_shown, stored_unit, is_control}
+use Rattle.con_units.specs.Words.Stored.{is_surrogate}
 use Rattle.con_units.specs.ReadLaws.{read_so}
 use Rattle.con_units.specs.SplitLaws.{split_after-append}
 use Rattle.con_units.specs.Decimal.{decimal}

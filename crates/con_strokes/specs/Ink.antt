@@ -1,6 +1,7 @@
 -- The pen that a cell is printed with.
 use Rattle.std.specs.Prelude.{ℕ, ◌/◌, ◌%◌, Bool, false, nat_le, ◌==◌, not}
-use Rattle.con_units.specs.Attr.{Attribute, foreground, background}
+use Rattle.con_units.specs.Attr.{Attribute}
+use Rattle.con_units.specs.Words.Attr.{foreground, background}
 use Rattle.con_units.specs.Shade.{near}
 use Rattle.con_units.specs.declared.shade.Shade.{Shade}
 use Rattle.con_units.specs.declared.shade.Shade.TheVariants.{Plain, Index}

@@ -2,7 +2,8 @@
 use Rattle.std.specs.Prelude.{ℕ, ◌+◌, ◌<◌, ◌≡◌, List, [], ◌∷◌, ◌++◌, length, take, drop, fold}
 use Rattle.con_units.specs.Glyph.{Glyph}
 use Rattle.con_units.specs.Stored.{stored_unit}
-use Rattle.con_units.specs.Attr.{Attribute, IsAttribute}
+use Rattle.con_units.specs.Attr.{Attribute}
+use Rattle.con_units.specs.Words.Attr.{IsAttribute}
 use Rattle.con_term.specs.Page.{Page, printed}
 use Rattle.con_strokes.specs.Ink.{pen_for}
 

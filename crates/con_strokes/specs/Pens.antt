@@ -1,7 +1,8 @@
 -- The numbers of CSI m that change one pen into another.
 use Rattle.std.specs.Prelude.{ℕ, ◌+◌, ◌-◌, ◌/◌, ◌%◌, ◌≡◌, Bool, true, false, nat_lt, nat_le, ◌==◌, ◌&&◌, ◌||◌, List, [], ◌∷◌, ◌++◌, if◌then◌else◌}
-use Rattle.con_units.specs.Attr.{Attribute, plain, foreground, background}
-use Rattle.con_units.specs.Attr as attrs
+use Rattle.con_units.specs.Attr.{Attribute, plain}
+use Rattle.con_units.specs.Words.Attr.{foreground, background}
+use Rattle.con_units.specs.Words.Attr as attrs
 use Rattle.con_units.specs.declared.shade.Shade.{Shade}
 use Rattle.con_units.specs.declared.shade.Shade.TheVariants.{Plain, Index}
 use Rattle.con_vtgram.specs.Pen.{nibble}

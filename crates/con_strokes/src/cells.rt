@@ -1,7 +1,7 @@
 //! Cells, one after another in a row.
 ghost use Rattle.std.specs.Prelude.{◌≡◌, ◌↔◌, ◌+◌, ◌<◌, ◌≤◌, true, length};
 ghost use Rattle.std.specs.Vec.{vec_len, vec_capacity};
-ghost use Rattle.con_units.specs.Attr.{IsAttribute};
+ghost use Rattle.con_units.specs.Words.Attr.{IsAttribute};
 ghost use Rattle.con_units.specs.Glyph.{blank_cell};
 ghost use Rattle.con_units.specs.Stored.{stored_unit};
 ghost use Rattle.con_term.specs.Same.{same_attr, same_shade};

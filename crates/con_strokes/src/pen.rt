@@ -1,7 +1,8 @@
 //! Pens: the shortest control sequence that makes the pen of one attribute that of another.
 ghost use Rattle.std.specs.Prelude.{◌≡◌, ◌+◌, ◌/◌, ◌%◌, ◌<◌, ◌≤◌, ◌++◌, ◌==◌, true, false, nat_le, ◌||◌};
 ghost use Rattle.std.specs.Vec.{vec_len, vec_capacity};
-ghost use Rattle.con_units.specs.Attr.{IsAttribute, plain};
+ghost use Rattle.con_units.specs.Attr.{plain};
+ghost use Rattle.con_units.specs.Words.Attr.{IsAttribute};
 ghost use Rattle.con_vtgram.specs.Pen.{nibble as nibble_of};
 ghost use Rattle.con_term.specs.Page.{Page};
 ghost use Rattle.con_strokes.specs.Bytes.{csi_bytes, parts, separated};

@@ -8,7 +8,8 @@ use Rattle.std.proofs.lemmas.Bool.Decides.{nat_tests}
 use Rattle.con_units.specs.Split.{split, with_items, split_after}
 use Rattle.con_units.specs.Stored.{is_control}
 use Rattle.con_units.specs.ReadLaws.{read_so}
-use Rattle.con_units.specs.Utf8.{utf8, may_follow, is_continuation, code_of_two, code_of_three, code_of_four}
+use Rattle.con_units.specs.Utf8.{utf8, may_follow, is_continuation}
+use Rattle.con_units.specs.Words.Utf8.{code_of_two, code_of_three, code_of_four}
 use Rattle.con_vtgram.specs.Text.{grammar, is_front, whole, is_acting}
 use Rattle.con_vtgram.specs.declared.item.Item.TheVariants.{Print}
 use Rattle.con_term.specs.Page.{Page}

@@ -17,3 +17,5 @@ pub mod SheetView
 pub mod BlockView
 pub mod PageView
 pub mod Inside
+-- The words of the code and of laws about these files, which a reader need not believe.
+pub mod Words

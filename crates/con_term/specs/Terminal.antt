@@ -1,6 +1,5 @@
 -- A terminal, and the views that it shows.
-use Rattle.std.specs.Prelude.{◌≡◌, ℕ, pos, true, List, [], if◌then◌else◌}
-use Rattle.con_units.specs.declared.place.Coord.{Coord}
+use Rattle.std.specs.Prelude.{◌≡◌, ℕ, pos, true, List, []}
 use Rattle.con_units.specs.declared.view.View.{View}
 use Rattle.con_term.specs.Page.{Page, IsPage}
 
@@ -28,10 +27,3 @@ pub record Shows (t : Terminal) (v : View) : Type 0 where
   pub row : v.visible ≡ true → pos t.page.y ≡ v.cursor.y
   pub no_bytes : t.bytes ≡ []
   pub no_units : t.units ≡ []
-
--- what a page shows; a hidden cursor stands in the upper left cell
-abbrev pub cursor_of : Page → Coord
-cursor_of s = if s.visible then record { x = pos s.x; y = pos s.y } else record { x = pos 0; y = pos 0 }
-
-abbrev pub view_of : Page → View
-view_of s = record { size = record { w = s.w; h = s.h }; rows = s.cells; cursor = cursor_of s; visible = s.visible }

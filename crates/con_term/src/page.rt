@@ -1,6 +1,6 @@
 //! The page of a terminal.
 ghost use Rattle.std.specs.Prelude.{IfOk, ◌≡◌, ℕ, ◌≤◌, ◌<◌, ◌*◌, ◌^◌, length, [], vec_capacity, true, take, fold, option_to_list, min, ◌+◌, ◌-◌, ◌==◌};
-ghost use Rattle.con_term.specs.Terminal.{view_of};
+ghost use Rattle.con_term.specs.Words.Terminal.{view_of};
 ghost use Rattle.con_term.specs.Run.{all_printed};
 ghost use Rattle.con_term.specs.Play.{units_of};
 ghost use Rattle.con_term.specs.Ends.{is_end, all_done, fed, ended};

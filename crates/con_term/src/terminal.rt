@@ -5,7 +5,8 @@ ghost use Rattle.con_term.specs.Play.{units_of, play};
 ghost use Rattle.con_term.specs.Steps.{typed};
 ghost use Rattle.con_term.specs.Inside.{parts};
 ghost use Rattle.con_term.specs.Page.{IsPage, blank_page};
-ghost use Rattle.con_term.specs.Terminal.{IsTerminal, view_of};
+ghost use Rattle.con_term.specs.Terminal.{IsTerminal};
+ghost use Rattle.con_term.specs.Words.Terminal.{view_of};
 ghost use Rattle.con_term.specs.Front.{IsPrintedAs};
 
 use crate::ends::is_end;

@@ -5,7 +5,7 @@ use Rattle.con_units.specs.Split.{split_after}
 use Rattle.con_units.specs.Utf8.{utf8}
 use Rattle.con_term.specs.Play.{units_of}
 use Rattle.con_screens.specs.Buffers.{Buffers}
-use Rattle.con_text.specs.Typing.{Typing, heard, units_typed}
+use Rattle.con_text.specs.Words.Typing.{Typing, heard, units_typed}
 
 pub heard_is : (s : Typing) (b new : Buffers) (h us vs held bytes : List ℕ) → s ≡ record { buffers = b; held = h } → vs ≡ flat_map units_of (split_after utf8 h bytes).items → us ≡ vs → held ≡ (split_after utf8 h bytes).tail
     → new ≡ units_typed b us → record { buffers = new; held = held } ≡ heard s bytes

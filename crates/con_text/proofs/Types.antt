@@ -4,7 +4,8 @@ use Rattle.std.specs.Prelude.{Result, Ok, Err, OnOk, flat_map}
 use Rattle.con_units.specs.Split.{split}
 use Rattle.con_units.specs.Utf8.{utf8}
 use Rattle.con_term.specs.Play.{units_of}
-use Rattle.con_text.specs.Typing.{Typing, IsFrame, ShowsBuffers, PrintsAtMost, text_typed, units_typed, ended, ended_with, cut_units, heard, opening}
+use Rattle.con_text.specs.Typing.{IsFrame, text_typed}
+use Rattle.con_text.specs.Words.Typing.{Typing, ShowsBuffers, PrintsAtMost, units_typed, ended, ended_with, cut_units, heard, opening}
 use Rattle.con_text.specs.TypedInTurn.{units_in_turn, typed_none}
 
 -- the text that was heard and ended is the whole text typed

@@ -13,7 +13,7 @@ use Rattle.con_screens.specs.View.{view_of}
 use Rattle.con_term.specs.Terminal.{Terminal, IsTerminal, Shows}
 use Rattle.con_term.specs.Play.{play, printed}
 use Rattle.con_paint.specs.Painter.{Kept, Allows, Paints, unpainted}
-use Rattle.con_text.specs.Typing.{Typing, opening, ended, units_typed, ShowsBuffers, PrintsAtMost}
+use Rattle.con_text.specs.Words.Typing.{Typing, opening, ended, units_typed, ShowsBuffers, PrintsAtMost}
 
 -- the mode was set on the main screen of the first buffers
 pub opened_is : (s : Buffers) (x y : Screen) → s ≡ first_buffers 80 25 → IfSome (buffer_at s 0) (λ b. x ≡ b.shown) → y ≡ mode_set x 7 → screen_left s 0 y ≡ opening

@@ -7,3 +7,5 @@ pub mod Typing
 pub mod PlayedInTurn
 pub mod TypedInTurn
 pub mod TypistView
+-- The words of the code and of laws about these files, which a reader need not believe.
+pub mod Words

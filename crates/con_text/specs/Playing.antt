@@ -2,7 +2,7 @@
 use Rattle.std.specs.Prelude.{◌≡◌, ℕ, ◌≤◌, ◌⊎◌, List, [], length, Option, IfSome, codes, flat_map}
 use Rattle.con_text.specs.Encoded.{unit_bytes}
 use Rattle.con_units.specs.declared.place.Size.{Size}
-use Rattle.con_term.specs.Page.{Page, blank_page}
+use Rattle.con_term.specs.Page.{blank_page}
 use Rattle.con_dump.specs.Dump.{dump}
 use Rattle.con_term.specs.Play.{play}
 use Rattle.con_lines.specs.Ending.{worded}
@@ -12,10 +12,6 @@ use Rattle.con_text.specs.Link.{IsTooLong}
 -- the text was read to the link's end, and is not too long
 abbrev pub IsWhole : List ℕ → Option (List ℕ) → Type 0
 IsWhole text left = (length text ≤ 16777216) × IfSome left (λ rest. rest ≡ [])
-
--- the dump of a screen, in UTF-8
-abbrev pub dump_bytes : Page → List ℕ
-dump_bytes screen = flat_map unit_bytes (dump screen)
 
 -- the dump of a blank terminal of this size that was played the text, in UTF-8
 abbrev pub dump_after : Size → List ℕ → List ℕ

@@ -9,7 +9,7 @@ use Rattle.con_term.specs.Play.{units_of}
 use Rattle.con_screen.specs.Told.{nothing_told}
 use Rattle.con_screens.specs.Buffers.{Buffers}
 use Rattle.con_screens.specs.WrittenInTurn.{written_nothing, written_in_turn}
-use Rattle.con_text.specs.Typing.{Typing, heard, units_typed}
+use Rattle.con_text.specs.Words.Typing.{Typing, heard, units_typed}
 
 pub typed_none : (s : Buffers) → s ≡ units_typed s []
 typed_none s = sym (written_nothing s 0 nothing_told)

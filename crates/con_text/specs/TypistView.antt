@@ -1,7 +1,7 @@
 -- The fields of what types a text.
 use Rattle.std.specs.Prelude.{◌≡◌, ◌≤◌, vec_capacity}
-use Rattle.con_screens.specs.Buffers.{AreBuffers}
-use Rattle.con_text.specs.Typing.{Typing}
+use Rattle.con_screens.specs.Words.Buffers.{AreBuffers}
+use Rattle.con_text.specs.Words.Typing.{Typing}
 use Rattle.con_text.specs.declared.typing.Typist.TheInside.{Inside}
 
 abbrev pub typing_of : Inside → Typing

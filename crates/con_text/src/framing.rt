@@ -3,8 +3,8 @@
 ghost use Rattle.std.specs.Prelude.{◌≡◌, ℕ, ◌*◌, ◌≤◌, IfOk};
 ghost use Rattle.con_term.specs.Terminal.{Terminal, IsTerminal, Shows};
 ghost use Rattle.con_term.specs.Play.{play, printed};
-ghost use Rattle.con_units.specs.Limits.{IsWindow};
-ghost use Rattle.con_units.specs.View.{IsWhole};
+ghost use Rattle.con_units.specs.Words.Limits.{IsWindow};
+ghost use Rattle.con_units.specs.Words.View.{IsWhole};
 
 use con_paint::{Painter, room_for};
 use con_units::{Marks, OutOfMemory, View};

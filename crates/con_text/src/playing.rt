@@ -41,7 +41,7 @@ pub fn dumped(alloc: Global, terminal: &Terminal) -> Result<Vec<u8>, OutOfMemory
 }
 
 ghost use Rattle.std.specs.Prelude.{IfOk};
-ghost use Rattle.con_text.specs.Playing.{dump_bytes};
+ghost use Rattle.con_text.specs.Words.Playing.{dump_bytes};
 
 /// Plays the link's bytes to its end on a blank terminal of this size, and writes its dump to the report.
 pub fn host_play<I: Source, R: Sink>(alloc: Global, size: Size, link: &mut I, report: &mut R) -> u8

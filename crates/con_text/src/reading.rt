@@ -2,7 +2,7 @@
 
 ghost use Rattle.std.specs.Prelude.{◌≡◌, ◌≢◌, ℕ, ◌+◌, ◌<◌, ◌≤◌, List, [], ◌++◌, length, Option, Some, None, IfSome, OnOk};
 ghost use Rattle.con_outside.specs.Outside.{Rose, then_left};
-ghost use Rattle.con_text.specs.Link.{IsRead};
+ghost use Rattle.con_text.specs.Words.Link.{IsRead};
 
 use con_outside::Source;
 use con_units::OutOfMemory;

@@ -3,10 +3,12 @@
 ghost use Rattle.std.specs.Prelude.{◌≡◌, ◌≢◌, ℕ, ◌+◌, ◌*◌, ◌<◌, ◌≤◌, ◌⊎◌, List, [], ◌∷◌, ◌++◌, length, take};
 ghost use Rattle.std.specs.Prelude.{Option, Some, None, IfSome, IfOk, OnOk, IsTrue, flat_map, vec_len, vec_capacity};
 ghost use Rattle.con_outside.specs.Outside.{Rose, then_left, then_written};
-ghost use Rattle.con_screens.specs.Buffers.{Buffers, AreBuffers, with_buffer};
+ghost use Rattle.con_screens.specs.Buffers.{Buffers, with_buffer};
+ghost use Rattle.con_screens.specs.Words.Buffers.{AreBuffers};
 ghost use Rattle.con_screens.specs.Buffer.{buffer_written};
 ghost use Rattle.con_screen.specs.Told.{nothing_told};
-ghost use Rattle.con_text.specs.Typing.{Typing, opening, ended, ShowsBuffers, PrintsAtMost, Typed};
+ghost use Rattle.con_text.specs.Typing.{Typed};
+ghost use Rattle.con_text.specs.Words.Typing.{Typing, opening, ended, ShowsBuffers, PrintsAtMost};
 
 use crate::framing::frame;
 use crate::reading::{Listener, ReadEnd, read_link};
@@ -37,7 +39,7 @@ pub struct Typist {
 }
 
 impl Model for Typist {
-    ghost use Rattle.con_text.specs.Typing.{Typing};
+    ghost use Rattle.con_text.specs.Words.Typing.{Typing};
 
     ghost Value = { Typing };
 
@@ -119,7 +121,7 @@ impl Typist {
 
 impl Listener for Typist {
     ghost use Rattle.std.specs.Prelude.{◌≡◌};
-    ghost use Rattle.con_text.specs.Typing.{heard};
+    ghost use Rattle.con_text.specs.Words.Typing.{heard};
     ghost use Rattle.con_text.specs.TypedInTurn.{typed_nothing, typed_in_turn};
 
     ghost became = { λ before bytes after. after ≡ heard before bytes };

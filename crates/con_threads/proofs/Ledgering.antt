@@ -1,7 +1,7 @@
 -- A ledger behind one more event.
 use Rattle.std.proofs.Common.{◌≡◌, true, false, List, [], ◌∷◌, ◌++◌, length, Option, Some, None, arith, refl, sym, ap, ◌∙◌}
-use Rattle.con_units.specs.Limits.{IsWindow}
-use Rattle.con_units.specs.View.{IsWhole}
+use Rattle.con_units.specs.Words.Limits.{IsWindow}
+use Rattle.con_units.specs.Words.View.{IsWhole}
 use Rattle.con_events.specs.declared.actor.Actor.{Actor}
 use Rattle.con_events.specs.declared.actor.Actor.TheVariants as actors
 use Rattle.con_events.specs.declared.event.Event.{Event}
@@ -14,7 +14,8 @@ use Rattle.con_machine.specs.Painting.{view_now}
 use Rattle.con_laws.specs.PictureLaws.{paint_answers}
 use Rattle.con_machine.specs.State.{State}
 use Rattle.con_machine.specs.Step.{step, is_ready}
-use Rattle.con_session.specs.Desk.{brief_of, listed}
+use Rattle.con_session.specs.Desk.{listed}
+use Rattle.con_session.specs.Words.Desk.{brief_of}
 use Rattle.con_session.specs.PaintTurns.{picture_of, whole_of, window_of}
 use Rattle.con_session.specs.Replying.{listed_by, brief_by, view_is}
 use Rattle.con_threads.specs.Ledger.{logged_front, paged, brief_told, told_of, TellsPicture}

@@ -10,7 +10,7 @@ use Rattle.con_laws.specs.Rounds.{Begun, client_at}
 use Rattle.con_session.specs.Door.{are_others}
 use Rattle.con_session.specs.DoorEntries.{client_by, turns_saw}
 use Rattle.con_session.specs.DoorTurns.{ClientAt, HasTurnedBy}
-use Rattle.con_session.specs.Worker.{HandsStandBy, IsStance, IsWorker}
+use Rattle.con_session.specs.Words.Worker.{HandsStandBy, IsStance, IsWorker}
 use Rattle.con_session.specs.declared.worker.Worker.{Worker}
 use Rattle.con_threads.specs.Clients.{ClientGoes, ClientView, HasServedBy, IsClientThreadBy, ViewGoes}
 use Rattle.con_threads.specs.Scribe.{opened, history, IsSameScribe, IsScribe}

@@ -33,7 +33,7 @@ use Rattle.con_machine.specs.Closing.{closing}
 use Rattle.con_machine.specs.Reads.{began, collected, took_ctrl, left, line_front}
 use Rattle.con_machine.specs.Terminal.{fed, quiet, resized}
 use Rattle.con_machine.specs.Painting.{painted, same_view}
-use Rattle.con_session.specs.Desk.{brief_of}
+use Rattle.con_session.specs.Words.Desk.{brief_of}
 use Rattle.con_session.specs.declared.desk.Brief.{Brief}
 use Rattle.con_session.specs.declared.desk.Brief.TheVariants as briefs
 use Rattle.con_book.specs.History.{after}

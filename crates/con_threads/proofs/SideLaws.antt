@@ -24,10 +24,10 @@ use Rattle.con_laws.specs.Rounds.{Begun}
 use Rattle.con_machine.specs.State.{State}
 use Rattle.con_machine.specs.Step.{is_due, is_ready}
 use Rattle.con_machine.specs.Turns.{is_terminal, moved}
-use Rattle.con_session.specs.Desk.{entry}
+use Rattle.con_session.specs.Words.Desk.{entry}
 use Rattle.con_session.specs.AskLaws.{asks_other, asks_own, asks_lost}
 use Rattle.con_session.specs.LinkLaws.{link_failed, link_fault, link_frame, link_hung, link_other, link_stays, link_stops}
-use Rattle.con_session.specs.Sender.{LinkEnds, LinkIs, end_for}
+use Rattle.con_session.specs.Words.Sender.{LinkEnds, LinkIs, end_for}
 use Rattle.con_session.specs.SenderLaws.{side_other}
 use Rattle.con_session.specs.Solo.{AsksStand}
 use Rattle.con_session.specs.declared.terminal.Side.{Side}

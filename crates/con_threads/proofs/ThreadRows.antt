@@ -37,8 +37,8 @@ use Rattle.con_machine.specs.Reads.{began, collected, took_ctrl, left, line_fron
 use Rattle.con_laws.specs.Rounds.{Begun}
 use Rattle.con_machine.specs.Terminal.{fed, quiet, resized}
 use Rattle.con_machine.specs.Painting.{painted, same_view}
-use Rattle.con_session.specs.Runs.{ends_from}
-use Rattle.con_session.specs.Sender.{LinkIs, hung}
+use Rattle.con_session.specs.Words.Runs.{ends_from}
+use Rattle.con_session.specs.Words.Sender.{LinkIs, hung}
 use Rattle.con_session.specs.Solo.{AsksStand, begins}
 use Rattle.con_session.specs.declared.terminal.Side.{Side}
 use Rattle.con_session.specs.declared.worker.Worker.{Worker}

@@ -10,7 +10,7 @@ use Rattle.con_events.specs.declared.entry.Entry.{Entry}
 use Rattle.con_laws.specs.Rounds.{Begun}
 use Rattle.con_session.specs.CanvasLaws.{joined_more, written_more}
 use Rattle.con_session.specs.Painting.{CanvasIs, CanvasEnds, Written}
-use Rattle.con_session.specs.Runs.{joined}
+use Rattle.con_session.specs.Words.Runs.{joined}
 use Rattle.con_threads.specs.Painters.{Draws, DrawsLess}
 use Rattle.con_threads.specs.Writers.{Writes}
 

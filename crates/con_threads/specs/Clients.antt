@@ -8,7 +8,7 @@ use Rattle.con_handlers.specs.Memory.{Memory}
 use Rattle.con_laws.specs.Rounds.{Begun, client_at}
 use Rattle.con_session.specs.Held.{in_chain, in_rack}
 use Rattle.con_session.specs.Standing.{ClientStands}
-use Rattle.con_session.specs.Worker.{IsWorker, HandsStandBy}
+use Rattle.con_session.specs.Words.Worker.{IsWorker, HandsStandBy}
 use Rattle.con_session.specs.declared.worker.Worker.{Worker}
 use Rattle.con_threads.specs.Scribe.{IsScribe, IsSameScribe, opened, history}
 use Rattle.con_threads.specs.declared.client.ClientThread.{ClientThread}

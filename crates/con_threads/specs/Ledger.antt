@@ -1,7 +1,7 @@
 -- The console in the lock. A log of it has an entry for each event that was ready where it stood; another event does nothing.
 use Rattle.std.specs.Prelude.{◌≡◌, ℕ, ◌<◌, Bool, true, List, [], ◌∷◌, ◌++◌, map, Option, Some, None, vec_len, vec_capacity, if◌then◌else◌}
-use Rattle.con_units.specs.Limits.{IsWindow}
-use Rattle.con_units.specs.View.{IsWhole}
+use Rattle.con_units.specs.Words.Limits.{IsWindow}
+use Rattle.con_units.specs.Words.View.{IsWhole}
 use Rattle.con_book.specs.History.{after, is_legal}
 use Rattle.con_book.specs.declared.history.Logged.{Logged}
 use Rattle.con_events.specs.declared.actor.Actor.{Actor}
@@ -17,7 +17,8 @@ use Rattle.con_machine.specs.Numbered.{actor_of, ready_of, fits_of, blank_state}
 use Rattle.con_machine.specs.State.{State}
 use Rattle.con_machine.specs.Step.{step, is_ready}
 use Rattle.con_machine.specs.declared.rooms.room.Room.{Room}
-use Rattle.con_session.specs.Desk.{brief_of, entry, listed}
+use Rattle.con_session.specs.Desk.{listed}
+use Rattle.con_session.specs.Words.Desk.{brief_of, entry}
 use Rattle.con_session.specs.Painting.{Pictures}
 use Rattle.con_session.specs.declared.desk.Brief.{Brief}
 use Rattle.con_session.specs.declared.desk.Brief.TheVariants as briefs

@@ -13,7 +13,8 @@ use Rattle.con_lines.specs.declared.said.Said.{Said}
 use Rattle.con_lines.specs.Line.{line_text, ended}
 use Rattle.con_lines.specs.Fits.{AnswerFits, IsLine}
 use Rattle.con_lines.specs.Ending.{Ending, IsEnding, ending_text}
-use Rattle.con_trace.specs.Report.{AreLines, said_text, report, History, end_of, ends_behind, said, with_picture, pictures, IsHistory, report_of, IsWrongAt}
+use Rattle.con_trace.specs.Report.{said_text, report, History, said, IsHistory, report_of, IsWrongAt}
+use Rattle.con_trace.specs.Words.Report.{AreLines, end_of, ends_behind, with_picture, pictures}
 use Rattle.con_trace.specs.Cut.{cut_line, IsNeither, texts, with_end, ends_of, with_said, Gathers}
 use Rattle.con_lines.proofs.TablesFit.{map_keeps}
 use Rattle.con_trace.proofs.Tells.{said_cut, ending_cut, ended_then, pictures_are_paints}

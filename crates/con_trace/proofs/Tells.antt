@@ -14,7 +14,8 @@ use Rattle.con_lines.specs.declared.said.Said.{Said}
 use Rattle.con_lines.specs.Line.{line_data, line_text, ended}
 use Rattle.con_lines.specs.Ending.{Ending, IsEnding, done, no_memory, usage, document, link, terminal, missing, failed, too_long, mirror, frame, ending_data, ending_text}
 use Rattle.con_lines.specs.Fits.{IsLine}
-use Rattle.con_trace.specs.Report.{AreLines, said_text, report, History, end_of, ends_behind, said, with_picture, pictures, IsHistory, IsWrongAt, ReportTells, NoneIsWrong}
+use Rattle.con_trace.specs.Report.{said_text, report, History, said, IsHistory, IsWrongAt}
+use Rattle.con_trace.specs.Words.Report.{AreLines, end_of, ends_behind, with_picture, pictures, ReportTells, NoneIsWrong}
 use Rattle.con_lines.specs.Told.{said_in, ending_in}
 use Rattle.con_trace.specs.Cut.{cut_line, with_end, ends_of}
 use Rattle.con_lines.proofs.LineBack.{said_back, ending_back}

@@ -2,8 +2,6 @@
 use Rattle.std.specs.Prelude.{ℕ, List, [], ◌∷◌, codes}
 use Rattle.serde_json.specs.Data.{Data, string}
 use Rattle.serde_json.specs.Written.{compact_text}
-use Rattle.con_trace.specs.declared.audit.AuditLine.{AuditLine}
-use Rattle.con_trace.specs.declared.audit.AuditLine.TheVariants as line
 use Rattle.con_lines.specs.Shown.{list_of, natural}
 
 -- it is a run; or it is none, as this place shows in this part
@@ -18,8 +16,3 @@ found_data (no_run place part) = list_of (string (codes "audit") ∷ string (cod
 -- the line's bytes, without the line feed
 unfoldable pub found_text : Found → List ℕ
 found_text f = compact_text (found_data f)
-
--- what the line says
-abbrev pub found_of : AuditLine → Found
-found_of line.Yes = a_run
-found_of (line.No place part) = no_run place part.now

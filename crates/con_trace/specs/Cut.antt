@@ -10,7 +10,8 @@ use Rattle.con_trace.specs.declared.trace.TraceFault.TheVariants as fault
 use Rattle.con_lines.specs.Line.{line_text}
 use Rattle.con_lines.specs.Ending.{Ending, IsEnding, status_of, ending_text}
 use Rattle.con_lines.specs.Fits.{IsLine}
-use Rattle.con_trace.specs.Report.{AreLines, said_text, History, IsWrongAt}
+use Rattle.con_trace.specs.Report.{said_text, History, IsWrongAt}
+use Rattle.con_trace.specs.Words.Report.{AreLines}
 
 -- what stands before and behind the first line feed
 abbrev pub cut_line : List ℕ → Option (List ℕ × List ℕ)

@@ -3,3 +3,5 @@ pub mod Report
 pub mod Audit
 -- The code's own words: a text cut into lines.
 pub mod Cut
+-- The words of the code and of laws about these files, which a reader need not believe.
+pub mod Words

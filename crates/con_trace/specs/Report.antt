@@ -60,34 +60,3 @@ IsWrongAt zero text = ((s : Said) (rest : List ℕ) → IsLine s → text ≡ sa
     × ((e : Ending) (rest : List ℕ) → IsEnding e → text ≡ ended (ending_text e) ++ rest → ⊥)
 IsWrongAt (suc n) text = ((s : Said) × (rest : List ℕ) × IsLine s × (text ≡ said_text s ++ rest) × IsWrongAt n rest)
     ⊎ ((e : Ending) × (rest : List ℕ) × IsEnding e × (text ≡ ended (ending_text e) ++ rest) × (0 < length rest) × (n ≡ 0))
-
--- ---- laws
-
--- a report determines the history, the replies, the streams' lengths and the last line
-abbrev pub ReportTells : Type 0
-ReportTells = (h k : History) (last other : Ending) → IsHistory h → IsHistory k → IsEnding last → IsEnding other
-    → report_of h last ≡ report_of k other → (h ≡ k) × (last ≡ other)
-
--- no line of a report is wrong
-abbrev pub NoneIsWrong : Type 0
-NoneIsWrong = (h : History) (last : Ending) (n : ℕ) → IsHistory h → IsEnding last → IsWrongAt n (report_of h last) → ⊥
-
--- ---- the code's own words
-
-abbrev pub AreLines : List Said → Type 0
-AreLines ss = AllByRecursion IsLine ss
-
-abbrev pub end_of : Event → List ℕ → ℕ
-end_of e ns = (next_end e ns).0
-
-abbrev pub ends_behind : Event → List ℕ → List ℕ
-ends_behind e ns = (next_end e ns).1
-
-abbrev pub with_picture : Event → ℕ → ℕ
-with_picture event.Paint n = suc n
-with_picture other n = n
-
--- as `paints`
-abbrev pub pictures : List Entry → ℕ
-pictures [] = 0
-pictures (e ∷ es) = with_picture e.event (pictures es)

@@ -2,7 +2,8 @@
 
 ghost use Rattle.std.specs.Prelude.{◌≡◌, ◌≤◌, List, [], ◌∷◌, ◌++◌, IfOk, OnOk, OnErr, length, take, Option};
 ghost use Rattle.con_outside.specs.Outside.{Rose, then_written, WroteFront, WrotePart};
-ghost use Rattle.con_trace.specs.Audit.{a_run, no_run, found_of, found_data, found_text};
+ghost use Rattle.con_trace.specs.Audit.{a_run, no_run, found_data, found_text};
+ghost use Rattle.con_trace.specs.Words.Audit.{found_of};
 ghost use Rattle.con_lines.specs.Line.{ended};
 ghost use Rattle.con_lines.specs.Writing.{put, nothing_written};
 

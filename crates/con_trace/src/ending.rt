@@ -2,7 +2,8 @@
 
 ghost use Rattle.std.specs.Prelude.{◌≡◌, ◌≤◌, List, [], ◌∷◌, ◌++◌, IfOk, OnOk, OnErr, length, take, Option};
 ghost use Rattle.con_outside.specs.Outside.{Rose, then_written, WroteFront, WrotePart};
-ghost use Rattle.con_lines.specs.Ending.{at_frame as frame_ending, ending_of, ending_data, ending_text};
+ghost use Rattle.con_lines.specs.Ending.{at_frame as frame_ending, ending_data, ending_text};
+ghost use Rattle.con_lines.specs.Words.Ending.{ending_of};
 ghost use Rattle.con_lines.specs.Line.{ended};
 ghost use Rattle.con_lines.specs.Writing.{put, nothing_written};
 

@@ -1,6 +1,6 @@
 //! What a report determines.
 
-ghost use Rattle.con_trace.specs.Report.{ReportTells, NoneIsWrong};
+ghost use Rattle.con_trace.specs.Words.Report.{ReportTells, NoneIsWrong};
 
 /// A report determines the history, the replies, the streams' lengths and the last line.
 pub fn report_tells()

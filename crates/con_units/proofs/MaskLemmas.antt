@@ -1,7 +1,7 @@
 -- The mask of attribute words leaves their colours.
 use Rattle.std.proofs.Common.{◌≡◌, ℕ, ◌/◌, ◌%◌, ◌<◌, bit_and, refl, sym, ap, ◌∙◌, arith}
 use Rattle.std.proofs.lemmas.Nat.{and_assoc, and_mask}
-use Rattle.con_units.specs.Attr.{masked, foreground, background, IsShaded}
+use Rattle.con_units.specs.Words.Attr.{masked, foreground, background, IsShaded}
 use Rattle.con_units.specs.declared.shade.Shade.{Shade}
 
 pub masked_twice : (word : ℕ) → masked (masked word) ≡ masked word

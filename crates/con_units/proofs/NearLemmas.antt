@@ -1,6 +1,7 @@
 -- The nearest colour in the parts of an index.
 use Rattle.std.proofs.Common.{◌≡◌, ℕ, ◌+◌, ◌-◌, ◌*◌, ◌/◌, ◌%◌, ◌<◌, ◌≤◌, true, false, nat_le, refl, arith, rules}
-use Rattle.con_units.specs.Shade.{near, near_in_cube, near_grey, IsNearSo}
+use Rattle.con_units.specs.Shade.{near, near_in_cube, near_grey}
+use Rattle.con_units.specs.Words.Shade.{IsNearSo}
 
 place_is : (r g b : ℕ) → (16 + 36 * r + 6 * g + b) - 16 ≡ 36 * r + 6 * g + b
 place_is r g b = omega arith

@@ -24,3 +24,5 @@ pub mod Past
 pub mod PenLaws
 pub mod SplitLaws
 pub mod ReadLaws
+-- ---- The words of the code and of laws about these files, which a reader need not believe.
+pub mod Words

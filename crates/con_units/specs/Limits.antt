@@ -1,5 +1,5 @@
 -- The greatest sizes and numbers that the console takes.
-use Rattle.std.specs.Prelude.{ℕ, ◌<◌, ◌≤◌}
+use Rattle.std.specs.Prelude.{ℕ}
 
 -- the columns of a window or a buffer
 abbrev pub most_columns : ℕ
@@ -24,17 +24,3 @@ most_records = 1024
 -- the units of an edited line
 abbrev pub line_units : ℕ
 line_units = 1024
-
--- a window has 1 to 512 columns and 1 to 256 rows
-pub record IsWindow (w h : ℕ) : Type 0 where
-  pub some_columns : 0 < w
-  pub some_rows : 0 < h
-  pub few_columns : w ≤ most_columns
-  pub few_rows : h ≤ most_window_rows
-
--- a buffer has 1 to 512 columns and 1 to 2,048 rows
-pub record IsBuffer (w h : ℕ) : Type 0 where
-  pub some_columns : 0 < w
-  pub some_rows : 0 < h
-  pub few_columns : w ≤ most_columns
-  pub few_rows : h ≤ most_buffer_rows

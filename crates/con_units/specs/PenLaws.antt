@@ -1,8 +1,9 @@
 -- Laws of the attribute that a pen writes: its word is a foreground, 16 times a background, and the bits of two flags.
 use Rattle.std.proofs.Common.{◌≡◌, ℕ, ◌+◌, ◌*◌, ◌/◌, ◌%◌, ◌<◌, Bool, true, false, refl, inl, inr, arith}
 use Rattle.std.specs.Prelude.{if◌then◌else◌}
-use Rattle.con_units.specs.Attr.{foreground, background, IsShaded}
-use Rattle.con_units.specs.Shade.{near, IsNearest, IsNearestOrBright}
+use Rattle.con_units.specs.Words.Attr.{foreground, background, IsShaded}
+use Rattle.con_units.specs.Shade.{near, IsNearest}
+use Rattle.con_units.specs.Words.Shade.{IsNearestOrBright}
 use Rattle.con_units.specs.declared.shade.Shade.{Shade}
 use Rattle.con_units.specs.declared.shade.Shade.TheVariants.{Plain, Index}
 

@@ -1,5 +1,5 @@
 -- The colours of a table of 256, and the nearest ones of sixteen.
-use Rattle.std.specs.Prelude.{ℕ, ◌+◌, ◌-◌, ◌*◌, ◌/◌, ◌%◌, ◌<◌, ◌≤◌, ◌≡◌, ◌⊎◌, nat_lt, nat_le, ◌==◌, ◌||◌, if◌then◌else◌}
+use Rattle.std.specs.Prelude.{ℕ, ◌+◌, ◌-◌, ◌/◌, ◌%◌, ◌<◌, ◌≤◌, ◌≡◌, nat_le, ◌==◌, ◌||◌, if◌then◌else◌}
 use Rattle.con_units.specs.declared.shade.Shade.{Shade}
 use Rattle.con_units.specs.declared.shade.Shade.TheVariants.{Plain, Index}
 
@@ -17,21 +17,7 @@ near_grey quarter = if quarter == 0 then 0 else if quarter == 1 then 8 else if q
 unfoldable pub near : ℕ → ℕ
 near n = if nat_le n 231 then near_in_cube ((n - 16) / 36) ((n - 16) / 6 % 6) ((n - 16) % 6) else near_grey ((n - 232) / 6)
 
--- the same in the parts of an index
-pub record IsNearSo : Type 0 where
-  pub cube : (r g b : ℕ) → r ≤ 5 → g ≤ 5 → b ≤ 5 → near (16 + 36 * r + 6 * g + b) ≡ near_in_cube r g b
-  pub grey : (quarter k : ℕ) → quarter ≤ 3 → k < 6 → near (232 + 6 * quarter + k) ≡ near_grey quarter
-
--- the shade of a colour of the table
-abbrev pub shade_of : ℕ → Shade
-shade_of n = if nat_lt n 16 then Plain else Index n
-
 -- a shade beside four bits of colour: plain, or an index to which this colour is the nearest
 abbrev pub IsNearest : Shade → ℕ → Type 0
 IsNearest Plain colour = Unit {0}
 IsNearest (Index n) colour = (16 ≤ n) × (n < 256) × (colour ≡ near n)
-
--- the same of a colour whose intensity may have been set
-abbrev pub IsNearestOrBright : Shade → ℕ → Type 0
-IsNearestOrBright Plain colour = Unit {0}
-IsNearestOrBright (Index n) colour = (16 ≤ n) × (n < 256) × ((colour ≡ near n) ⊎ (colour ≡ near n % 8 + 8))

@@ -2,7 +2,8 @@
 use Rattle.std.proofs.Common.{◌≡◌, ℕ, List, [], ◌∷◌, ◌++◌, refl, sym, ap, ◌∙◌, append_assoc}
 use Rattle.std.specs.Prelude.{fold}
 use Rattle.std.proofs.lemmas.List.Sums.{fold-append}
-use Rattle.con_units.specs.Split.{Grammar, Split, next, with_items, read_on, split_after}
+use Rattle.con_units.specs.Split.{Grammar, Split, next, with_items, split_after}
+use Rattle.con_units.specs.Words.Split.{read_on}
 
 pub append_none : {A : Type 0} (xs : List A) → xs ++ [] ≡ xs
 append_none [] = refl

@@ -1,15 +1,5 @@
 -- Texts of units, compared.
-use Rattle.std.specs.Prelude.{ℕ, zero, suc, Bool, not, ◌==◌, List, [], ◌∷◌, nat_eq, if◌then◌else◌}
-use Rattle.std.specs.Cmp.Lexicographic.{pointwise}
-use Rattle.std.specs.List.{common_prefix_len}
-
--- texts are compared exactly
-abbrev pub same_units : List ℕ → List ℕ → Bool
-same_units = pointwise nat_eq
-
--- the first place at which two texts differ
-abbrev pub first_difference : List ℕ → List ℕ → ℕ
-first_difference = common_prefix_len nat_eq
+use Rattle.std.specs.Prelude.{ℕ, zero, suc, Bool, not, ◌==◌, List, [], ◌∷◌, if◌then◌else◌}
 
 abbrev pub is_space : ℕ → Bool
 is_space u = u == 32

@@ -1,6 +1,7 @@
 //! Colours of a table of 256, and the nearest ones of sixteen.
 ghost use Rattle.std.specs.Prelude.{◌≡◌, ◌<◌, ◌≤◌, if◌then◌else◌};
-ghost use Rattle.con_units.specs.Shade.{near as near_to, near_in_cube, near_grey, shade_of, IsNearSo};
+ghost use Rattle.con_units.specs.Shade.{near as near_to, near_in_cube, near_grey};
+ghost use Rattle.con_units.specs.Words.Shade.{shade_of, IsNearSo};
 
 /// What a cell keeps of a colour beside the four bits of it in an attribute word.
 #[derive(Clone, Copy, PartialEq, Eq)]

@@ -2,7 +2,7 @@
 use Rattle.std.specs.Prelude.{ℕ, ℤ, pos, negsuc, int_le, nat_lt, ◌&&◌, List, [], ◌∷◌, if◌then◌else◌, Option, Some, None, option_map, option_and_then}
 use Rattle.con_units.specs.declared.place.Rect.{Rect}
 use Rattle.con_records.specs.declared.record.Record.{Record}
-use Rattle.con_events.specs.Arg as arg
+use Rattle.con_events.specs.Words.Arg as arg
 use Rattle.con_events.specs.Arg.{Number, Signed, OneUnit, Flag}
 use Rattle.con_events.specs.Reading.{Item, row_from, whole}
 use Rattle.con_events.specs.RecordTable.{row_of_record}

@@ -3,7 +3,8 @@ use Rattle.std.proofs.Common.{◌≡◌, ℕ, ◌+◌, ◌≤◌, Bool, true, fa
 use Rattle.std.specs.Prelude.{fold}
 use Rattle.std.proofs.lemmas.List.{length-take, length-map}
 use Rattle.con_units.specs.Stored.{is_control}
-use Rattle.con_units.specs.Split.{Split, next, begun, begun_again, begun_after, ended, items_or_none, read_on, split_after}
+use Rattle.con_units.specs.Split.{Split, next, begun, split_after}
+use Rattle.con_units.specs.Words.Split.{begun_again, begun_after, ended, items_or_none, read_on}
 use Rattle.con_vtgram.specs.Text.{is_front, whole, kept, is_acting, is_intermediate, opens_string, ends_escape, ends_control, alone, single, csi_items, csi_ends, csi_whole, csi_first, csi_rest, is_plain, front_while, skip_while, begins_title, string_text, string_items, string_ends, string_whole, stays, nested_items, nested_ends, escape_alone, escape_whole}
 use Rattle.con_vtgram.specs.Spoken.{Spoken, spoken, spoken_by, voiced, title_in, text_of}
 use Rattle.con_vtgram.specs.Few.{HaveShortTitles, AreFew}

@@ -2,8 +2,8 @@
 use Rattle.std.proofs.Common.{ℕ, ◌+◌, ◌%◌, ◌<◌, arith}
 use Rattle.std.specs.Prelude.{if◌then◌else◌}
 use Rattle.std.proofs.lemmas.Bool.{cond_both}
-use Rattle.con_units.specs.Attr.{IsShaded}
-use Rattle.con_units.specs.Shade.{IsNearestOrBright}
+use Rattle.con_units.specs.Words.Attr.{IsShaded}
+use Rattle.con_units.specs.Words.Shade.{IsNearestOrBright}
 use Rattle.con_units.specs.PenLaws.{as_it_is, with_intensity, is_shaded}
 use Rattle.con_vtgram.specs.Pen.{word_of, IsPen}
 use Rattle.con_vtgram.specs.declared.pen.Pen.{Pen}

@@ -1,7 +1,8 @@
 -- Units one after another.
 use Rattle.std.proofs.Common.{◌≡◌, ℕ, List, [], ◌∷◌, ◌++◌, Option, refl}
 use Rattle.std.proofs.lemmas.List.Sums.{fold-append}
-use Rattle.con_units.specs.Split.{next, read_on, split, split_after}
+use Rattle.con_units.specs.Split.{next, split, split_after}
+use Rattle.con_units.specs.Words.Split.{read_on}
 use Rattle.con_vtgram.specs.Text.{grammar}
 use Rattle.con_vtgram.specs.Reading.{Holds}
 use Rattle.con_vtgram.specs.Step.{Gives}

@@ -2,7 +2,8 @@
 use Rattle.std.proofs.Common.{◌≡◌, ℕ, Bool, true, false, not, cond, ◌==◌, ◌&&◌, ◌⊎◌, inl, inr, List, [], ◌∷◌, ◌++◌, map, Option, Some, None, refl, sym, ap, ◌∙◌}
 use Rattle.std.specs.Prelude.{option_to_list}
 use Rattle.con_units.specs.Stored.{is_control}
-use Rattle.con_units.specs.Split.{Split, next, begun, begun_again, begun_after, ended, items_or_none}
+use Rattle.con_units.specs.Split.{Split, next, begun}
+use Rattle.con_units.specs.Words.Split.{begun_again, begun_after, ended, items_or_none}
 use Rattle.con_vtgram.specs.Text.{is_front, whole, kept, grammar, opens_string, stays, skip_while, escapes, is_intermediate, is_acting, ends_escape, alone, nested_ends}
 use Rattle.con_vtgram.specs.Spoken.{Spoken, spoken, spoken_by, voiced, title_in}
 use Rattle.con_vtgram.specs.TitleKept.{is_title_item}

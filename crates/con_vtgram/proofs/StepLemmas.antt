@@ -3,7 +3,8 @@ use Rattle.std.proofs.Common.{◌≡◌, ◌≢◌, ℕ, Bool, true, false, cond
 use Rattle.std.specs.Prelude.{option_to_list}
 use Rattle.std.specs.List.{list_all}
 use Rattle.std.proofs.lemmas.Bool.Decides.{nat_tests}
-use Rattle.con_units.specs.Split.{next, ended}
+use Rattle.con_units.specs.Split.{next}
+use Rattle.con_units.specs.Words.Split.{ended}
 use Rattle.con_vtgram.specs.Text.{is_front, whole, kept, grammar, opens_string, skip_while, front_while, is_empty, is_intermediate, is_parameter_unit, ends_control, ends_escape, csi_is_front, csi_whole, csi_items, csi_of, is_digit_or_semicolon, escape_is_front, escape_whole, nested_items, is_question, after_question, only_intermediate}
 use Rattle.con_vtgram.specs.SequenceLaws.{skip_all, front_all, first-is_front, first-whole}
 use Rattle.con_vtgram.specs.Reading.{Holds, Counts, Reads, Follows, is_paren}

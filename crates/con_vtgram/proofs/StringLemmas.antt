@@ -4,7 +4,8 @@ use Rattle.std.specs.Prelude.{option_to_list}
 use Rattle.std.specs.List.{list_all}
 use Rattle.std.proofs.lemmas.Bool.Decides.{nat_tests}
 use Rattle.con_units.specs.Stored.{is_control}
-use Rattle.con_units.specs.Split.{next, begun_after, begun_again, ended}
+use Rattle.con_units.specs.Split.{next}
+use Rattle.con_units.specs.Words.Split.{begun_after, begun_again, ended}
 use Rattle.con_vtgram.specs.Text.{is_front, whole, kept, grammar, skip_while, front_while, is_intermediate, opens_string, cancels, stays, string_text, string_items, may_end, escape_is_front, escape_whole}
 use Rattle.con_vtgram.specs.Reading.{Holds, Inside, name_of}
 use Rattle.con_vtgram.specs.Step.{Begins, Gives}

@@ -5,7 +5,8 @@ use Rattle.std.proofs.lemmas.Bool.Decides.{nat_tests}
 use Rattle.con_units.specs.Split.{Split, next, split_after}
 use Rattle.con_records.specs.declared.record.Key.{Key}
 use Rattle.con_vtin.specs.Table.{pressed, byte_key, with_alt, control_sequence_key, letter_key, enhanced, ordinary, six_vk, page_vk, teen_vk, twenty_vk, function_vk, first_vk, is_modifier, modifier_state, or_else}
-use Rattle.con_vtin.specs.Keys.{keys, is_front, whole, broken}
+use Rattle.con_vtin.specs.Keys.{is_front, whole, broken}
+use Rattle.con_vtin.specs.Words.Keys.{keys}
 use Rattle.con_vtin.specs.Sequences.{key_units}
 use Rattle.con_vtin.specs.ReadBack.{IsReadBack, IsReadAs, ReadBack}
 use Rattle.con_vtin.proofs.Lists.{both, all_below, holds_below}

@@ -2,10 +2,11 @@
 use Rattle.std.proofs.Common.{◌≡◌, ℕ, true, false, ◌==◌, List, [], ◌∷◌, refl, sym, ap, ◌∙◌}
 use Rattle.std.specs.Prelude.{not, fold}
 use Rattle.std.specs.List.{list_all}
-use Rattle.con_units.specs.Split.{Split, next, read_on, split_after, with_items}
+use Rattle.con_units.specs.Split.{Split, next, split_after, with_items}
+use Rattle.con_units.specs.Words.Split.{read_on}
 use Rattle.con_units.specs.Utf8.{utf8}
 use Rattle.con_records.specs.declared.record.Key.{Key}
-use Rattle.con_vtin.specs.Keys.{grammar}
+use Rattle.con_vtin.specs.Words.Keys.{grammar}
 use Rattle.con_vtin.specs.Holding.{is_text}
 use Rattle.con_vtin.specs.Characters.{is_plain, ReadsCharacters}
 use Rattle.con_vtin.proofs.Lists.{both, not_true}

@@ -3,9 +3,11 @@ use Rattle.std.proofs.Common.{◌≡◌, ◌≢◌, ℕ, Bool, true, false, cond
 use Rattle.std.specs.Prelude.{option_to_list, nat_le}
 use Rattle.std.proofs.lemmas.Bool.Decides.{nat_tests}
 use Rattle.con_units.specs.Utf8.{is_cut_character}
-use Rattle.con_units.specs.Split.{Split, next, ended, items_or_none, with_items}
+use Rattle.con_units.specs.Split.{Split, next, with_items}
+use Rattle.con_units.specs.Words.Split.{ended, items_or_none}
 use Rattle.con_records.specs.declared.record.Key.{Key}
-use Rattle.con_vtin.specs.Keys.{grammar, is_front, whole, broken, escape_is_front, control_is_front, is_empty, is_parameter, is_intermediate, skip_while}
+use Rattle.con_vtin.specs.Keys.{is_front, whole, broken, escape_is_front, control_is_front, is_empty, is_parameter, is_intermediate, skip_while}
+use Rattle.con_vtin.specs.Words.Keys.{grammar}
 use Rattle.con_vtin.specs.Holding.{held_of, IsApart, Advances}
 use Rattle.con_vtin.specs.declared.unfinished.Advance.TheVariants as advances
 use Rattle.con_vtin.proofs.Lists.{append_none, both, and_false}

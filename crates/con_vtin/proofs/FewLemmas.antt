@@ -2,11 +2,14 @@
 use Rattle.std.proofs.Common.{◌≡◌, ℕ, Bool, true, false, cond, ◌==◌, ◌&&◌, ◌+◌, ◌-◌, ◌/◌, ◌%◌, ◌≤◌, length, lit≤, arith, List, [], ◌∷◌, ◌++◌, Option, Some, None, refl, length-append}
 use Rattle.std.specs.Prelude.{option_to_list, option_map, flat_map, nat_lt, not, suc}
 use Rattle.std.specs.Int.{is_in_range}
-use Rattle.con_units.specs.Utf8.{whole_character, may_follow, is_continuation, code_of_two, code_of_three, code_of_four}
-use Rattle.con_units.specs.Split.{Split, begun, next, ended, items_or_none}
+use Rattle.con_units.specs.Utf8.{whole_character, may_follow, is_continuation}
+use Rattle.con_units.specs.Words.Utf8.{code_of_two, code_of_three, code_of_four}
+use Rattle.con_units.specs.Split.{Split, begun, next}
+use Rattle.con_units.specs.Words.Split.{ended, items_or_none}
 use Rattle.con_records.specs.declared.record.Key.{Key}
 use Rattle.con_vtin.specs.Table.{character_keys, byte_key, pressed, with_alt, letter_key, control_sequence_key, replacement, escape}
-use Rattle.con_vtin.specs.Keys.{grammar, is_front, whole, broken, quieted, replacements, control_ends, control_whole, single_whole, alt_whole, escape_whole, escape_broken, is_last, is_empty, is_parameter, is_intermediate, front_while, skip_while}
+use Rattle.con_vtin.specs.Keys.{is_front, whole, broken, quieted, replacements, control_ends, control_whole, single_whole, alt_whole, escape_whole, escape_broken, is_last, is_empty, is_parameter, is_intermediate, front_while, skip_while}
+use Rattle.con_vtin.specs.Words.Keys.{grammar}
 
 abbrev pub HasFew : Option (List Key) → ℕ → Type 0
 HasFew None n = Unit {0}

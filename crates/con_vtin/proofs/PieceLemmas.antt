@@ -2,10 +2,13 @@
 use Rattle.std.proofs.Common.{◌≡◌, ◌≢◌, ℕ, Bool, true, false, cond, ◌==◌, ◌&&◌, List, [], ◌∷◌, ◌++◌, Option, Some, None, refl, sym, ◌∙◌}
 use Rattle.std.specs.Prelude.{not, option_map, nat_le}
 use Rattle.std.proofs.lemmas.List.{map-append}
-use Rattle.con_units.specs.Split.{Split, begun, next, ended, items_or_none}
+use Rattle.con_units.specs.Split.{Split, begun, next}
+use Rattle.con_units.specs.Words.Split.{ended, items_or_none}
 use Rattle.con_records.specs.declared.record.Key.{Key}
-use Rattle.con_vtin.specs.Keys.{grammar, is_front, whole, broken}
-use Rattle.con_vtin.specs.Pieces.{Piece, Typed, typed, pieces_of, piece_grammar, is_control, gives_none, ended_by, ended_piece, IsReadInPieces}
+use Rattle.con_vtin.specs.Keys.{is_front, whole, broken}
+use Rattle.con_vtin.specs.Words.Keys.{grammar}
+use Rattle.con_vtin.specs.Pieces.{Piece, Typed, typed, pieces_of, piece_grammar, is_control, gives_none}
+use Rattle.con_vtin.specs.Words.Pieces.{ended_by, ended_piece, IsReadInPieces}
 use Rattle.con_vtin.specs.Holding.{Steps, held_of, is_text, ends_keyless, ends_none}
 use Rattle.con_vtin.specs.declared.unfinished.Step.{Step}
 use Rattle.con_vtin.specs.declared.unfinished.Step.TheVariants as steps

@@ -4,14 +4,18 @@ use Rattle.std.specs.Prelude.{option_to_list, option_map, flat_map, fold, nat_lt
 use Rattle.std.specs.Int.{is_in_range}
 use Rattle.std.proofs.lemmas.Bool.Decides.{nat_tests}
 use Rattle.std.proofs.lemmas.Grind.{flat_map-append}
-use Rattle.con_units.specs.Utf8.{whole_character, may_follow, is_continuation, code_of_two, code_of_three, code_of_four}
-use Rattle.con_units.specs.Split.{Split, begun, next, ended, items_or_none, read_on, split_after}
+use Rattle.con_units.specs.Utf8.{whole_character, may_follow, is_continuation}
+use Rattle.con_units.specs.Words.Utf8.{code_of_two, code_of_three, code_of_four}
+use Rattle.con_units.specs.Split.{Split, begun, next, split_after}
+use Rattle.con_units.specs.Words.Split.{ended, items_or_none, read_on}
 use Rattle.con_records.specs.declared.record.Key.{Key}
 use Rattle.con_vtin.specs.declared.sequence.Row.{Row}
 use Rattle.con_vtin.specs.declared.sequence.Row.TheVariants as rows
 use Rattle.con_vtin.specs.Table.{character_keys, byte_key, pressed, with_alt, letter_key, control_sequence_key, replacement, escape, enhanced, ordinary, six_vk, page_vk, function_vk, is_modifier, modifier_state}
-use Rattle.con_vtin.specs.Keys.{grammar, is_front, whole, broken, quieted, replacements, control_ends, control_whole, single_whole, alt_whole, escape_whole, escape_broken, is_last, is_empty, is_parameter, is_intermediate, front_while, skip_while}
-use Rattle.con_vtin.specs.Sequences.{sent, key_units, units_by, row_of, plain_row, modified_row, modifier_of, own_units, escaped, alt_in, ctrl_in}
+use Rattle.con_vtin.specs.Keys.{is_front, whole, broken, quieted, replacements, control_ends, control_whole, single_whole, alt_whole, escape_whole, escape_broken, is_last, is_empty, is_parameter, is_intermediate, front_while, skip_while}
+use Rattle.con_vtin.specs.Words.Keys.{grammar}
+use Rattle.con_vtin.specs.Sequences.{key_units, units_by, row_of, plain_row, modified_row, modifier_of, own_units, escaped, alt_in, ctrl_in}
+use Rattle.con_vtin.specs.Words.Sequences.{sent}
 use Rattle.con_vtin.specs.Counts.{SendsWithin}
 use Rattle.con_vtin.proofs.Lists.{both, all_below, holds_below}
 use Rattle.con_vtin.proofs.FewLemmas.{longer, few_next, few_quieted}

@@ -2,12 +2,14 @@
 use Rattle.std.proofs.Common.{◌≡◌, ℕ, Bool, true, false, cond, ◌==◌, ◌&&◌, List, [], ◌∷◌, ◌++◌, Option, Some, None, length, ◌<◌, ◌≤◌, arith, refl, sym, ap, ◌∙◌, append_assoc}
 use Rattle.std.specs.Prelude.{not, nat_le, flat_map, option_map}
 use Rattle.std.specs.Int.{is_in_range}
-use Rattle.con_units.specs.Split.{Split, begun, next, ended, items_or_none, with_items}
+use Rattle.con_units.specs.Split.{Split, begun, next, with_items}
+use Rattle.con_units.specs.Words.Split.{ended, items_or_none}
 use Rattle.con_units.specs.Utf8.{utf8, is_cut_character, whole_character, may_follow, is_continuation}
 use Rattle.con_records.specs.declared.record.Key.{Key}
 use Rattle.con_vtin.specs.Table.{character_keys, replacement}
 use Rattle.std.proofs.lemmas.Bool.Decides.{nat_tests}
-use Rattle.con_vtin.specs.Keys.{grammar, is_front, whole, broken, quieted, replacements}
+use Rattle.con_vtin.specs.Keys.{is_front, whole, broken, quieted, replacements}
+use Rattle.con_vtin.specs.Words.Keys.{grammar}
 use Rattle.con_vtin.specs.Holding.{is_text}
 use Rattle.con_vtin.proofs.Lists.{and_false, not_true, both}
 

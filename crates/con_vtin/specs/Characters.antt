@@ -5,7 +5,7 @@ use Rattle.con_units.specs.Split.{Split, split}
 use Rattle.con_units.specs.Utf8.{utf8}
 use Rattle.con_records.specs.declared.record.Key.{Key}
 use Rattle.con_vtin.specs.Table.{character_keys}
-use Rattle.con_vtin.specs.Keys.{keys}
+use Rattle.con_vtin.specs.Words.Keys.{keys}
 
 abbrev pub is_plain : ℕ → Bool
 is_plain b = not (b == 0x1B)

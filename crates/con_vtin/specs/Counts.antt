@@ -2,8 +2,9 @@
 -- before among them.
 use Rattle.std.specs.Prelude.{ℕ, ◌+◌, ◌≤◌, Bool, List, length}
 use Rattle.con_units.specs.Split.{split_after}
-use Rattle.con_vtin.specs.Keys.{grammar, quieted}
-use Rattle.con_vtin.specs.Sequences.{sent}
+use Rattle.con_vtin.specs.Keys.{quieted}
+use Rattle.con_vtin.specs.Words.Keys.{grammar}
+use Rattle.con_vtin.specs.Words.Sequences.{sent}
 
 pub record SendsWithin : Type 0 where
   pub keys : (held bytes : List ℕ) → length (split_after grammar held bytes).items + length (split_after grammar held bytes).tail ≤ length held + length bytes

@@ -1,7 +1,6 @@
 -- The keys of a terminal's bytes, by cases on their sequences.
 use Rattle.std.specs.Prelude.{ℕ, Bool, true, false, not, ◌&&◌, ◌==◌, nat_lt, nat_le, List, [], ◌∷◌, ◌++◌, length, map, flat_map, Option, Some, None, option_map, option_to_list, if◌then◌else◌}
 use Rattle.std.specs.Int.{is_in_range}
-use Rattle.con_units.specs.Split.{Grammar, Split, split}
 use Rattle.con_units.specs.Utf8.{is_cut_character, whole_character}
 use Rattle.con_records.specs.declared.record.Key.{Key}
 use Rattle.con_vtin.specs.Table.{escape, replacement, byte_key, with_alt, character_keys, letter_key, control_sequence_key}
@@ -85,13 +84,6 @@ whole (b ∷ bs) = if b == 0x1B then escape_whole bs else option_map (flat_map c
 unfoldable pub broken : List ℕ → List Key
 broken [] = []
 broken (b ∷ bs) = if b == 0x1B then escape_broken bs else replacement ∷ []
-
-abbrev pub grammar : Grammar Key
-grammar = record { is_front = is_front; whole = whole; broken = broken; kept = λ _. [] }
-
--- the keys of bytes, and what of the bytes is unfinished
-abbrev pub keys : List ℕ → Split Key
-keys bytes = split grammar bytes
 
 -- what unfinished bytes become where nothing comes after them for a while
 abbrev pub quieted : List ℕ → List Key

@@ -8,3 +8,5 @@ pub mod Counts
 pub mod Characters
 -- The code's own words: what the state of a reader says of the bytes held.
 pub mod Holding
+-- The words of the code and of laws about these files, which a reader need not believe.
+pub mod Words

@@ -1,8 +1,8 @@
 -- Bytes fall into pieces: keys, and the control sequences that give none.
-use Rattle.std.specs.Prelude.{◌≡◌, ℕ, Bool, true, false, not, ◌&&◌, ◌==◌, List, [], ◌∷◌, ◌++◌, map, Option, Some, None, option_map, if◌then◌else◌}
-use Rattle.con_units.specs.Split.{Grammar, Split, next, split}
+use Rattle.std.specs.Prelude.{ℕ, Bool, true, false, ◌&&◌, ◌==◌, List, [], ◌∷◌, map, Option, Some, None, option_map}
+use Rattle.con_units.specs.Split.{Grammar}
 use Rattle.con_records.specs.declared.record.Key.{Key}
-use Rattle.con_vtin.specs.Keys.{grammar, is_front, whole, broken}
+use Rattle.con_vtin.specs.Keys.{is_front, whole, broken}
 
 -- the bytes begin with ESC [
 abbrev pub is_control : List ℕ → Bool
@@ -18,15 +18,6 @@ gives_none (Some (k ∷ ks)) = false
 -- a whole control sequence that gives no key
 abbrev pub is_keyless : List ℕ → Bool
 is_keyless bytes = is_control bytes && gives_none (whole bytes)
-
--- the whole control sequence without a key that a byte ends, after the bytes held
-abbrev pub ended_by : List ℕ → ℕ → Option (List ℕ)
-ended_by held byte = if not (is_front (held ++ byte ∷ [])) && is_keyless (held ++ byte ∷ []) then Some (held ++ byte ∷ []) else None
-
--- what a reader has: the bytes that are no key yet, and the control sequence that the last byte ended and that gave no key
-pub record KeyReading : Type 0 where
-  pub held : List ℕ
-  pub ended : Option (List ℕ)
 
 -- a key, or the bytes of a control sequence that gives none
 pub data Piece : Type 0 where
@@ -48,16 +39,3 @@ piece_grammar = record {
   broken = λ bytes. typed (broken bytes);
   kept = λ _. [];
 }
-
--- the pieces of bytes in their order, and what of the bytes is unfinished
-abbrev pub pieces : List ℕ → Split Piece
-pieces bytes = split piece_grammar bytes
-
-abbrev pub ended_piece : Option (List ℕ) → List Piece
-ended_piece None = []
-ended_piece (Some bytes) = Ended bytes ∷ []
-
--- a byte's pieces are its keys, and then the sequence that it ended without one
-abbrev pub IsReadInPieces : Type 0
-IsReadInPieces = (held : List ℕ) (byte : ℕ) → next piece_grammar held byte
-    ≡ record { items = typed (next grammar held byte).items ++ ended_piece (ended_by held byte); tail = (next grammar held byte).tail }

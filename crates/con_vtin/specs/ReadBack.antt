@@ -2,7 +2,7 @@
 use Rattle.std.specs.Prelude.{◌≡◌, ℕ, ◌<◌, Bool, false, ◌||◌, ◌==◌, List, [], ◌∷◌, Some}
 use Rattle.con_records.specs.declared.record.Key.{Key}
 use Rattle.con_vtin.specs.Table.{byte_key, with_alt, control_sequence_key, letter_key}
-use Rattle.con_vtin.specs.Keys.{keys}
+use Rattle.con_vtin.specs.Words.Keys.{keys}
 use Rattle.con_vtin.specs.Sequences.{key_units}
 
 -- the units that the key sends are read as this key, and nothing is left of them

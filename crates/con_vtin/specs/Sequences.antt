@@ -1,8 +1,7 @@
 -- The units that a key sends to a program that reads virtual terminal input.
-use Rattle.std.specs.Prelude.{ℕ, ◌+◌, ◌-◌, ◌*◌, ◌/◌, ◌%◌, Bool, ◌&&◌, ◌==◌, List, [], ◌∷◌, ◌++◌, length, replicate, flat_map, Option, Some, None, if◌then◌else◌}
+use Rattle.std.specs.Prelude.{ℕ, ◌+◌, ◌-◌, ◌*◌, ◌/◌, ◌%◌, Bool, ◌&&◌, ◌==◌, List, [], ◌∷◌, Option, Some, None, if◌then◌else◌}
 use Rattle.std.specs.Int.{is_in_range}
 use Rattle.con_records.specs.declared.record.Key.{Key}
-use Rattle.con_vtin.specs.declared.sequence.Sequence.{Sequence}
 use Rattle.con_vtin.specs.declared.sequence.Row.{Row}
 use Rattle.con_vtin.specs.declared.sequence.Row.TheVariants as rows
 
@@ -85,11 +84,3 @@ units_by None k cursor_keys = escaped (alt_in k.state == 1) (own_units k)
 
 abbrev pub key_units : Key → Bool → List ℕ
 key_units k cursor_keys = units_by (row_of k) k cursor_keys
-
--- the units that keys send, one key after the other
-abbrev pub sent : List Key → Bool → List ℕ
-sent keys cursor_keys = flat_map (λ k. key_units k cursor_keys) keys
-
--- the units in an array, with zeros behind them
-abbrev pub padded : List ℕ → Sequence
-padded units = record { count = length units; units = units ++ replicate (8 - length units) 0 }

@@ -2,7 +2,8 @@
 ghost use Rattle.std.specs.Prelude.{◌≡◌, ℕ, ◌+◌, ◌<◌, ◌≤◌, List, [], ◌∷◌, ◌++◌, length, flat_map, false, ◌==◌, true, option_to_list, vec_len, vec_capacity};
 ghost use Rattle.con_units.specs.Split.{next};
 ghost use Rattle.con_vtin.specs.Table.{character_keys};
-ghost use Rattle.con_vtin.specs.Keys.{grammar, replacements};
+ghost use Rattle.con_vtin.specs.Keys.{replacements};
+ghost use Rattle.con_vtin.specs.Words.Keys.{grammar};
 ghost use Rattle.con_vtin.specs.Holding.{is_text};
 
 use crate::table::{byte_key, pressed, replacement};

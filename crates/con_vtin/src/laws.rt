@@ -2,9 +2,9 @@
 ghost use Rattle.std.specs.Prelude.{◌≡◌, ℕ, List, ◌++◌};
 ghost use Rattle.con_units.specs.Split.{split_after, with_items};
 ghost use Rattle.con_units.specs.Laws.{IsReadSo};
-ghost use Rattle.con_vtin.specs.Keys.{grammar};
+ghost use Rattle.con_vtin.specs.Words.Keys.{grammar};
 ghost use Rattle.con_vtin.specs.Characters.{ReadsCharacters};
-ghost use Rattle.con_vtin.specs.Pieces.{IsReadInPieces};
+ghost use Rattle.con_vtin.specs.Words.Pieces.{IsReadInPieces};
 ghost use Rattle.con_vtin.specs.ReadBack.{ReadBack};
 ghost use Rattle.con_vtin.specs.Counts.{SendsWithin};
 

@@ -1,7 +1,7 @@
 //! Keys from the bytes of a terminal, and the units that a key sends.
 //!
-//! A [`KeyReader`] is fed byte by byte and gives keys, by the split `keys` of whole byte strings (`specs/Keys`, and row
-//! by row `specs/Table`): a byte string falls in one way into keys and an unfinished tail. Contracts see a reader as that
+//! A [`KeyReader`] is fed byte by byte and gives keys, by the split `keys` of whole byte strings (`specs/Words/Keys`, by
+//! the cases of `specs/Keys`, and row by row `specs/Table`): a byte string falls in one way into keys and an unfinished tail. Contracts see a reader as that
 //! tail, of at most 32 bytes. [`KeyReader::quiet`] says that nothing comes after it for a while: a lone ESC is then the
 //! escape key, and each other byte held one key of U+FFFD. [`KeyReader::ended`] tells the control sequence that the last byte
 //! ended and that gave no key; so keys and such sequences are pieces of the bytes, in their order (`specs/Pieces`). All keys

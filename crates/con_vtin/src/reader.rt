@@ -1,10 +1,11 @@
 //! Keys, byte by byte.
 ghost use Rattle.std.specs.Prelude.{◌≡◌, ◌≢◌, ℕ, ◌+◌, ◌≤◌, Bool, true, List, [], ◌∷◌, ◌++◌, length, option_map, vec_len, vec_capacity};
 ghost use Rattle.con_units.specs.Split.{next};
-ghost use Rattle.con_vtin.specs.Keys.{grammar, quieted};
+ghost use Rattle.con_vtin.specs.Keys.{quieted};
+ghost use Rattle.con_vtin.specs.Words.Keys.{grammar};
 ghost use Rattle.con_vtin.specs.Holding.{held_of, IsApart, is_text};
-ghost use Rattle.con_vtin.specs.Pieces.{KeyReading, ended_by};
-ghost use Rattle.con_vtin.specs.Sequences.{sent};
+ghost use Rattle.con_vtin.specs.Words.Pieces.{KeyReading, ended_by};
+ghost use Rattle.con_vtin.specs.Words.Sequences.{sent};
 
 use crate::character::{push_byte, push_replacements};
 use crate::ended::Ended;
@@ -26,7 +27,7 @@ pub struct KeyReader {
 impl Model for KeyReader {
     ghost use Rattle.std.specs.Prelude.{ℕ, List};
     ghost use Rattle.con_vtin.specs.Holding.{held_of, IsApart};
-    ghost use Rattle.con_vtin.specs.Pieces.{KeyReading};
+    ghost use Rattle.con_vtin.specs.Words.Pieces.{KeyReading};
 
     ghost Value = { KeyReading };
 

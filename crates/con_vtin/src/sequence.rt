@@ -1,6 +1,7 @@
 //! The units that a key sends.
 ghost use Rattle.std.specs.Prelude.{◌≡◌, ℕ, ◌≤◌, ◌==◌, option_to_list};
 ghost use Rattle.con_vtin.specs.Sequences as spec;
+ghost use Rattle.con_vtin.specs.Words.Sequences as spec_words;
 
 use con_records::Key;
 
@@ -111,7 +112,7 @@ fn modifier_of(state: u32) -> u16
 }
 
 fn plain_row(row: Row, cursor_keys: bool) -> Sequence
-    ensures units { result ≡ spec.padded (spec.plain_row row cursor_keys) }
+    ensures units { result ≡ spec_words.padded (spec.plain_row row cursor_keys) }
     ensures few { result.count ≤ 7 }
 {
     match row {
@@ -138,7 +139,7 @@ fn plain_row(row: Row, cursor_keys: bool) -> Sequence
 }
 
 fn modified_row(row: Row, modifier: u16) -> Sequence
-    ensures units { result ≡ spec.padded (spec.modified_row row modifier) }
+    ensures units { result ≡ spec_words.padded (spec.modified_row row modifier) }
     ensures few { result.count ≤ 7 }
 {
     match row {
@@ -188,7 +189,7 @@ fn own_unit(key: Key) -> Option<u16>
 }
 
 fn own_sequence(key: Key) -> Sequence
-    ensures units { result ≡ spec.padded (spec.escaped (spec.alt_in key.state == 1) (spec.own_units key)) }
+    ensures units { result ≡ spec_words.padded (spec.escaped (spec.alt_in key.state == 1) (spec.own_units key)) }
     ensures few { result.count ≤ 7 }
 {
     match own_unit(key) {
@@ -213,7 +214,7 @@ fn own_sequence(key: Key) -> Sequence
 /// The units that a key sends to a program that reads virtual terminal input, by whether cursor keys are in
 /// application mode.
 pub fn sequence_of(key: Key, cursor_keys: bool) -> Sequence
-    ensures units { result ≡ spec.padded (spec.key_units key cursor_keys) }
+    ensures units { result ≡ spec_words.padded (spec.key_units key cursor_keys) }
     ensures few { result.count ≤ 7 }
 {
     match row_of(key) {

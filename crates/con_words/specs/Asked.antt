@@ -1,5 +1,6 @@
 -- What a form asks for.
-use Rattle.con_words.specs.Words.{Asked, typing, playing, running, solo, mirroring, auditing, generating, IsWindow}
+use Rattle.con_words.specs.Words.{Asked, typing, playing, running, solo, mirroring, auditing, generating}
+use Rattle.con_words.specs.Words.Words.{IsWindow}
 use Rattle.con_words.specs.declared.words.Form.{Form}
 use Rattle.con_words.specs.declared.words.Form.TheVariants as form
 

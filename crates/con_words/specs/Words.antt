@@ -1,5 +1,6 @@
 -- Which words are a form.
-use Rattle.std.specs.Prelude.{ℕ, ◌+◌, ◌-◌, ◌<◌, ◌≤◌, Bool, false, not, ◌&&◌, ◌||◌, ◌==◌, List, [], ◌∷◌, take, drop, map, slice_index, codes}
+pub mod Words
+use Rattle.std.specs.Prelude.{ℕ, ◌+◌, ◌-◌, Bool, false, not, ◌&&◌, ◌||◌, ◌==◌, List, [], ◌∷◌, take, drop, map, slice_index, codes}
 use Rattle.std.specs.Prelude.{Option, Some, None, option_map, option_and_then, if◌then◌else◌}
 use Rattle.std.specs.Char.{is_ascii_digit}
 use Rattle.std.specs.Int.{is_in_range}
@@ -29,10 +30,6 @@ number_in low high word = let n = number_from_digits 10 (map (λ d. d - 0x30) wo
 abbrev pub size_of : List ℕ → Option Size
 size_of word = option_and_then (λ at. option_and_then (λ w. option_map (λ h. record { w = w; h = h }) (number_in 1 most_window_rows (drop (at + 1) word)))
     (number_in 1 most_columns (take at word))) (position (λ byte. byte == 0x78) word)
-
--- a window's size
-abbrev pub IsWindow : Size → Type 0
-IsWindow size = (0 < size.w) × (0 < size.h) × (size.w ≤ most_columns) × (size.h ≤ most_window_rows)
 
 -- not empty, and does not begin with '-'
 abbrev pub is_word : List ℕ → Bool

@@ -57,7 +57,8 @@ impl<'a> Form<'a> {
     }
 }
 
-ghost use Rattle.con_words.specs.Words.{is_word, number_in, size_of, IsWindow};
+ghost use Rattle.con_words.specs.Words.{is_word, number_in, size_of};
+ghost use Rattle.con_words.specs.Words.Words.{IsWindow};
 ghost use Rattle.con_words.specs.Spelling.{is_first, is_digit, number_of, side_of, is_x, digit_of, with_digit, spelled_after, seed_of};
 ghost use Rattle.con_words.specs.Asked.{asked_of, IsWindowed};
 ghost use Rattle.con_command.specs.Command.{files_shown};

@@ -4,11 +4,13 @@ use Rattle.con_records.specs.declared.record.Record.{Record}
 use Rattle.con_records.specs.declared.record.Record.TheVariants as record_
 use Rattle.con_history.specs.declared.histories.Histories.{Histories}
 use Rattle.con_alias.specs.Aliases.{AliasList}
-use Rattle.con_line.specs.Line.{LineText, pressed, edit_between}
+use Rattle.con_line.specs.Line.{LineText}
+use Rattle.con_line.specs.Words.Line.{pressed, edit_between}
 use Rattle.con_line.specs.declared.press.Press.{Press}
 use Rattle.con_line.specs.declared.edit.Edit.{Edit}
-use Rattle.con_readers.specs.Act.{told}
-use Rattle.con_readers.specs.Reads.{pumped, begun, place_of, answered_in}
+use Rattle.con_readers.specs.Words.Act.{told}
+use Rattle.con_readers.specs.Reads.{begun, place_of}
+use Rattle.con_readers.specs.Words.Reads.{pumped, answered_in}
 use Rattle.con_readers.specs.declared.answer.Answer.{Answer}
 use Rattle.con_readers.specs.declared.open.Open.{Open}
 use Rattle.con_readers.specs.declared.open.OpenRead.TheVariants as reads

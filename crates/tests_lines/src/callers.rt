@@ -1,12 +1,15 @@
 //! Callers with variables: what a crate above does with the promises, with no proof of its own.
 ghost use Rattle.std.specs.Prelude.{◌≡◌, ◌≤◌, ◌<◌, ℕ, List, ◌∷◌, true, length, slice_get, Some, IfOk, IfSome, OnOk};
-ghost use Rattle.con_alias.specs.Aliases.{AliasList, added, add_answer, has_control};
-ghost use Rattle.con_cooked.specs.Cooked.{line_of, answer_of, echo_between};
+ghost use Rattle.con_alias.specs.Aliases.{AliasList, added, add_answer};
+ghost use Rattle.con_alias.specs.Words.Aliases.{has_control};
+ghost use Rattle.con_cooked.specs.Cooked.{line_of, answer_of};
+ghost use Rattle.con_cooked.specs.Words.Cooked.{echo_between};
 ghost use Rattle.con_cooked.specs.Parts.{lines_for};
 ghost use Rattle.con_readers.specs.Act.{ended, woke};
 ghost use Rattle.con_readers.specs.Distinct.{AreDistinct};
 ghost use Rattle.con_readers.specs.Pieces.{front};
-ghost use Rattle.con_readers.specs.Reads.{pumped, place_of, answer_in, answered_in};
+ghost use Rattle.con_readers.specs.Reads.{place_of, answer_in};
+ghost use Rattle.con_readers.specs.Words.Reads.{pumped, answered_in};
 ghost use Rattle.con_readers.specs.Serving.{served, is_done};
 ghost use Rattle.con_readers.specs.Wants.{units_of};
 ghost use Rattle.con_cooked.specs.declared.cooked.Cooked.{Cooked as CookedValue};

@@ -1,7 +1,7 @@
 //! Callers that know a mirror by its clauses alone.
 ghost use Rattle.std.specs.Prelude.{◌≡◌, false, length, drop, IfOk, None, Some};
-ghost use Rattle.con_units.specs.Limits.{IsWindow};
-ghost use Rattle.con_units.specs.View.{IsWhole};
+ghost use Rattle.con_units.specs.Words.Limits.{IsWindow};
+ghost use Rattle.con_units.specs.Words.View.{IsWhole};
 ghost use Rattle.con_term.specs.Play.{play};
 ghost use Rattle.con_term.specs.Terminal.{Terminal, IsTerminal, Shows};
 ghost use Rattle.con_mirror.specs.Mirror.{WasMirrored};

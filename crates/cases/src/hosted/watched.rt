@@ -1,5 +1,5 @@
 // Handlers that write down what they are asked, and count how often they are dropped.
-ghost use Rattle.con_handlers.specs.Memory.{memory_of};
+ghost use Rattle.con_handlers.specs.Words.Memory.{memory_of};
 
 use con_handlers::CtrlHandler;
 use con_handlers::handler::one_more;

@@ -4,8 +4,8 @@ ghost use Rattle.con_units.specs.Natural.{natural};
 ghost use Rattle.con_units.specs.Attr.{plain};
 ghost use Rattle.con_units.specs.Glyph.{cell_of};
 ghost use Rattle.con_rects.specs.Area.{cell_count};
-ghost use Rattle.con_machine.specs.CellCalls.{read_rect, rect_told, read_run_units, read_run_words, run_told, wrote_rect, wrote_run_units, wrote_run_words};
-ghost use Rattle.con_machine.specs.CellCalls.{filled_units, filled_words, scrolled_cells, are_words, are_cells, cells_for, paired, sides_of};
+ghost use Rattle.con_machine.specs.CellCalls.{run_told, wrote_run_units, wrote_run_words, are_words, are_cells, cells_for};
+ghost use Rattle.con_machine.specs.Words.CellCalls.{read_rect, rect_told, read_run_units, read_run_words, wrote_rect, filled_units, filled_words, scrolled_cells, paired, sides_of};
 ghost use Rattle.con_machine.specs.Rooms.{IsRectRoom, IsRun};
 
 use crate::calls::cells;

@@ -7,9 +7,10 @@ ghost use Rattle.con_rects.specs.Area.{cell_count};
 ghost use Rattle.con_rects.specs.Rules.{rect_written};
 ghost use Rattle.con_rects.specs.Runs.{run_count, units_written, words_written, unit_filled, word_filled};
 ghost use Rattle.con_rects.specs.Scroll.{scrolled};
-ghost use Rattle.con_screens.specs.Buffers.{AreBuffers, IsLive};
-ghost use Rattle.con_screens.specs.Stamps.{all_remembered};
-ghost use Rattle.con_machine.specs.CellCalls.{cells_at, cells_left, rect_answer, run_answer};
+ghost use Rattle.con_screens.specs.Words.Buffers.{AreBuffers, IsLive};
+ghost use Rattle.con_screens.specs.Words.Stamps.{all_remembered};
+ghost use Rattle.con_machine.specs.CellCalls.{run_answer};
+ghost use Rattle.con_machine.specs.Words.CellCalls.{cells_at, cells_left, rect_answer};
 ghost use Rattle.con_machine.specs.Sound.{AreCounted};
 
 use con_screens::Screens;

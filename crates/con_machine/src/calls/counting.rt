@@ -1,8 +1,9 @@
 //! Handles that buffers count.
 ghost use Rattle.std.specs.Prelude.{◌≡◌, ◌≢◌, ℕ, ◌<◌};
-ghost use Rattle.con_screens.specs.Buffers.{AreBuffers, handles_of};
-ghost use Rattle.con_screens.specs.Stamps.{all_remembered};
-ghost use Rattle.con_machine.specs.HandleCalls.{retained, released};
+ghost use Rattle.con_screens.specs.Buffers.{handles_of};
+ghost use Rattle.con_screens.specs.Words.Buffers.{AreBuffers};
+ghost use Rattle.con_screens.specs.Words.Stamps.{all_remembered};
+ghost use Rattle.con_machine.specs.Words.HandleCalls.{retained, released};
 ghost use Rattle.con_machine.specs.Sound.{HasLive};
 
 use con_handles::Object;

@@ -1,7 +1,8 @@
 //! Calls that make and close handles.
 ghost use Rattle.std.specs.Prelude.{◌≡◌, ◌≤◌, ◌<◌};
-ghost use Rattle.con_screens.specs.Buffers.{IsRoom};
-ghost use Rattle.con_machine.specs.HandleCalls.{opened, created_buffer, opened_out, opened_in, closed_handle, duplicated, activated};
+ghost use Rattle.con_screens.specs.Words.Buffers.{IsRoom};
+ghost use Rattle.con_machine.specs.HandleCalls.{opened};
+ghost use Rattle.con_machine.specs.Words.HandleCalls.{created_buffer, opened_out, opened_in, closed_handle, duplicated, activated};
 ghost use Rattle.con_machine.specs.Outcome.{are_rights};
 ghost use Rattle.con_machine.specs.Sound.{HasLive};
 

@@ -1,7 +1,8 @@
 //! Calls on histories and aliases.
 ghost use Rattle.std.specs.Prelude.{◌≡◌, IfOk, IsTrue, true, map};
 ghost use Rattle.con_procs.specs.Procs.{is_attached};
-ghost use Rattle.con_history.specs.Histories.{lines_of, room_for_configure};
+ghost use Rattle.con_history.specs.Histories.{lines_of};
+ghost use Rattle.con_history.specs.Words.Histories.{room_for_configure};
 ghost use Rattle.con_alias.specs.Aliases.{entries_in};
 ghost use Rattle.con_alias.specs.Room.{room_for, has_room};
 ghost use Rattle.con_machine.specs.LineCalls.{told_history_info, set_history, listed_history, cleared_history, added_alias, removed_alias, told_alias};

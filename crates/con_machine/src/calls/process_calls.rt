@@ -1,7 +1,8 @@
 //! Calls on processes, control events and handlers.
 ghost use Rattle.std.specs.Prelude.{◌≡◌, ◌≤◌, true, pos, map, length, IfOk};
 ghost use Rattle.con_procs.specs.Procs.{is_attached, ids_of};
-ghost use Rattle.con_machine.specs.ProcessCalls.{listed_processes, sent_signal, set_ignore, added_handler, removed_handler, is_no_signal};
+ghost use Rattle.con_machine.specs.ProcessCalls.{is_no_signal};
+ghost use Rattle.con_machine.specs.Words.ProcessCalls.{listed_processes, sent_signal, set_ignore, added_handler, removed_handler};
 ghost use Rattle.con_machine.specs.Signals.{signalled_to};
 
 use crate::console::Console;

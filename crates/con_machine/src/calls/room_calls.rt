@@ -1,12 +1,13 @@
 //! Calls that are given memory.
 ghost use Rattle.std.specs.Prelude.{◌≡◌, true, IsTrue};
 ghost use Rattle.con_alias.specs.Room.{room_for, has_room};
-ghost use Rattle.con_history.specs.Histories.{room_for_configure};
+ghost use Rattle.con_history.specs.Words.Histories.{room_for_configure};
 ghost use Rattle.con_machine.specs.CallRooms.{is_answer, IsBufferRoom, IsFitRoom, IsTextRoom, IsCellRoom};
-ghost use Rattle.con_machine.specs.CellCalls.{are_cells, wrote_rect};
-ghost use Rattle.con_machine.specs.HandleCalls.{created_buffer};
+ghost use Rattle.con_machine.specs.CellCalls.{are_cells};
+ghost use Rattle.con_machine.specs.Words.CellCalls.{wrote_rect};
+ghost use Rattle.con_machine.specs.Words.HandleCalls.{created_buffer};
 ghost use Rattle.con_machine.specs.LineCalls.{set_history, added_alias};
-ghost use Rattle.con_machine.specs.ScreenCalls.{set_size, wrote};
+ghost use Rattle.con_machine.specs.Words.ScreenCalls.{set_size, wrote};
 ghost use Rattle.con_machine.specs.declared.rooms.call_room.CallRoom.TheVariants as rooms;
 
 use crate::console::Console;

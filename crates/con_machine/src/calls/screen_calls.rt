@@ -1,8 +1,8 @@
 //! Calls on a screen buffer as a whole, on modes, and on the title.
 ghost use Rattle.std.specs.Prelude.{◌≡◌, ◌<◌, bit_and, ◌==◌, true, Ok, IfOk};
 ghost use Rattle.con_handles.specs.declared.handle.Kind.TheVariants as kind;
-ghost use Rattle.con_machine.specs.ScreenCalls.{told_mode, set_mode, told_info, set_cursor, told_cursor, set_cursor_info, set_origin, set_attr, set_size};
-ghost use Rattle.con_machine.specs.ScreenCalls.{told_title, set_title, is_input_mode, numbers_of, cursor_numbers};
+ghost use Rattle.con_machine.specs.ScreenCalls.{is_input_mode};
+ghost use Rattle.con_machine.specs.Words.ScreenCalls.{told_mode, set_mode, told_info, set_cursor, told_cursor, set_cursor_info, set_origin, set_attr, set_size, told_title, set_title, numbers_of, cursor_numbers};
 ghost use Rattle.con_machine.specs.Outcome.{has_bit};
 
 use crate::calls::copies::{numbers, text};

@@ -4,11 +4,12 @@ ghost use Rattle.con_handles.specs.declared.handle.Handle.{Handle};
 ghost use Rattle.con_units.specs.Natural.{natural};
 ghost use Rattle.con_page.specs.Setters.{pen_of_word, info_of, cursor_set, origin_set};
 ghost use Rattle.con_screen.specs.ModeSet.{mode_set};
-ghost use Rattle.con_screens.specs.Buffers.{AreBuffers, IsLive, screen_at};
+ghost use Rattle.con_screens.specs.Buffers.{screen_at};
+ghost use Rattle.con_screens.specs.Words.Buffers.{AreBuffers, IsLive};
 ghost use Rattle.con_screens.specs.Lending.{screen_left};
-ghost use Rattle.con_screens.specs.Stamps.{all_remembered};
+ghost use Rattle.con_screens.specs.Words.Stamps.{all_remembered};
 ghost use Rattle.con_machine.specs.Outcome.{checked};
-ghost use Rattle.con_machine.specs.ScreenCalls.{page_at, is_place, is_origin, page_left};
+ghost use Rattle.con_machine.specs.Words.ScreenCalls.{page_at, is_place, is_origin, page_left};
 ghost use Rattle.con_machine.specs.Sound.{AreCounted};
 
 use con_page::Info;

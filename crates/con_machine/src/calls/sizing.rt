@@ -2,11 +2,12 @@
 ghost use Rattle.std.specs.Prelude.{◌≡◌, ◌==◌, ◌&&◌, ◌||◌, not, true, nat_le, List, IfOk, Option, Some};
 ghost use Rattle.con_units.specs.Limits.{most_columns, most_buffer_rows};
 ghost use Rattle.con_handles.specs.declared.handle.Handle.{Handle};
-ghost use Rattle.con_page.specs.Fit.{IsFit};
-ghost use Rattle.con_screens.specs.Buffers.{AreBuffers, IsLive, is_alternate};
+ghost use Rattle.con_page.specs.Words.Fit.{IsFit};
+ghost use Rattle.con_screens.specs.Buffers.{is_alternate};
+ghost use Rattle.con_screens.specs.Words.Buffers.{AreBuffers, IsLive};
 ghost use Rattle.con_machine.specs.Outcome.{guard, checked};
 ghost use Rattle.con_handles.specs.declared.handle.Kind.TheVariants as kind;
-ghost use Rattle.con_machine.specs.ScreenCalls.{is_size, refitted_at, set_size, page_at};
+ghost use Rattle.con_machine.specs.Words.ScreenCalls.{is_size, refitted_at, set_size, page_at};
 ghost use Rattle.con_machine.specs.Rooms.{IsSizeRoom, IsFitAt};
 ghost use Rattle.con_machine.specs.Sound.{AreCounted};
 

@@ -4,9 +4,10 @@ ghost use Rattle.con_units.specs.Limits.{most_items};
 ghost use Rattle.con_handles.specs.declared.handle.Handle.{Handle};
 ghost use Rattle.con_screen.specs.Told.{nothing_told};
 ghost use Rattle.con_screens.specs.Buffer.{buffer_written, told_on};
-ghost use Rattle.con_screens.specs.Buffers.{AreBuffers, IsLive, buffer_at, with_buffer};
-ghost use Rattle.con_screens.specs.Stamps.{all_remembered};
-ghost use Rattle.con_machine.specs.ScreenCalls.{told_by, written_to, wrote};
+ghost use Rattle.con_screens.specs.Buffers.{buffer_at, with_buffer};
+ghost use Rattle.con_screens.specs.Words.Buffers.{AreBuffers, IsLive};
+ghost use Rattle.con_screens.specs.Words.Stamps.{all_remembered};
+ghost use Rattle.con_machine.specs.Words.ScreenCalls.{told_by, written_to, wrote};
 ghost use Rattle.con_machine.specs.Sound.{AreCounted};
 
 use crate::console::Console;

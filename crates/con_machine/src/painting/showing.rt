@@ -1,11 +1,13 @@
 //! What the buffers show, and what was seen of them when it was painted last.
 ghost use Rattle.std.specs.Prelude.{◌≡◌, ◌↔◌, ℕ, ◌<◌, ◌≤◌, List, Some, true, false, not, length, replicate, slice_index_or, IfOk};
 ghost use Rattle.con_handles.specs.declared.handle.Handle.{Handle};
-ghost use Rattle.con_screens.specs.Buffers.{AreBuffers, screen_at};
+ghost use Rattle.con_screens.specs.Buffers.{screen_at};
+ghost use Rattle.con_screens.specs.Words.Buffers.{AreBuffers};
 ghost use Rattle.con_screens.specs.View.{view_of};
-ghost use Rattle.con_screens.specs.Stamps.{IsAsShown, all_remembered};
-ghost use Rattle.con_machine.specs.ScreenCalls.{page_at};
-ghost use Rattle.con_machine.specs.Painting.{differs, next_number, stamped};
+ghost use Rattle.con_screens.specs.Words.Stamps.{IsAsShown, all_remembered};
+ghost use Rattle.con_machine.specs.Words.ScreenCalls.{page_at};
+ghost use Rattle.con_machine.specs.Painting.{stamped};
+ghost use Rattle.con_machine.specs.Words.Painting.{differs, next_number};
 ghost use Rattle.con_machine.specs.Sound.{AreCounted, IsPainted};
 ghost use Rattle.con_machine.specs.Marks.{seen_at};
 

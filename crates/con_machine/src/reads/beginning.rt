@@ -1,13 +1,13 @@
 //! A read begins.
 ghost use Rattle.std.specs.Prelude.{◌≡◌, ◌≤◌, ◌<◌, true, false, [], Some, length, IfOk, OnOk};
 ghost use Rattle.con_units.specs.Limits.{line_units};
-ghost use Rattle.con_alias.specs.Aliases.{has_control};
-ghost use Rattle.con_history.specs.Histories.{room_for_use};
+ghost use Rattle.con_alias.specs.Words.Aliases.{has_control};
+ghost use Rattle.con_history.specs.Words.Histories.{room_for_use};
 ghost use Rattle.con_procs.specs.Procs.{is_attached, program_of};
 ghost use Rattle.con_readers.specs.Reads.{is_open};
 ghost use Rattle.con_machine.specs.State.{rest_in};
-ghost use Rattle.con_machine.specs.Reads.{is_no_initial, is_empty, back_of, read_answer, records_answer, began_read, began_read_input, began_line};
-ghost use Rattle.con_machine.specs.Reads.{history_used, first_note, with_read, line_read, units_read};
+ghost use Rattle.con_machine.specs.Reads.{back_of, began_read, began_line, first_note, with_read};
+ghost use Rattle.con_machine.specs.Words.Reads.{is_no_initial, is_empty, read_answer, records_answer, began_read_input, history_used, line_read, units_read};
 ghost use Rattle.con_machine.specs.Began.{IsLineRoom, IsBeginning};
 ghost use Rattle.con_readers.specs.declared.open.OpenRead.TheVariants as reads;
 

@@ -1,8 +1,10 @@
 //! A read is collected.
 ghost use Rattle.std.specs.Prelude.{◌≡◌, true, Some, slice_get, IfOk};
 ghost use Rattle.con_readers.specs.Reads.{has_done, answer_in, place_of};
-ghost use Rattle.con_machine.specs.State.{noted_of, has_rest};
-ghost use Rattle.con_machine.specs.Reads.{part_left, line_cut, collected};
+ghost use Rattle.con_machine.specs.State.{noted_of};
+ghost use Rattle.con_machine.specs.Words.State.{has_rest};
+ghost use Rattle.con_machine.specs.Reads.{collected};
+ghost use Rattle.con_machine.specs.Words.Reads.{part_left, line_cut};
 ghost use Rattle.con_machine.specs.Began.{HasBack};
 
 use crate::console::Console;

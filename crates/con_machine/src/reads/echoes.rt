@@ -1,18 +1,20 @@
 //! A line shows on the screen of a buffer.
 ghost use Rattle.std.specs.Prelude.{◌≡◌, ℕ, ◌+◌, ◌-◌, ◌<◌, ◌≤◌, ◌^◌, true, List, length};
 ghost use Rattle.con_cooked.specs.declared.cooked.Cooked.{Cooked};
-ghost use Rattle.con_cooked.specs.Cooked.{line_of, echo_between};
+ghost use Rattle.con_cooked.specs.Cooked.{line_of};
+ghost use Rattle.con_cooked.specs.Words.Cooked.{echo_between};
 ghost use Rattle.con_readers.specs.Lines.{line_text};
 ghost use Rattle.con_handles.specs.declared.handle.Handle.{Handle};
 ghost use Rattle.con_page.specs.Sides.{sides};
 ghost use Rattle.con_page.specs.Echo.{ended};
 ghost use Rattle.con_screen.specs.Echo.{echoed};
-ghost use Rattle.con_page.specs.Page.{IsPage};
-ghost use Rattle.con_screens.specs.Buffers.{AreBuffers, IsLive, buffer_at, screen_at};
+ghost use Rattle.con_page.specs.Words.Page.{IsPage};
+ghost use Rattle.con_screens.specs.Buffers.{buffer_at, screen_at};
+ghost use Rattle.con_screens.specs.Words.Buffers.{AreBuffers, IsLive};
 ghost use Rattle.con_screens.specs.Lending.{screen_left};
-ghost use Rattle.con_screens.specs.Stamps.{all_remembered};
-ghost use Rattle.con_machine.specs.ScreenCalls.{page_at, page_left};
-ghost use Rattle.con_machine.specs.Serving.{is_born, shows_line};
+ghost use Rattle.con_screens.specs.Words.Stamps.{all_remembered};
+ghost use Rattle.con_machine.specs.Words.ScreenCalls.{page_at, page_left};
+ghost use Rattle.con_machine.specs.Words.Serving.{is_born, shows_line};
 ghost use Rattle.con_machine.specs.Sound.{AreCounted};
 
 use crate::reads::noted::Noted;

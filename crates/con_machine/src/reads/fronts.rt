@@ -1,6 +1,7 @@
 //! Which part of a line's text one read answers, and what is left of it.
 ghost use Rattle.std.specs.Prelude.{◌≡◌, ℕ, ◌≤◌, [], length, min, take, drop, IfOk, if◌then◌else◌};
-ghost use Rattle.con_machine.specs.Reads.{ends_line, line_front, part_told, part_left};
+ghost use Rattle.con_machine.specs.Reads.{line_front};
+ghost use Rattle.con_machine.specs.Words.Reads.{ends_line, part_told, part_left};
 ghost use Rattle.con_machine.specs.Began.{part_end};
 
 use crate::calls::copies::text_in;

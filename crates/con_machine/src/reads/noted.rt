@@ -1,6 +1,6 @@
 //! What the console notes of an open read.
 ghost use Rattle.std.specs.Prelude.{◌≡◌, ◌<◌, ◌^◌, true};
-ghost use Rattle.con_machine.specs.Serving.{cell_before};
+ghost use Rattle.con_machine.specs.Words.Serving.{cell_before};
 
 use con_page::Origin;
 use con_units::BufferId;

@@ -1,8 +1,10 @@
 //! What the console notes of the line reads that are open.
 ghost use Rattle.std.specs.Prelude.{◌≡◌, ℕ, ◌-◌, ◌<◌, ◌^◌, ◌++◌, ◌∷◌, [], true, max, not, OnOk, OnErr};
 ghost use Rattle.std.specs.List.{position_or_len, position};
-ghost use Rattle.con_machine.specs.State.{noted_of, without_noted, is_noted};
-ghost use Rattle.con_machine.specs.Serving.{note_changed, cell_before};
+ghost use Rattle.con_machine.specs.State.{noted_of, without_noted};
+ghost use Rattle.con_machine.specs.Words.State.{is_noted};
+ghost use Rattle.con_machine.specs.Serving.{note_changed};
+ghost use Rattle.con_machine.specs.Words.Serving.{cell_before};
 
 use crate::reads::noted::Noted;
 use con_page::Origin;

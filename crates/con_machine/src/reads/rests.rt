@@ -1,7 +1,8 @@
 //! What is left of lines for the next reads.
 ghost use Rattle.std.specs.Prelude.{◌≡◌, ℕ, ◌-◌, ◌<◌, ◌++◌, ◌∷◌, [], max, not, OnOk, OnErr, Bool};
 ghost use Rattle.std.specs.List.{position_or_len, position, list_any};
-ghost use Rattle.con_machine.specs.State.{is_rest_of, is_rest_by, rest_in, with_rest, has_rest, rest_begun, without_rest, without_rests};
+ghost use Rattle.con_machine.specs.State.{is_rest_of, rest_in, with_rest};
+ghost use Rattle.con_machine.specs.Words.State.{is_rest_by, has_rest, rest_begun, without_rest, without_rests};
 
 use crate::reads::rest::Rest;
 use con_units::{OutOfMemory, Units};

@@ -1,13 +1,17 @@
 //! Open reads are served, and what happens shows on the screen.
 ghost use Rattle.std.specs.Prelude.{◌≡◌, ℕ, ◌≤◌, ◌<◌, true, false, Option, Some, length, not, is_some};
 ghost use Rattle.con_cooked.specs.declared.cooked.Cooked.{Cooked};
-ghost use Rattle.con_cooked.specs.Cooked.{line_of, echo_between};
-ghost use Rattle.con_readers.specs.Act.{Act, IsOf, IsIn};
+ghost use Rattle.con_cooked.specs.Cooked.{line_of};
+ghost use Rattle.con_cooked.specs.Words.Cooked.{echo_between};
+ghost use Rattle.con_readers.specs.Act.{Act};
+ghost use Rattle.con_readers.specs.Words.Act.{IsOf, IsIn};
 ghost use Rattle.con_readers.specs.Lines.{line_text};
-ghost use Rattle.con_readers.specs.Reads.{head_text, work, settled, settled_after};
+ghost use Rattle.con_readers.specs.Reads.{settled};
+ghost use Rattle.con_readers.specs.Words.Reads.{head_text, work, settled_after};
 ghost use Rattle.con_readers.specs.Steps.{is_idle};
 ghost use Rattle.con_machine.specs.State.{noted_of};
-ghost use Rattle.con_machine.specs.Serving.{read_started, line_shown, line_finished, line_woken, settled_state};
+ghost use Rattle.con_machine.specs.Serving.{settled_state};
+ghost use Rattle.con_machine.specs.Words.Serving.{read_started, line_shown, line_finished, line_woken};
 ghost use Rattle.con_machine.specs.Pumping.{pumped_of, with_pumped, followed_by, stepped, IsTold};
 
 use crate::console::Console;

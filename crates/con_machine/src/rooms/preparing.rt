@@ -2,7 +2,7 @@
 ghost use Rattle.std.specs.Prelude.{◌≡◌, ◌≤◌, ◌<◌, length, true, IsTrue, IfOk};
 ghost use Rattle.con_units.specs.Limits.{most_records};
 ghost use Rattle.con_alias.specs.Room.{room_for, has_room};
-ghost use Rattle.con_history.specs.Histories.{room_for_configure};
+ghost use Rattle.con_history.specs.Words.Histories.{room_for_configure};
 ghost use Rattle.con_machine.specs.CallRooms.{IsCallRoom, IsBufferRoom, IsFitRoom, IsTextRoom, IsCellRoom};
 ghost use Rattle.con_machine.specs.CellCalls.{are_cells};
 ghost use Rattle.con_machine.specs.declared.rooms.call_room.CallRoom.TheVariants as rooms;

@@ -1,6 +1,6 @@
 //! Bytes from the terminal.
 ghost use Rattle.std.specs.Prelude.{◌≡◌, ℕ, ◌+◌, ◌*◌, ◌≤◌, ◌<◌, length, fold, IfSome, IfOk, vec_capacity};
-ghost use Rattle.con_mouse.specs.Reports.{IsReport};
+ghost use Rattle.con_mouse.specs.Words.Reports.{IsReport};
 ghost use Rattle.con_machine.specs.Terminal.{records_of, key_taken, fed, quiet};
 ghost use Rattle.con_machine.specs.Feeding.{byte_taken, stored_count, told_report};
 

@@ -1,11 +1,11 @@
 //! Reports of the mouse, as records.
 ghost use Rattle.std.specs.Prelude.{◌≡◌, ◌+◌, ◌-◌, ◌<◌, ◌≤◌, ◌++◌, min, pos, length, option_to_list, IfSome};
 ghost use Rattle.con_units.specs.Natural.{natural};
-ghost use Rattle.con_mouse.specs.Reports.{IsReport};
-ghost use Rattle.con_screens.specs.Buffers.{AreBuffers};
-ghost use Rattle.con_machine.specs.ScreenCalls.{page_at};
+ghost use Rattle.con_mouse.specs.Words.Reports.{IsReport};
+ghost use Rattle.con_screens.specs.Words.Buffers.{AreBuffers};
+ghost use Rattle.con_machine.specs.Words.ScreenCalls.{page_at};
 ghost use Rattle.con_machine.specs.Feeding.{report_taken_in};
-ghost use Rattle.con_machine.specs.Terminal.{placed, report_taken};
+ghost use Rattle.con_machine.specs.Words.Terminal.{placed, report_taken};
 
 use crate::calls::screen_calls::has_bit;
 use crate::calls::setters;

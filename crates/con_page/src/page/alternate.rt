@@ -1,6 +1,6 @@
 //! The alternate screen's page.
 ghost use Rattle.std.specs.Prelude.{◌≡◌, ◌<◌, ◌%◌, ◌==◌, ◌&&◌, nat_lt, length};
-ghost use Rattle.con_page.specs.Page.{IsPage};
+ghost use Rattle.con_page.specs.Words.Page.{IsPage};
 ghost use Rattle.con_page.specs.Setters.{default_tabs};
 ghost use Rattle.con_page.specs.Alternate.{alternate_page};
 

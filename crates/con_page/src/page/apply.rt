@@ -1,7 +1,8 @@
 //! Items, each with the window after it.
 ghost use Rattle.std.specs.Prelude.{◌≡◌, ◌==◌, ◌&&◌, if◌then◌else◌, fold, option_to_list};
 ghost use Rattle.con_vtgram.specs.State.{item_of};
-ghost use Rattle.con_page.specs.Page.{IsPage, shown};
+ghost use Rattle.con_page.specs.Page.{shown};
+ghost use Rattle.con_page.specs.Words.Page.{IsPage};
 ghost use Rattle.con_page.specs.Effect.{act as acted};
 ghost use Rattle.con_page.specs.Applied.{effect_if};
 

@@ -1,8 +1,9 @@
 //! A line that is edited.
 ghost use Rattle.std.specs.Prelude.{◌≡◌, ℕ, ◌+◌, ◌*◌, ◌<◌, ◌≤◌, ◌^◌, length};
 ghost use Rattle.con_units.specs.Natural.{natural};
-ghost use Rattle.con_page.specs.Page.{IsPage};
+ghost use Rattle.con_page.specs.Words.Page.{IsPage};
 ghost use Rattle.con_page.specs.Echo as echo;
+ghost use Rattle.con_page.specs.Words.Echo as echo_words;
 
 use super::Page;
 use crate::origin::Origin;
@@ -58,8 +59,8 @@ impl Page {
         requires column { origin.x < self.old.grid.width }
         requires row { natural origin.y < self.old.grid.height }
         requires small { end < 2 ^ 16 }
-        ensures effect { self.new ≡ echo.scrolled self.old origin end }
-        ensures origin { result ≡ echo.fallen self.old origin end }
+        ensures effect { self.new ≡ echo_words.scrolled self.old origin end }
+        ensures origin { result ≡ echo_words.fallen self.old origin end }
         ensures page { IsPage self.new }
     {
         let height = self.height();
@@ -80,7 +81,7 @@ impl Page {
         requires small { (offset < 2 ^ 16) × (blanks < 2 ^ 16) }
         requires inside { natural origin.y * self.old.grid.width + origin.x + (offset + length units.now)
             < length self.old.grid.cells + echo.rows_above origin.y * self.old.grid.width }
-        ensures effect { self.new ≡ echo.drawn_by self.old origin (echo.part_rule self.old offset units.now blanks) }
+        ensures effect { self.new ≡ echo.drawn_by self.old origin (echo_words.part_rule self.old offset units.now blanks) }
         ensures page { IsPage self.new }
     {
         let width = self.width();
@@ -123,7 +124,7 @@ impl Page {
     ) -> Origin
         requires page { IsPage self.old }
         requires end { offset + length units.now < 2 ^ 16 }
-        ensures effect { self.new ≡ echo.changed self.old origin (offset + length units.now) (echo.part_rule self.old offset units.now blanks) caret }
+        ensures effect { self.new ≡ echo.changed self.old origin (offset + length units.now) (echo_words.part_rule self.old offset units.now blanks) caret }
         ensures origin { result ≡ echo.origin_after self.old origin (offset + length units.now) }
         ensures page { IsPage self.new }
     {

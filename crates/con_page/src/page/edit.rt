@@ -1,6 +1,7 @@
 //! Sequences that erase, insert, delete and scroll.
 ghost use Rattle.std.specs.Prelude.{◌≡◌, ◌≤◌, length};
-ghost use Rattle.con_page.specs.Page.{IsPage, row_end, rows_down, region_first, region_end};
+ghost use Rattle.con_page.specs.Page.{row_end, rows_down, region_first, region_end};
+ghost use Rattle.con_page.specs.Words.Page.{IsPage};
 ghost use Rattle.con_page.specs.Effect as now;
 ghost use Rattle.con_page.specs.Kinds as kinds;
 

@@ -1,7 +1,7 @@
 //! Line feeds and carriage returns that act at once.
 ghost use Rattle.std.specs.Prelude.{◌≡◌, ◌<◌, ◌≤◌, true, length, take};
 ghost use Rattle.std.specs.List.{list_all};
-ghost use Rattle.con_page.specs.Page.{IsPage};
+ghost use Rattle.con_page.specs.Words.Page.{IsPage};
 ghost use Rattle.con_page.specs.Ends as specs;
 ghost use Rattle.con_page.specs.Ends.{CanEnd, is_end, all_ended, fed, ended};
 

@@ -1,6 +1,6 @@
 //! Items that move the cursor.
 ghost use Rattle.std.specs.Prelude.{◌≡◌};
-ghost use Rattle.con_page.specs.Page.{IsPage};
+ghost use Rattle.con_page.specs.Words.Page.{IsPage};
 ghost use Rattle.con_page.specs.Effect as now;
 ghost use Rattle.con_page.specs.Kinds as kinds;
 

@@ -1,7 +1,7 @@
 //! Units that are printed.
 ghost use Rattle.std.specs.Prelude.{◌≡◌, ℕ, ◌<◌, ◌≤◌, length, map, take, true, false};
 ghost use Rattle.std.specs.List.{list_all};
-ghost use Rattle.con_page.specs.Page.{IsPage};
+ghost use Rattle.con_page.specs.Words.Page.{IsPage};
 ghost use Rattle.con_page.specs.Print.{line_of as line_unit, wrapped, put, advanced, printed};
 ghost use Rattle.con_units.specs.Plain.{is_plain};
 ghost use Rattle.con_page.specs.Run.{drawn, is_printed, all_printed, CanRun, ran};

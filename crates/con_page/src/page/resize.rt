@@ -1,9 +1,10 @@
 //! A buffer and a window of other sizes.
 ghost use Rattle.std.specs.Prelude.{◌≡◌, None};
 ghost use Rattle.con_units.specs.declared.place.Size.{Size as TheSize};
-ghost use Rattle.con_page.specs.Page.{IsPage};
+ghost use Rattle.con_page.specs.Words.Page.{IsPage};
 ghost use Rattle.con_page.specs.Sides.{sides};
-ghost use Rattle.con_page.specs.Fit.{IsFit, lost_rows, moved_in, refitted};
+ghost use Rattle.con_page.specs.Fit.{refitted};
+ghost use Rattle.con_page.specs.Words.Fit.{IsFit, lost_rows, moved_in};
 
 use super::Page;
 use crate::fit::Fit;

@@ -1,6 +1,6 @@
 //! Sequences that set something, and all of them.
 ghost use Rattle.std.specs.Prelude.{◌≡◌, ◌<◌, ◌==◌, slice_set, if◌then◌else◌};
-ghost use Rattle.con_page.specs.Page.{IsPage};
+ghost use Rattle.con_page.specs.Words.Page.{IsPage};
 ghost use Rattle.con_page.specs.Effect as now;
 ghost use Rattle.con_page.specs.Kinds as kinds;
 ghost use Rattle.con_vtgram.specs.Sgr.{pen_of};

@@ -3,10 +3,12 @@ ghost use Rattle.std.specs.Prelude.{◌≡◌, ℕ, ◌+◌, ◌<◌, ◌≤◌,
 ghost use Rattle.con_units.specs.Attr.{plain};
 ghost use Rattle.con_units.specs.Natural.{natural};
 ghost use Rattle.con_units.specs.declared.code.Code.TheVariants.{BadArgument};
-ghost use Rattle.con_grid.specs.Picture.{IsInside};
-ghost use Rattle.con_page.specs.Page.{IsPage, attr};
-ghost use Rattle.con_page.specs.Setters.{cursor_set, origin_set, IsOrigin, pen_of_word, info_of};
-ghost use Rattle.con_page.specs.Fit.{AreSizes, IsFit};
+ghost use Rattle.con_grid.specs.Words.Picture.{IsInside};
+ghost use Rattle.con_page.specs.Page.{attr};
+ghost use Rattle.con_page.specs.Words.Page.{IsPage};
+ghost use Rattle.con_page.specs.Setters.{cursor_set, origin_set, pen_of_word, info_of};
+ghost use Rattle.con_page.specs.Words.Setters.{IsOrigin};
+ghost use Rattle.con_page.specs.Words.Fit.{AreSizes, IsFit};
 
 use super::Page;
 use crate::fit::Fit;

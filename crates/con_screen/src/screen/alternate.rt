@@ -1,9 +1,10 @@
 //! What the buffers of a console need of a screen: units up to a switch, and the alternate screen's beginning and end.
 ghost use Rattle.std.specs.Prelude.{◌≡◌, ◌-◌, ◌<◌, ◌≤◌, true, length, take};
-ghost use Rattle.con_page.specs.Page.{IsPage};
+ghost use Rattle.con_page.specs.Words.Page.{IsPage};
 ghost use Rattle.con_screen.specs.Written.{written, switches};
 ghost use Rattle.con_page.specs.Sides.{sides};
-ghost use Rattle.con_screen.specs.Alternate.{alternate_begun, mode_taken, IsSwitchedWhole};
+ghost use Rattle.con_screen.specs.Alternate.{alternate_begun, mode_taken};
+ghost use Rattle.con_screen.specs.Words.Alternate.{IsSwitchedWhole};
 
 use crate::answers::Answers;
 use crate::screen::Screen;

@@ -1,9 +1,9 @@
 //! What a line that is edited does to the screen.
 ghost use Rattle.std.specs.Prelude.{◌≡◌, ℕ, ◌+◌, ◌<◌, ◌^◌, length};
-ghost use Rattle.con_page.specs.Page.{IsPage};
+ghost use Rattle.con_page.specs.Words.Page.{IsPage};
 ghost use Rattle.con_page.specs.Sides.{sides};
 ghost use Rattle.con_page.specs.Echo.{ended};
-ghost use Rattle.con_screen.specs.Echo.{part_echoed, IsEchoedByPart, IsLaidRowByRow};
+ghost use Rattle.con_screen.specs.Words.Echo.{part_echoed, IsEchoedByPart, IsLaidRowByRow};
 
 use crate::screen::Screen;
 use con_page::Origin;

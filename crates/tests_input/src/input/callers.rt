@@ -5,9 +5,11 @@ ghost use Rattle.std.specs.List.{list_all};
 ghost use Rattle.con_units.specs.Split.{next, split_after};
 ghost use Rattle.con_outside.specs.Outside.{then_left};
 ghost use Rattle.con_link.specs.Frames.{spelling, is_frame, goes_on};
-ghost use Rattle.con_vtin.specs.Keys.{grammar, quieted};
-ghost use Rattle.con_vtin.specs.Pieces.{typed, piece_grammar, ended_piece};
-ghost use Rattle.con_vtin.specs.Sequences.{sent};
+ghost use Rattle.con_vtin.specs.Keys.{quieted};
+ghost use Rattle.con_vtin.specs.Words.Keys.{grammar};
+ghost use Rattle.con_vtin.specs.Pieces.{typed, piece_grammar};
+ghost use Rattle.con_vtin.specs.Words.Pieces.{ended_piece};
+ghost use Rattle.con_vtin.specs.Words.Sequences.{sent};
 
 use con_link::{LinkFault, all_frames};
 use con_outside::Source;

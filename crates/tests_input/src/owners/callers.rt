@@ -1,10 +1,12 @@
 //! Callers with variables: what a crate above does with the promises, with no proof of its own.
 ghost use Rattle.std.specs.Prelude.{◌≡◌, ℕ, ◌+◌, ◌<◌, ◌≤◌, Bool, true, false, IfOk, IfErr, IfSome, IsTrue, ◌↔◌, Ok, Err, if◌then◌else◌};
 ghost use Rattle.std.specs.Option.{IfNone};
-ghost use Rattle.con_handles.specs.Handles.{is_at, is_owned, new_number, is_used};
+ghost use Rattle.con_handles.specs.Handles.{is_at, is_owned, new_number};
+ghost use Rattle.con_handles.specs.Words.Handles.{is_used};
 ghost use Rattle.con_handles.specs.Tables.{tally, on};
 ghost use Rattle.con_procs.specs.Procs.{is_attached, programs_of};
-ghost use Rattle.con_history.specs.Histories.{used_by, can_use};
+ghost use Rattle.con_history.specs.Histories.{used_by};
+ghost use Rattle.con_history.specs.Words.Histories.{can_use};
 
 use con_handles::{Handles, Object, is_counted};
 use con_history::Histories;

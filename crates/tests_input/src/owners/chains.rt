@@ -1,7 +1,7 @@
 //! What no session shows of handlers: which one handles, that each is dropped once, and that one for which there was no memory is added then.
 ghost use Rattle.std.specs.Prelude.{◌≡◌};
 ghost use Rattle.con_handlers.specs.Answers.{raised};
-ghost use Rattle.con_handlers.specs.Memory.{memory_of};
+ghost use Rattle.con_handlers.specs.Words.Memory.{memory_of};
 
 use con_handlers::handler::one_more;
 use con_handlers::{Chain, CtrlHandler, Delivered, Note, Tally};

@@ -3,7 +3,8 @@
 ghost use Rattle.std.specs.Prelude.{◌≡◌, ◌++◌, IfOk, IfSome, OnOk, Option};
 ghost use Rattle.con_outside.specs.Outside.{then_written};
 ghost use Rattle.con_lines.specs.Line.{line_text, ended};
-ghost use Rattle.con_lines.specs.Ending.{Ending, IsEnding, status_of, ending_of, ending_text};
+ghost use Rattle.con_lines.specs.Ending.{Ending, IsEnding, status_of, ending_text};
+ghost use Rattle.con_lines.specs.Words.Ending.{ending_of};
 ghost use Rattle.con_trace.specs.Report.{History, IsHistory, report_of, IsWrongAt};
 
 use con_events::{Entry, Reply};

@@ -2,8 +2,9 @@
 ghost use Rattle.std.specs.Prelude.{◌≡◌, ◌<◌, ◌≤◌, ◌+◌, [], true, false, Some};
 ghost use Rattle.con_units.specs.Attr.{plain};
 ghost use Rattle.con_units.specs.Glyph.{plain_cell};
-ghost use Rattle.con_units.specs.Shade.{shade_of, near, IsNearest};
-ghost use Rattle.con_grid.specs.Picture.{IsUntouched, IsInside};
+ghost use Rattle.con_units.specs.Shade.{near, IsNearest};
+ghost use Rattle.con_units.specs.Words.Shade.{shade_of};
+ghost use Rattle.con_grid.specs.Words.Picture.{IsUntouched, IsInside};
 ghost use Rattle.con_grid.specs.Parts.{IsPartUntouched};
 ghost use Rattle.con_rects.specs.Rules.{rect_cells};
 ghost use Rattle.con_rects.specs.Runs.{run_cells};

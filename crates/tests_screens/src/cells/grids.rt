@@ -1,6 +1,6 @@
 //! What no session shows of a grid: the numbers of its rows, and cells that move past the place where its block ends.
 ghost use Rattle.std.specs.Prelude.{◌≡◌, IfOk};
-ghost use Rattle.con_grid.specs.Picture.{IsPicture};
+ghost use Rattle.con_grid.specs.Words.Picture.{IsPicture};
 
 use con_grid::Grid;
 use con_units::{Attr, Cell, Coord, OutOfMemory, Size};

@@ -1,7 +1,8 @@
 //! A caller that knows con_paint by its clauses alone.
 ghost use Rattle.std.specs.Prelude.{◌≡◌, ◌+◌, ◌<◌, ◌≤◌, ℕ, true, false, ◌++◌, length, drop, slice_index_or};
 ghost use Rattle.std.specs.Vec.{vec_len, vec_capacity};
-ghost use Rattle.con_units.specs.View.{row_of, IsWhole};
+ghost use Rattle.con_units.specs.View.{row_of};
+ghost use Rattle.con_units.specs.Words.View.{IsWhole};
 ghost use Rattle.con_paint.specs.Painter.{IsShown, frame_room};
 
 use con_paint::Painter;

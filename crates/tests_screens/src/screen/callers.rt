@@ -1,8 +1,9 @@
 //! Callers that use the clauses and laws of con_screen at every value.
 ghost use Rattle.std.specs.Prelude.{◌≡◌, ◌+◌, ◌*◌, ◌<◌, ◌≤◌, ◌^◌, OnOk, OnErr, length, take};
 ghost use Rattle.con_page.specs.Sides.{sides};
-ghost use Rattle.con_page.specs.Page.{IsPage};
-ghost use Rattle.con_screen.specs.Told.{HasShortTitle, nothing_told};
+ghost use Rattle.con_page.specs.Words.Page.{IsPage};
+ghost use Rattle.con_screen.specs.Told.{nothing_told};
+ghost use Rattle.con_screen.specs.Words.Told.{HasShortTitle};
 ghost use Rattle.con_screen.specs.Written.{written};
 
 use con_page::Origin;

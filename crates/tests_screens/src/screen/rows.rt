@@ -1,6 +1,6 @@
 //! What a screen is told to do, and the lines that show it.
 ghost use Rattle.std.specs.Prelude.{◌≡◌, ◌<◌, ◌≤◌};
-ghost use Rattle.con_page.specs.Page.{IsPage};
+ghost use Rattle.con_page.specs.Words.Page.{IsPage};
 
 use con_page::Origin;
 use con_screen::{Answers, Screen};

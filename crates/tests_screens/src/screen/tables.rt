@@ -1,6 +1,6 @@
 //! Lines that are edited, worked out by hand from the rule of echoes; what texts tell; and units that no session can hold.
 ghost use Rattle.std.specs.Prelude.{◌≡◌, ◌<◌, ◌≤◌};
-ghost use Rattle.con_page.specs.Page.{IsPage};
+ghost use Rattle.con_page.specs.Words.Page.{IsPage};
 
 use crate::screen::rows::{
     Line, change, echo, letters, letters_behind, show, show_origin, show_told, show_words, side,

@@ -1,6 +1,7 @@
 //! The numbers of buffers, by which one that has the id of another is told from it.
 ghost use Rattle.std.specs.Prelude.{◌≡◌, ◌<◌, IfOk};
-ghost use Rattle.con_screens.specs.Buffers.{AreBuffers, IsLive, handles_of};
+ghost use Rattle.con_screens.specs.Buffers.{handles_of};
+ghost use Rattle.con_screens.specs.Words.Buffers.{AreBuffers, IsLive};
 
 use con_screens::Screens;
 use con_units::{BufferId, OutOfMemory, Size};

@@ -1,13 +1,15 @@
 //! Callers that use the laws of con_screens at every id.
 ghost use Rattle.std.specs.Prelude.{◌≡◌, ◌≢◌, ℕ, ◌+◌, ◌*◌, ◌<◌, ◌≤◌, ◌==◌, [], IfOk, true, false, ◌++◌, length, vec_capacity, if◌then◌else◌};
-ghost use Rattle.con_units.specs.View.{IsWhole, row_of, row_part};
+ghost use Rattle.con_units.specs.View.{row_of, row_part};
+ghost use Rattle.con_units.specs.Words.View.{IsWhole};
 ghost use Rattle.con_page.specs.Sides.{sides};
-ghost use Rattle.con_page.specs.Fit.{IsFit};
+ghost use Rattle.con_page.specs.Words.Fit.{IsFit};
 ghost use Rattle.con_screen.specs.Told.{Told};
 ghost use Rattle.con_screens.specs.Buffer.{buffer_written};
-ghost use Rattle.con_screens.specs.Buffers.{AreBuffers, IsLive, IsRoom, handles_of, is_alternate, screen_at, with_buffer};
+ghost use Rattle.con_screens.specs.Buffers.{handles_of, is_alternate, screen_at, with_buffer};
+ghost use Rattle.con_screens.specs.Words.Buffers.{AreBuffers, IsLive, IsRoom};
 ghost use Rattle.con_screens.specs.View.{view_of};
-ghost use Rattle.con_screens.specs.Stamps.{WasShown, all_remembered};
+ghost use Rattle.con_screens.specs.Words.Stamps.{WasShown, all_remembered};
 
 use con_page::Fit;
 use con_screen::Answers;

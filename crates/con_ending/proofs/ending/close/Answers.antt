@@ -1,5 +1,6 @@
 use Rattle.std.proofs.Common.{ap, ◌∙◌}
-use Rattle.con_lines.specs.Ending.{ending_of, status_of}
+use Rattle.con_lines.specs.Ending.{status_of}
+use Rattle.con_lines.specs.Words.Ending.{ending_of}
 use Rattle.con_ending.specs.Laws.{reported_by, status_after}
 use Rattle.con_ending.proofs.ending.close.Goals as goal
 

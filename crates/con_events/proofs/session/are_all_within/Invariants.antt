@@ -1,5 +1,5 @@
 use Rattle.std.proofs.Common.{◌≡◌, drop}
-use Rattle.con_events.specs.Session.{all_scripts}
+use Rattle.con_events.specs.Words.Session.{all_scripts}
 use Rattle.con_events.proofs.session.are_all_within.Given as goal
 
 abbrev pub invariant-loop-script : goal.invariant-loop-script

@@ -1,4 +1,4 @@
-use Rattle.con_lines.specs.Fits.{AreBytes}
+use Rattle.con_lines.specs.Words.Fits.{AreBytes}
 use Rattle.con_forms.proofs.Rests.{one_copied}
 use Rattle.con_forms.proofs.keeping.bytes.Goals as goal
 

@@ -1,4 +1,4 @@
-use Rattle.con_lines.specs.Fits.{AreWhole}
+use Rattle.con_lines.specs.Words.Fits.{AreWhole}
 use Rattle.con_forms.proofs.Rests.{one_copied}
 use Rattle.con_forms.proofs.keeping.numbers.Goals as goal
 

@@ -1,4 +1,4 @@
-use Rattle.con_events.specs.Fits.{RecordsFit}
+use Rattle.con_events.specs.Words.Fits.{RecordsFit}
 use Rattle.con_forms.proofs.Rests.{one_copied}
 use Rattle.con_forms.proofs.keeping.records.Goals as goal
 

@@ -1,5 +1,5 @@
 use Rattle.std.proofs.Common.{length}
-use Rattle.con_events.specs.Fits.{RecordsFit}
+use Rattle.con_events.specs.Words.Fits.{RecordsFit}
 use Rattle.con_forms.proofs.keeping.records.Given as goal
 
 abbrev pub invariant-loop-rest : goal.invariant-loop-rest

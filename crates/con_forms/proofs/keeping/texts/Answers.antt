@@ -1,6 +1,6 @@
 use Rattle.std.proofs.Common.{subst}
 use Rattle.con_events.specs.Fits.{AreUnits}
-use Rattle.con_lines.specs.Fits.{AreTexts}
+use Rattle.con_lines.specs.Words.Fits.{AreTexts}
 use Rattle.con_forms.proofs.Rests.{one_more}
 use Rattle.con_forms.proofs.keeping.texts.Goals as goal
 

@@ -1,5 +1,5 @@
 use Rattle.std.proofs.Common.{length}
-use Rattle.con_lines.specs.Fits.{AreTexts}
+use Rattle.con_lines.specs.Words.Fits.{AreTexts}
 use Rattle.con_forms.proofs.keeping.texts.Given as goal
 
 abbrev pub invariant-loop-rest : goal.invariant-loop-rest

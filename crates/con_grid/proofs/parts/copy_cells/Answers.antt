@@ -4,7 +4,8 @@ use Rattle.std.proofs.lemmas.Option.{get_or_from_slice_get}
 use Rattle.std.proofs.lemmas.List.Edits.{fill_by_more}
 use Rattle.std.proofs.lemmas.List.FromFn.{fill_by_all}
 use Rattle.con_units.specs.Glyph.{Glyph}
-use Rattle.con_grid.specs.Picture.{cell_of, resized_cells}
+use Rattle.con_grid.specs.Picture.{resized_cells}
+use Rattle.con_grid.specs.Words.Picture.{cell_of}
 use Rattle.con_grid.proofs.ResizedLemmas.{cell_of_inside, cell_of_right, cell_of_below}
 use Rattle.con_grid.proofs.parts.copy_cells.Goals as goal
 use Rattle.con_grid.proofs.parts.copy_cells.Goals.{then-x-old_width+then-y-old_height, else-x-old_width, else-x-old_width-via-then-x-old_width+else-y-old_height, else-x-old_width-via-else-x-old_width}

@@ -1,5 +1,5 @@
 use Rattle.std.proofs.Common.{◌≡◌, ◌++◌, take, drop}
-use Rattle.con_grid.specs.Picture.{glyphs_of}
+use Rattle.con_grid.specs.Words.Picture.{glyphs_of}
 use Rattle.con_grid.proofs.parts.show_plain.Given as goal
 
 abbrev pub invariant-loop-k : goal.invariant-loop-k

@@ -1,6 +1,7 @@
 -- The search goes on from this number.
 use Rattle.std.proofs.Common.{◌≡◌, ◌≤◌, ◌-◌}
-use Rattle.con_handles.specs.Handles.{free_from, least_free}
+use Rattle.con_handles.specs.Handles.{free_from}
+use Rattle.con_handles.specs.Words.Handles.{least_free}
 use Rattle.con_handles.specs.Places.{listed}
 use Rattle.con_handles.proofs.places.first_free.Given as goal
 

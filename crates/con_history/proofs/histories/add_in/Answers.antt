@@ -1,6 +1,7 @@
 -- The history at its place was changed.
 use Rattle.std.proofs.Common.{◌<◌, ◌≤◌, ◌∙◌, length, ap, sym, arith}
-use Rattle.con_history.specs.Histories.{ProgramLines, place_of, added}
+use Rattle.con_history.specs.Histories.{ProgramLines, added}
+use Rattle.con_history.specs.Words.Histories.{place_of}
 use Rattle.con_history.proofs.Places.{changed-written, changed-none}
 use Rattle.con_history.proofs.histories.add_in.Goals as goal
 

@@ -1,6 +1,7 @@
 -- Its lines are those at its place.
 use Rattle.std.proofs.Common.{◌<◌, ◌≤◌, ◌∙◌, ℕ, ap, length, get_or, arith}
-use Rattle.con_history.specs.Histories.{place_of, ProgramLines}
+use Rattle.con_history.specs.Histories.{ProgramLines}
+use Rattle.con_history.specs.Words.Histories.{place_of}
 use Rattle.con_history.proofs.Places.{lines-at, lines-none}
 use Rattle.con_history.proofs.histories.history_of.Goals as goal
 

@@ -1,5 +1,5 @@
 use Rattle.std.proofs.Common.{◌∙◌, arith, not}
-use Rattle.con_units.specs.Units.{same_units}
+use Rattle.con_units.specs.Words.Units.{same_units}
 use Rattle.con_history.proofs.Keeps.{turned_more}
 use Rattle.con_history.proofs.history.remove_same.Goals as goal
 

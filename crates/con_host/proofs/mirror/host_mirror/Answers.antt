@@ -1,5 +1,5 @@
 use Rattle.std.proofs.Common.{refl, subst}
-use Rattle.con_ending.specs.Files.{Explains}
+use Rattle.con_ending.specs.Words.Files.{Explains}
 use Rattle.con_host.proofs.Reasons.{failed_by, never, no_reason}
 use Rattle.con_host.proofs.SessionLemmas.{told_alone}
 use Rattle.con_host.proofs.mirror.host_mirror.Goals as goal

@@ -2,7 +2,7 @@ use Rattle.std.proofs.Common.{ap, ◌∙◌}
 use Rattle.std.proofs.lemmas.Result.{IfOk-weaker}
 use Rattle.con_term.specs.Terminal.{Terminal}
 use Rattle.con_term.specs.Play.{play}
-use Rattle.con_text.specs.Playing.{dump_bytes}
+use Rattle.con_text.specs.Words.Playing.{dump_bytes}
 use Rattle.con_host.proofs.summary.shown.Goals as goal
 
 pub returns : goal.returns

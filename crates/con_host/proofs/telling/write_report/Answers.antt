@@ -1,6 +1,6 @@
 use Rattle.std.proofs.Common.{◌≡◌}
 use Rattle.con_outside.specs.Outside.{then_written}
-use Rattle.con_lines.specs.Ending.{ending_of}
+use Rattle.con_lines.specs.Words.Ending.{ending_of}
 use Rattle.con_trace.specs.Report.{said}
 use Rattle.con_host.specs.Telling.{lines_text}
 use Rattle.con_host.proofs.TellLemmas.{at_err, report_cut, report_ended, report_is_cut, report_ends_cut, report_whole, told_front, told_whole_front, on_err, on_ok}

@@ -1,6 +1,6 @@
 use Rattle.std.proofs.Common.{subst}
 use Rattle.con_inspect.specs.Auditing.{found}
-use Rattle.con_inspect.specs.Four.{Barred}
+use Rattle.con_inspect.specs.Words.Four.{Barred}
 use Rattle.con_inspect.proofs.Ends.{audited, complete, no_memory, report_failed, told_alone}
 use Rattle.con_inspect.proofs.auditing.host_audit.Goals as goal
 

@@ -1,6 +1,7 @@
 use Rattle.std.proofs.Common.{inl, inr, refl, ◌∙◌, subst}
 use Rattle.con_ending.specs.Files.{too_long}
-use Rattle.con_inspect.specs.Four.{IsRead, four_of}
+use Rattle.con_inspect.specs.Four.{four_of}
+use Rattle.con_inspect.specs.Words.Four.{IsRead}
 use Rattle.con_inspect.proofs.FileLemmas.{one_long}
 use Rattle.con_inspect.proofs.files.read_files.Goals as goal
 use Rattle.con_inspect.proofs.files.read_files.Goals.{else-has_session-via-then-has_session+then-has_link+then-has_stream+else-has_report, else-has_session-via-then-has_session+then-has_link+else-has_stream, else-has_session-via-then-has_session+else-has_link, else-has_session-via-else-has_session}

@@ -1,8 +1,8 @@
 use Rattle.std.proofs.Common.{◌≡◌, List, None, sym, ap, ◌∙◌}
 use Rattle.std.specs.Prelude.{option_map}
-use Rattle.con_handles.specs.Handles.{least_of}
+use Rattle.con_handles.specs.Words.Handles.{least_of}
 use Rattle.con_handles.specs.declared.handle.Handle.{Handle}
-use Rattle.con_machine.specs.Reads.{released_all}
+use Rattle.con_machine.specs.Words.Reads.{released_all}
 use Rattle.con_machine.proofs.Exiting.{taken_step, none_taken, last_taken}
 use Rattle.con_machine.proofs.Live.{live_gone}
 use Rattle.con_machine.proofs.Opening.{closed_counts}

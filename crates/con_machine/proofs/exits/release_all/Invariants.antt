@@ -3,10 +3,10 @@ use Rattle.std.proofs.Common.{◌≡◌, Option, length}
 use Rattle.std.specs.Prelude.{filter, not}
 use Rattle.con_handles.specs.Handles.{is_owned}
 use Rattle.con_handles.specs.Tables.{IsTable}
-use Rattle.con_screens.specs.Buffers.{AreBuffers}
-use Rattle.con_screens.specs.Stamps.{all_remembered}
+use Rattle.con_screens.specs.Words.Buffers.{AreBuffers}
+use Rattle.con_screens.specs.Words.Stamps.{all_remembered}
 use Rattle.con_units.specs.declared.view.View.{View}
-use Rattle.con_machine.specs.Reads.{released_all}
+use Rattle.con_machine.specs.Words.Reads.{released_all}
 use Rattle.con_machine.specs.Sound.{AreCounted, IsPainted}
 use Rattle.con_machine.proofs.exits.release_all.Given as goal
 

@@ -1,6 +1,6 @@
 use Rattle.std.proofs.Common.{◌≡◌, ◌+◌, ◌-◌, ◌≤◌, drop, length}
 use Rattle.std.specs.Prelude.{map, string_bytes}
-use Rattle.con_outside.specs.Named.{place_in}
+use Rattle.con_outside.specs.Words.Named.{place_in}
 use Rattle.con_outside.proofs.files.place_of.Given as goal
 
 abbrev pub invariant-loop-at : goal.invariant-loop-at

@@ -1,7 +1,7 @@
 -- One more is closed.
 use Rattle.std.proofs.Common.{◌∙◌, sym, ap, slice_set}
 use Rattle.std.proofs.lemmas.List.Edits.{map_over_more}
-use Rattle.con_readers.specs.Reads.{closed_one}
+use Rattle.con_readers.specs.Words.Reads.{closed_one}
 use Rattle.con_readers.specs.declared.open.Open.{Open}
 use Rattle.con_readers.proofs.readers.close_reads.Goals as goal
 

@@ -1,5 +1,5 @@
 -- The place, or the length.
-use Rattle.con_readers.specs.Reads.{is_of}
+use Rattle.con_readers.specs.Words.Reads.{is_of}
 use Rattle.con_readers.proofs.Places.{place_some, place_none}
 use Rattle.con_readers.proofs.readers.find_place.Goals as goal
 

@@ -1,7 +1,7 @@
 -- The first one that is not done moves on, or there is none.
 use Rattle.std.proofs.Common.{◌∙◌, ap, slice_set, refl}
-use Rattle.con_readers.specs.Act.{told}
-use Rattle.con_readers.specs.Reads.{Pumped}
+use Rattle.con_readers.specs.Words.Act.{told}
+use Rattle.con_readers.specs.Words.Reads.{Pumped}
 use Rattle.con_readers.proofs.First.{stepped, at_first, pumped-none}
 use Rattle.con_readers.proofs.readers.pump_reads.Goals as goal
 

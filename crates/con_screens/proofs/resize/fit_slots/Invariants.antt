@@ -1,5 +1,5 @@
 use Rattle.std.proofs.Common.{◌≡◌, ◌≤◌, ◌<◌, ℕ, None, length, get_or, vec_capacity}
-use Rattle.con_screens.specs.Resize.{IsSlotFit}
+use Rattle.con_screens.specs.Words.Resize.{IsSlotFit}
 use Rattle.con_screens.proofs.resize.fit_slots.Given as goal
 
 abbrev pub invariant-loop-at : goal.invariant-loop-at

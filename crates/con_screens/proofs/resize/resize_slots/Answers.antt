@@ -1,6 +1,6 @@
 use Rattle.std.proofs.Common.{rules, ◌≡◌, ◌<◌, ◌≤◌, None, Option, length, get_or, sym, ap, subst, ◌∙◌, refl}
 use Rattle.con_screens.specs.Slot.{HasPages}
-use Rattle.con_screens.specs.Resize.{IsSlotFit}
+use Rattle.con_screens.specs.Words.Resize.{IsSlotFit}
 use Rattle.con_screens.specs.declared.buffer.Buffer.{Buffer}
 use Rattle.con_screens.specs.declared.fits.BufferFit.{BufferFit}
 use Rattle.con_screens.proofs.ResizeLemmas.{resized_first, resized_more, resized_all, resized_pages, slot_taken, fit_taken}

@@ -1,6 +1,7 @@
 use Rattle.std.proofs.Common.{ℕ, ◌+◌, ◌<◌, subst, arith}
 use Rattle.std.proofs.lemmas.Bool.Decides.{nat_tests}
-use Rattle.con_grid.specs.Picture.{Picture, IsUntouched}
+use Rattle.con_grid.specs.Picture.{Picture}
+use Rattle.con_grid.specs.Words.Picture.{IsUntouched}
 use Rattle.con_screens.specs.StampLaws.{as_shown}
 use Rattle.con_screens.proofs.shows.is_stamped.Goals as goal
 

@@ -1,7 +1,7 @@
 use Rattle.std.proofs.Common.{◌≡◌, ◌↔◌, ℕ, ◌+◌, ◌<◌, true, List, sym, subst}
 use Rattle.con_units.specs.Glyph.{Glyph}
 use Rattle.con_units.specs.View.{row_of, row_part}
-use Rattle.con_grid.specs.Picture.{IsUntouched}
+use Rattle.con_grid.specs.Words.Picture.{IsUntouched}
 use Rattle.con_screens.specs.View.{rows_in}
 use Rattle.con_screens.proofs.ShowsLemmas.{known_rows, other_frame, by_rows}
 use Rattle.con_screens.proofs.shows.shows_view.Goals as goal

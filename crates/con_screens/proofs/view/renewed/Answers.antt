@@ -1,7 +1,7 @@
 use Rattle.std.proofs.Common.{◌≡◌, ℕ, ◌+◌, ◌<◌, List, length, ap, ◌∙◌, sym, subst}
 use Rattle.con_units.specs.Glyph.{Glyph}
 use Rattle.con_units.specs.View.{row_of, row_part}
-use Rattle.con_grid.specs.Picture.{IsUntouched}
+use Rattle.con_grid.specs.Words.Picture.{IsUntouched}
 use Rattle.con_screens.proofs.ShowsLemmas.{known_rows, window_is}
 use Rattle.con_screens.proofs.view.renewed.Goals as goal
 

@@ -1,6 +1,6 @@
 use Rattle.std.proofs.Common.{sym, ◌∙◌, [], true}
 use Rattle.con_link.specs.LinkReading.{mirrored}
-use Rattle.con_session.specs.Second.{Seconded}
+use Rattle.con_session.specs.Words.Second.{Seconded}
 use Rattle.con_session.proofs.Beginning.{all_follow}
 use Rattle.con_session.specs.TiedLaws.{tied_ran}
 use Rattle.con_session.proofs.LastGiven.{followed_paint, followed_ran, followed_still, pictured_since}

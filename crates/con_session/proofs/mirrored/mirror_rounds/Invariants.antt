@@ -7,8 +7,8 @@ use Rattle.con_laws.specs.Rounds.{Begun}
 use Rattle.con_machine.specs.Turns.{paints}
 use Rattle.con_session.specs.Held.{moment}
 use Rattle.con_session.specs.Painting.{IsTied}
-use Rattle.con_session.specs.Sender.{FailsBy}
-use Rattle.con_session.specs.Second.{IsFollowed, Seconded}
+use Rattle.con_session.specs.Words.Sender.{FailsBy}
+use Rattle.con_session.specs.Words.Second.{IsFollowed, Seconded}
 use Rattle.con_session.specs.Solo.{GoesBy, fails_at}
 use Rattle.con_session.proofs.mirrored.mirror_rounds.Given as goal
 

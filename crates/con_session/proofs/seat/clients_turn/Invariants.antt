@@ -1,7 +1,7 @@
 -- The clients before k had their turns.
 use Rattle.std.proofs.Common.{Ok}
 use Rattle.con_laws.specs.Rounds.{Begun}
-use Rattle.con_session.specs.Desk.{Ran}
+use Rattle.con_session.specs.Words.Desk.{Ran}
 use Rattle.con_session.specs.Held.{AllStand, ClientsTurn}
 use Rattle.con_session.proofs.seat.clients_turn.Given as goal
 

@@ -6,7 +6,7 @@ use Rattle.con_laws.specs.Rounds.{Begun}
 use Rattle.con_machine.specs.Turns.{paints}
 use Rattle.con_session.specs.Held.{moment}
 use Rattle.con_session.specs.Painting.{IsTied}
-use Rattle.con_session.specs.Sender.{FailsBy}
+use Rattle.con_session.specs.Words.Sender.{FailsBy}
 use Rattle.con_session.specs.Solo.{Goes, fails_at}
 use Rattle.con_session.proofs.solo.rounds.Given as goal
 

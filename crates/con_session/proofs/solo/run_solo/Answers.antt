@@ -1,6 +1,6 @@
 use Rattle.std.proofs.Common.{None}
 use Rattle.con_link.specs.LinkReading.{plainly}
-use Rattle.con_session.specs.Sender.{NoMore}
+use Rattle.con_session.specs.Words.Sender.{NoMore}
 use Rattle.con_session.specs.Solo.{begins}
 use Rattle.con_session.proofs.Ending.{handed_none, handed_stops, handed_whole, term_by}
 use Rattle.con_session.proofs.Beginning.{all_follow, count_of, goes_open, going_open}

@@ -3,7 +3,7 @@ use Rattle.con_outside.specs.Laws.{then_left-none}
 use Rattle.con_term.specs.Terminal.{Terminal}
 use Rattle.con_term.specs.Play.{play}
 use Rattle.con_ending.specs.Laws.{lost_by, never_after, reported_of}
-use Rattle.con_text.specs.Playing.{dump_bytes}
+use Rattle.con_text.specs.Words.Playing.{dump_bytes}
 use Rattle.con_text.proofs.playing.host_play.Goals as goal
 
 pub returns-in_default-clause-outcome : goal.returns-in_default-clause-outcome

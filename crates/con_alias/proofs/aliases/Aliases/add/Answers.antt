@@ -5,8 +5,9 @@ use Rattle.std.specs.Option.{option_copied_mut, option_map}
 use Rattle.std.specs.Map.{lookup, set_value}
 use Rattle.indexmap.specs.IndexMap.{insert_entry, spare as map_spare}
 use Rattle.indexmap.proofs.CallerLemmas.{insert_entry-new}
-use Rattle.con_units.specs.Units.{same_units}
-use Rattle.con_alias.specs.Aliases.{AliasList, entry_of, empty_list, is_bad, is_known}
+use Rattle.con_units.specs.Words.Units.{same_units}
+use Rattle.con_alias.specs.Aliases.{AliasList, is_bad}
+use Rattle.con_alias.specs.Words.Aliases.{entry_of, empty_list, is_known}
 use Rattle.con_alias.specs.Room.{AliasTable, Prepared, Listed, listed, has_room}
 use Rattle.con_alias.proofs.Lists.{Lists, sought, known-found, known-none, room-found, room-none, same_some}
 use Rattle.con_alias.proofs.Tables.{added-found, added-none, add_answer-found, add_answer-none, room_for-new, room_for-list}

@@ -1,7 +1,8 @@
 -- The program is known or fresh.
 use Rattle.std.proofs.Common.{◌≡◌, ℕ, List, true, false, is_some, ap, sym, ◌∙◌}
 use Rattle.std.specs.Map.{lookup}
-use Rattle.con_alias.specs.Aliases.{is_bad, is_known, empty_list}
+use Rattle.con_alias.specs.Aliases.{is_bad}
+use Rattle.con_alias.specs.Words.Aliases.{is_known, empty_list}
 use Rattle.con_alias.specs.Room.{lists_of, listed}
 use Rattle.con_alias.proofs.Lists.{Lists, sought, known-lists}
 use Rattle.con_alias.proofs.Tables.{room-known, room-fresh}

@@ -2,7 +2,8 @@
 use Rattle.std.proofs.Common.{◌≡◌, ℕ, ◌≤◌, List, not, is_some, length, false, ap, sym, ◌∙◌, arith, subst, OnOk}
 use Rattle.std.specs.Map.{lookup}
 use Rattle.indexmap.specs.IndexMap.{insert_entry}
-use Rattle.con_alias.specs.Aliases.{Entry, entry_of, same_name, is_full, put_entry}
+use Rattle.con_alias.specs.Aliases.{Entry, same_name, is_full, put_entry}
+use Rattle.con_alias.specs.Words.Aliases.{entry_of}
 use Rattle.con_alias.specs.Room.{entries_of}
 use Rattle.con_alias.proofs.Entries.{put-entries, full-new, full-fewer, full-known, with-full, with-placed}
 use Rattle.con_alias.proofs.program.ProgramAliases.add.Goals as goal

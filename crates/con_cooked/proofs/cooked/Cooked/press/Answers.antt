@@ -1,11 +1,13 @@
 -- A key that is not masked acts by the table.
 use Rattle.std.proofs.Common.{◌≡◌, ◌∙◌, ◌++◌, ◌∷◌, [], ℕ, false, ap, refl, rules}
-use Rattle.con_line.specs.Line.{LineText, edit_between}
+use Rattle.con_line.specs.Line.{LineText}
+use Rattle.con_line.specs.Words.Line.{edit_between}
 use Rattle.con_line.specs.declared.edit.Edit.{Edit}
 use Rattle.con_history.specs.Histories.{lines_of}
 use Rattle.con_cooked.specs.Keys.{key_of}
 use Rattle.con_cooked.specs.Mask.{is_masked}
-use Rattle.con_cooked.specs.Cooked.{Edited, Moment, CookedRead, key_pressed, echo_between}
+use Rattle.con_cooked.specs.Cooked.{Edited, Moment, CookedRead, key_pressed}
+use Rattle.con_cooked.specs.Words.Cooked.{echo_between}
 use Rattle.con_cooked.specs.Parts.{opened, line_after}
 use Rattle.con_cooked.specs.declared.keys.LineKey.{LineKey}
 use Rattle.con_cooked.proofs.Waking.{not-masked_of, pressed-unmasked, woken-last, progress-unmasked, echo_of}

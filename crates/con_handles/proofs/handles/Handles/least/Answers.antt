@@ -1,6 +1,6 @@
 use Rattle.std.proofs.Common.{rules, ap, ◌∙◌, List, Option}
 use Rattle.con_handles.specs.declared.handle.Held.{Held}
-use Rattle.con_handles.specs.Handles.{least_of}
+use Rattle.con_handles.specs.Words.Handles.{least_of}
 use Rattle.con_handles.specs.Places.{listed}
 use Rattle.con_handles.proofs.Tables.{table_of, least_at}
 use Rattle.con_handles.proofs.handles.Handles.least.Goals as goal

@@ -1,7 +1,7 @@
 -- The limit is reached exactly at 64.
 use Rattle.std.proofs.Common.{rules, ◌∙◌, ap, List, Option}
 use Rattle.con_handles.specs.declared.handle.Held.{Held}
-use Rattle.con_handles.specs.Handles.{least_free}
+use Rattle.con_handles.specs.Words.Handles.{least_free}
 use Rattle.con_handles.specs.Places.{listed}
 use Rattle.con_handles.proofs.Counting.{limit_for, number_past, number_found}
 use Rattle.con_handles.proofs.Tables.{table_of}

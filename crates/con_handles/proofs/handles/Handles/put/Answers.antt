@@ -1,5 +1,5 @@
 use Rattle.std.proofs.Common.{ap, ◌∙◌}
-use Rattle.con_handles.specs.Handles.{Table}
+use Rattle.con_handles.specs.Words.Handles.{Table}
 use Rattle.con_handles.specs.Places.{handle_of}
 use Rattle.con_handles.specs.Tables.{tally, on}
 use Rattle.con_handles.specs.CountLaws.{tally_entered}

@@ -1,5 +1,5 @@
 use Rattle.std.proofs.Common.{ap, ◌∙◌, ◌+◌, cond}
-use Rattle.con_handles.specs.Handles.{Table}
+use Rattle.con_handles.specs.Words.Handles.{Table}
 use Rattle.con_handles.specs.Tables.{tally, on}
 use Rattle.con_handles.specs.CountLaws.{tally_without}
 use Rattle.con_handles.proofs.handles.Handles.remove.Goals as goal

@@ -1,8 +1,8 @@
 -- Lines stay short.
 use Rattle.std.proofs.Common.{◌++◌, ◌∷◌, [], All, not}
 use Rattle.std.proofs.lemmas.List.Elements.{All-filter, All-append}
-use Rattle.con_units.specs.Units.{same_units}
-use Rattle.con_history.specs.Histories.{IsShort}
+use Rattle.con_units.specs.Words.Units.{same_units}
+use Rattle.con_history.specs.Words.Histories.{IsShort}
 use Rattle.con_history.proofs.Keeps.{All-newest, All-one}
 use Rattle.con_history.proofs.history.History.add.Goals as goal
 use Rattle.con_history.proofs.history.History.add.Goals.{then-no_duplicates, else-no_duplicates}

@@ -1,5 +1,5 @@
 use Rattle.std.proofs.Common.{ap, ◌∙◌, List, ℕ, arith}
-use Rattle.con_units.specs.Units.{first_difference}
+use Rattle.con_units.specs.Words.Units.{first_difference}
 use Rattle.con_line.proofs.Differences.{edit_is, first_difference-empty}
 use Rattle.con_line.proofs.line.Line.clear.Goals as goal
 

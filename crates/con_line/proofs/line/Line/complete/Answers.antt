@@ -1,5 +1,5 @@
 use Rattle.std.proofs.Common.{◌≡◌, ◌+◌, ◌-◌, take, drop, ap, sym, ◌∙◌, List, ℕ, arith, length}
-use Rattle.con_units.specs.Units.{first_difference}
+use Rattle.con_units.specs.Words.Units.{first_difference}
 use Rattle.con_line.proofs.Differences.{edit_is, first_difference-kept, rest_whole}
 use Rattle.con_line.proofs.line.Line.complete.Goals as goal
 

@@ -1,6 +1,6 @@
 use Rattle.std.proofs.Common.{◌≡◌, ◌+◌, ◌-◌, ◌<◌, ◌==◌, ap, ◌∙◌, List, ℕ, arith, get_or, length, rules}
 use Rattle.std.proofs.lemmas.List.{get_or_default}
-use Rattle.con_units.specs.Units.{first_difference}
+use Rattle.con_units.specs.Words.Units.{first_difference}
 use Rattle.con_line.specs.Line.{on_while}
 use Rattle.con_line.proofs.Differences.{edit_is, first_difference-remove}
 use Rattle.con_line.proofs.line.Line.erase.Goals as goal

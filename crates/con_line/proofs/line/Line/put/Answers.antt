@@ -1,6 +1,6 @@
 use Rattle.std.proofs.Common.{◌≡◌, ◌<◌, ◌≤◌, ap, ◌∙◌, List, ℕ, arith, length, get_or, slice_set, rules}
 use Rattle.std.proofs.lemmas.List.{get_or_default}
-use Rattle.con_units.specs.Units.{first_difference}
+use Rattle.con_units.specs.Words.Units.{first_difference}
 use Rattle.con_line.proofs.Differences.{edit_is, first_difference-set_same, first_difference-set_other, first_difference-insert}
 use Rattle.con_line.proofs.line.Line.put.Goals as goal
 use Rattle.con_line.proofs.line.Line.put.Goals.{then-same, else-same}

@@ -1,5 +1,5 @@
 use Rattle.std.proofs.Common.{◌≡◌, ◌≤◌, length, take, vec_len, vec_capacity}
-use Rattle.con_machine.specs.CellCalls.{paired}
+use Rattle.con_machine.specs.Words.CellCalls.{paired}
 use Rattle.con_machine.proofs.calls.cell_calls.cells_in_each.Given as goal
 
 abbrev pub invariant-loop-i : goal.invariant-loop-i

@@ -1,7 +1,8 @@
 use Rattle.std.proofs.Common.{List, ◌∙◌, ap, sym}
 use Rattle.con_machine.specs.Held.{Held}
-use Rattle.con_machine.specs.Reads.{part_left}
-use Rattle.con_machine.specs.State.{State, has_rest}
+use Rattle.con_machine.specs.Words.Reads.{part_left}
+use Rattle.con_machine.specs.State.{State}
+use Rattle.con_machine.specs.Words.State.{has_rest}
 use Rattle.con_machine.specs.declared.reads.rest.Rest.{Rest}
 use Rattle.con_machine.proofs.Resting.{no_rest}
 use Rattle.con_machine.proofs.console.Console.cut_line.Goals as goal

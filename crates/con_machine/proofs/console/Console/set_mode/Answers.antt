@@ -4,7 +4,7 @@ use Rattle.con_handles.specs.declared.handle.Object.TheVariants as object
 use Rattle.con_handles.specs.declared.handle.Object.{Object}
 use Rattle.con_machine.specs.Held.{Held, state_of}
 use Rattle.con_machine.specs.Outcome.{guard}
-use Rattle.con_machine.specs.ScreenCalls.{set_mode}
+use Rattle.con_machine.specs.Words.ScreenCalls.{set_mode}
 use Rattle.con_machine.proofs.Choices.{mode_is_set}
 use Rattle.con_machine.proofs.console.Console.set_mode.Goals as goal
 

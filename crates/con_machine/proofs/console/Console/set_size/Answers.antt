@@ -4,7 +4,7 @@ use Rattle.con_handles.specs.declared.handle.Object.TheVariants as object
 use Rattle.con_screens.specs.Buffers.{Buffers}
 use Rattle.con_machine.specs.Held.{Held, state_of}
 use Rattle.con_machine.specs.Outcome.{Outcome, guard}
-use Rattle.con_machine.specs.ScreenCalls.{set_size}
+use Rattle.con_machine.specs.Words.ScreenCalls.{set_size}
 use Rattle.con_machine.proofs.Choices.{size_is_set}
 use Rattle.con_machine.proofs.console.Console.set_size.Goals as goal
 

@@ -1,6 +1,6 @@
 -- What is still to be served comes to the same, and there is less of it.
 use Rattle.std.proofs.Common.{◌≡◌}
-use Rattle.con_readers.specs.Reads.{work}
+use Rattle.con_readers.specs.Words.Reads.{work}
 use Rattle.con_machine.specs.Serving.{settled_state}
 use Rattle.con_machine.proofs.console.Console.settle.Given as goal
 

@@ -3,7 +3,7 @@ use Rattle.std.proofs.Common.{◌≡◌, ◌∙◌, ◌++◌, List, Option, ap, 
 use Rattle.con_units.specs.Split.{next}
 use Rattle.con_records.specs.declared.record.Key.{Key}
 use Rattle.con_mouse.specs.declared.report.Report.{Report}
-use Rattle.con_vtin.specs.Keys.{grammar}
+use Rattle.con_vtin.specs.Words.Keys.{grammar}
 use Rattle.con_machine.specs.Feeding.{byte_taken, report_taken_in}
 use Rattle.con_machine.specs.Held.{state_of}
 use Rattle.con_machine.specs.State.{State}

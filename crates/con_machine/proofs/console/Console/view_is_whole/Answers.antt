@@ -1,8 +1,8 @@
 use Rattle.std.proofs.Common.{◌≡◌, subst}
 use Rattle.con_screens.specs.LentLaws.{screen_has}
 use Rattle.con_screens.specs.ViewLaws.{whole_view}
-use Rattle.con_units.specs.Limits.{IsWindow}
-use Rattle.con_units.specs.View.{IsWhole}
+use Rattle.con_units.specs.Words.Limits.{IsWindow}
+use Rattle.con_units.specs.Words.View.{IsWhole}
 use Rattle.con_machine.specs.Held.{Held}
 use Rattle.con_machine.specs.Painting.{view_now}
 use Rattle.con_machine.proofs.console.Console.view_is_whole.Goals as goal

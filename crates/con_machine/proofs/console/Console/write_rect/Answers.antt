@@ -4,7 +4,8 @@ use Rattle.con_handles.specs.declared.handle.Object.TheVariants as object
 use Rattle.con_screens.specs.Buffers.{Buffers}
 use Rattle.con_rects.specs.Rules.{rect_written}
 use Rattle.con_units.specs.Glyph.{Glyph}
-use Rattle.con_machine.specs.CellCalls.{are_cells, cells_at, cells_left, wrote_rect}
+use Rattle.con_machine.specs.CellCalls.{are_cells}
+use Rattle.con_machine.specs.Words.CellCalls.{cells_at, cells_left, wrote_rect}
 use Rattle.con_machine.specs.Held.{Held, state_of}
 use Rattle.con_machine.specs.Outcome.{Outcome, guard}
 use Rattle.con_machine.proofs.Choices.{rect_is_by}

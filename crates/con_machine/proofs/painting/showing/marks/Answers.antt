@@ -1,6 +1,6 @@
 use Rattle.std.proofs.Common.{◌∙◌, ◌+◌, ℕ, ap, length-append, rules}
 use Rattle.con_screens.specs.Buffers.{screen_at}
-use Rattle.con_screens.specs.Stamps.{IsAsShown}
+use Rattle.con_screens.specs.Words.Stamps.{IsAsShown}
 use Rattle.con_machine.proofs.Knows.{every_more, one_more}
 use Rattle.con_machine.proofs.painting.showing.marks.Goals as goal
 

@@ -1,6 +1,6 @@
 use Rattle.std.proofs.Common.{◌≡◌, ℕ, ◌<◌, ◌≤◌, true, false, length, replicate, slice_index_or, vec_capacity}
 use Rattle.con_screens.specs.Buffers.{screen_at}
-use Rattle.con_screens.specs.Stamps.{IsAsShown}
+use Rattle.con_screens.specs.Words.Stamps.{IsAsShown}
 use Rattle.con_machine.proofs.painting.showing.marks.Given as goal
 
 abbrev pub invariant-loop-y : goal.invariant-loop-y

@@ -1,6 +1,6 @@
 use Rattle.std.proofs.Common.{◌≡◌, ℕ, ◌<◌, sym, subst, ap}
 use Rattle.con_screens.specs.Buffers.{Buffers}
-use Rattle.con_machine.specs.ScreenCalls.{page_at}
+use Rattle.con_machine.specs.Words.ScreenCalls.{page_at}
 use Rattle.con_machine.specs.Sound.{AreCounted}
 use Rattle.con_machine.proofs.Knows.{stamped_is, stamped_seen}
 use Rattle.con_machine.proofs.Lent.{lent_counts}

@@ -2,7 +2,7 @@ use Rattle.std.proofs.Common.{sym, subst}
 use Rattle.con_units.specs.declared.view.View.{View}
 use Rattle.con_page.specs.Sides.{sides}
 use Rattle.con_screens.specs.Buffers.{screen_at}
-use Rattle.con_screens.specs.Stamps.{WasShown}
+use Rattle.con_screens.specs.Words.Stamps.{WasShown}
 use Rattle.con_machine.proofs.Knows.{known_was}
 use Rattle.con_machine.proofs.painting.showing.view_behind.Goals as goal
 

@@ -1,7 +1,7 @@
 -- The note at its place.
 use Rattle.std.proofs.Common.{◌≤◌, length, arith}
 use Rattle.std.specs.List.{position_or_len}
-use Rattle.con_machine.specs.State.{is_noted}
+use Rattle.con_machine.specs.Words.State.{is_noted}
 use Rattle.con_machine.proofs.Places.{found-there, find-past}
 use Rattle.con_machine.proofs.reads.notes.note_of.Goals as goal
 

@@ -1,4 +1,4 @@
-use Rattle.con_machine.specs.State.{is_noted}
+use Rattle.con_machine.specs.Words.State.{is_noted}
 use Rattle.con_machine.proofs.Places.{place-found, place-none}
 use Rattle.con_machine.proofs.reads.notes.place_of.Goals as goal
 

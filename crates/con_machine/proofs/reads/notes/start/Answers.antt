@@ -1,8 +1,8 @@
 -- The note at its place was changed.
 use Rattle.std.proofs.Common.{◌≤◌, length, arith}
 use Rattle.std.specs.List.{position_or_len}
-use Rattle.con_machine.specs.State.{is_noted}
-use Rattle.con_machine.specs.Serving.{cell_before}
+use Rattle.con_machine.specs.Words.State.{is_noted}
+use Rattle.con_machine.specs.Words.Serving.{cell_before}
 use Rattle.con_machine.specs.declared.reads.noted.Noted.{Noted}
 use Rattle.con_machine.proofs.Places.{changed-set, changed-past}
 use Rattle.con_machine.proofs.reads.notes.start.Goals as goal

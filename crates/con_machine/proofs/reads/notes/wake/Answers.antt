@@ -1,7 +1,7 @@
 -- The note at its place was changed.
 use Rattle.std.proofs.Common.{◌≤◌, true, length, arith}
 use Rattle.std.specs.List.{position_or_len}
-use Rattle.con_machine.specs.State.{is_noted}
+use Rattle.con_machine.specs.Words.State.{is_noted}
 use Rattle.con_machine.specs.declared.reads.noted.Noted.{Noted}
 use Rattle.con_machine.proofs.Places.{changed-set, changed-past}
 use Rattle.con_machine.proofs.reads.notes.wake.Goals as goal

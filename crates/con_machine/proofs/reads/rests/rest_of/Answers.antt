@@ -1,7 +1,8 @@
 -- The rest at its place.
 use Rattle.std.proofs.Common.{◌≤◌, ◌∙◌, length, ap, arith}
 use Rattle.std.specs.List.{position_or_len}
-use Rattle.con_machine.specs.State.{is_rest_of, units_of}
+use Rattle.con_machine.specs.State.{is_rest_of}
+use Rattle.con_machine.specs.Words.State.{units_of}
 use Rattle.con_machine.proofs.Places.{found-read, find-past}
 use Rattle.con_machine.proofs.reads.rests.rest_of.Goals as goal
 

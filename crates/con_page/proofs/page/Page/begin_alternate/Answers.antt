@@ -1,6 +1,7 @@
 use Rattle.std.proofs.Common.{◌≡◌, ◌*◌, replicate, List, ap, ap₂, sym, subst, ◌∙◌}
 use Rattle.con_units.specs.Glyph.{Glyph}
-use Rattle.con_page.specs.Page.{Page, IsPage, blank}
+use Rattle.con_page.specs.Page.{Page, blank}
+use Rattle.con_page.specs.Words.Page.{IsPage}
 use Rattle.con_page.specs.PageView.{page_of}
 use Rattle.con_page.specs.Setters.{default_tabs}
 use Rattle.con_page.specs.Alternate.{alternate_page}

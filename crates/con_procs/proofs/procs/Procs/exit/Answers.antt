@@ -3,7 +3,8 @@ use Rattle.std.specs.Prelude.{slice_get}
 use Rattle.con_procs.proofs.Changes.{set_is, attached_some}
 use Rattle.con_procs.specs.declared.proc.Proc.{Proc}
 use Rattle.con_procs.proofs.Programs.{live_at, rank_within, programs_exited}
-use Rattle.con_procs.specs.Procs.{live_in, programs_of}
+use Rattle.con_procs.specs.Procs.{programs_of}
+use Rattle.con_procs.specs.Words.Procs.{live_in}
 use Rattle.con_procs.proofs.procs.Procs.exit.Goals as goal
 
 pub returns : goal.returns

@@ -1,7 +1,7 @@
 -- One more is told.
 use Rattle.std.proofs.Common.{arith, ◌<◌, ◌≤◌, length, ◌∙◌, ap, slice_set}
 use Rattle.std.proofs.lemmas.List.Edits.{map_over_more}
-use Rattle.con_procs.specs.Procs.{told}
+use Rattle.con_procs.specs.Words.Procs.{told}
 use Rattle.con_procs.proofs.Programs.{programs_all, told_keeps}
 use Rattle.con_procs.proofs.procs.Procs.signal.Goals as goal
 

@@ -1,7 +1,8 @@
 -- The first ones are told.
 use Rattle.std.proofs.Common.{◌≡◌, ◌≤◌, vec_len, take, drop, ◌++◌, length}
 use Rattle.std.specs.Prelude.{map}
-use Rattle.con_procs.specs.Procs.{told, programs_of}
+use Rattle.con_procs.specs.Procs.{programs_of}
+use Rattle.con_procs.specs.Words.Procs.{told}
 use Rattle.con_procs.proofs.procs.Procs.signal.Given as goal
 
 abbrev pub invariant-loop-i : goal.invariant-loop-i

@@ -1,6 +1,6 @@
 -- None of the units so far switched.
 use Rattle.std.proofs.Common.{◌≤◌, ◌-◌, length}
-use Rattle.con_page.specs.Page.{IsPage}
+use Rattle.con_page.specs.Words.Page.{IsPage}
 use Rattle.con_screen.proofs.WriteLemmas.{Stands}
 use Rattle.con_screen.proofs.screen.Screen.write.Given as goal
 

@@ -1,6 +1,7 @@
 use Rattle.std.proofs.Common.{◌≡◌, ◌∙◌, ap, sym, take}
 use Rattle.con_screen.specs.Screen.{Screen}
-use Rattle.con_screen.specs.Told.{Told, Answered}
+use Rattle.con_screen.specs.Told.{Told}
+use Rattle.con_screen.specs.Words.Told.{Answered}
 use Rattle.con_screen.specs.Written.{written}
 use Rattle.con_screens.specs.Buffer.{turned}
 use Rattle.con_screens.specs.declared.buffer.Buffer.{Buffer}

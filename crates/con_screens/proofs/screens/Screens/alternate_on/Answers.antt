@@ -1,8 +1,9 @@
 use Rattle.std.proofs.Common.{sym, subst, ap, ◌∙◌}
-use Rattle.con_screens.specs.Buffer.{alternate_on}
-use Rattle.con_screens.specs.Buffers.{Buffers, AreBuffers, IsLive}
+use Rattle.con_screens.specs.Words.Buffer.{alternate_on}
+use Rattle.con_screens.specs.Buffers.{Buffers}
+use Rattle.con_screens.specs.Words.Buffers.{AreBuffers, IsLive}
 use Rattle.con_screens.specs.Views.{buffers_of}
-use Rattle.con_screens.specs.Stamps.{all_remembered}
+use Rattle.con_screens.specs.Words.Stamps.{all_remembered}
 use Rattle.con_screens.proofs.KeepLemmas.{keeps_put, remembers_put}
 use Rattle.con_screens.proofs.screens.Screens.alternate_on.Goals as goal
 

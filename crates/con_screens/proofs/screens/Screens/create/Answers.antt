@@ -2,7 +2,8 @@ use Rattle.std.proofs.Common.{rules, ◌≡◌, ◌<◌, length, Some, set, sym,
 use Rattle.std.proofs.Common.{None}
 use Rattle.std.proofs.lemmas.List.{get_or-set_same}
 use Rattle.con_screens.specs.Buffer.{new_buffer}
-use Rattle.con_screens.specs.Buffers.{Buffers, AreBuffers}
+use Rattle.con_screens.specs.Buffers.{Buffers}
+use Rattle.con_screens.specs.Words.Buffers.{AreBuffers}
 use Rattle.con_screens.specs.Views.{buffers_of}
 use Rattle.con_screens.specs.declared.buffer.Buffer.{Buffer}
 use Rattle.con_screens.proofs.KeepLemmas.{keeps_created}

@@ -1,7 +1,7 @@
 use Rattle.std.proofs.Common.{◌≡◌, ◌∙◌, ap, subst}
 use Rattle.con_screen.specs.Screen.{Screen}
 use Rattle.con_screens.specs.Buffers.{screen_at}
-use Rattle.con_screens.specs.Stamps.{IsAsShown}
+use Rattle.con_screens.specs.Words.Stamps.{IsAsShown}
 use Rattle.con_screens.proofs.screens.Screens.is_marked.Goals as goal
 
 pub returns : goal.returns

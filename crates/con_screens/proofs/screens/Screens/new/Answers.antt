@@ -1,7 +1,8 @@
 use Rattle.std.proofs.Common.{arith, ◌≡◌, ◌+◌, ◌++◌, ◌∷◌, [], List, Option, Some, None, length, replicate, refl, sym, ap, subst, ◌∙◌, ℕ, append-nil, append_assoc}
 use Rattle.std.proofs.lemmas.Grind.{replicate_next}
 use Rattle.con_screens.specs.Buffer.{new_buffer}
-use Rattle.con_screens.specs.Buffers.{Buffers, AreBuffers, first_buffers}
+use Rattle.con_screens.specs.Buffers.{Buffers, first_buffers}
+use Rattle.con_screens.specs.Words.Buffers.{AreBuffers}
 use Rattle.con_screens.specs.declared.buffer.Buffer.{Buffer}
 use Rattle.con_screens.proofs.KeepLemmas.{first_are, long_first}
 use Rattle.con_screens.proofs.screens.Screens.new.Goals as goal

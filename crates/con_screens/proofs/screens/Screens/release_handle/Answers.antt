@@ -1,5 +1,6 @@
 use Rattle.std.proofs.Common.{◌≡◌, sym, subst, ap, ℕ, ◌-◌}
-use Rattle.con_screens.specs.Buffers.{Buffers, AreBuffers, IsLive, with_handles}
+use Rattle.con_screens.specs.Buffers.{Buffers}
+use Rattle.con_screens.specs.Words.Buffers.{AreBuffers, IsLive, with_handles}
 use Rattle.con_screens.specs.Views.{buffers_of}
 use Rattle.std.proofs.Common.{cond}
 use Rattle.std.proofs.lemmas.Bool.{cond-true, cond-false, eq-eqb, ne_eqb}

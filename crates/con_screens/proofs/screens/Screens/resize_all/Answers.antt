@@ -1,8 +1,10 @@
 use Rattle.std.proofs.Common.{◌<◌, ◌≤◌, ℕ, List, Option, None, get_or, sym, subst}
 use Rattle.con_units.specs.declared.place.Size.{Size}
-use Rattle.con_screens.specs.Buffers.{Buffers, AreBuffers, buffer_at}
+use Rattle.con_screens.specs.Buffers.{Buffers, buffer_at}
+use Rattle.con_screens.specs.Words.Buffers.{AreBuffers}
 use Rattle.con_screens.specs.Slot.{HasPages}
-use Rattle.con_screens.specs.Resize.{Fits, all_resized}
+use Rattle.con_screens.specs.Resize.{all_resized}
+use Rattle.con_screens.specs.Words.Resize.{Fits}
 use Rattle.con_screens.specs.Views.{buffers_of}
 use Rattle.con_screens.specs.declared.buffer.Buffer.{Buffer}
 use Rattle.con_screens.proofs.ResizeLemmas.{keeps_resized}

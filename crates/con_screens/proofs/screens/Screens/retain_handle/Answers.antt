@@ -1,7 +1,8 @@
 use Rattle.std.proofs.Common.{sym, ap, ◌∙◌, subst, ℕ, ◌+◌}
-use Rattle.con_screens.specs.Buffers.{Buffers, AreBuffers, IsLive, with_handles}
+use Rattle.con_screens.specs.Buffers.{Buffers}
+use Rattle.con_screens.specs.Words.Buffers.{AreBuffers, IsLive, with_handles}
 use Rattle.con_screens.specs.Views.{buffers_of}
-use Rattle.con_screens.specs.Stamps.{all_remembered}
+use Rattle.con_screens.specs.Words.Stamps.{all_remembered}
 use Rattle.con_screens.proofs.KeepLemmas.{keeps_put, keeps_number, remembers_put}
 use Rattle.con_screens.proofs.screens.Screens.retain_handle.Goals as goal
 

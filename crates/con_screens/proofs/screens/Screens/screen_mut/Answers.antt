@@ -1,6 +1,6 @@
 use Rattle.std.proofs.Common.{◌≡◌, refl, sym, subst}
 use Rattle.con_screen.specs.Screen.{Screen}
-use Rattle.con_screens.specs.Buffer.{HasWindow}
+use Rattle.con_screens.specs.Words.Buffer.{HasWindow}
 use Rattle.con_screens.specs.Buffers.{screen_at}
 use Rattle.con_screens.specs.LentLaws.{screen_has}
 use Rattle.con_screens.proofs.KeepLemmas.{lent_is}

@@ -3,7 +3,8 @@ use Rattle.con_screen.specs.Screen.{Screen}
 use Rattle.con_page.specs.Sides.{sides}
 use Rattle.con_screens.specs.Buffers.{Buffers, screen_at}
 use Rattle.con_screens.specs.View.{view_of}
-use Rattle.con_screens.specs.Stamps.{WasShown, numbered}
+use Rattle.con_screens.specs.Stamps.{numbered}
+use Rattle.con_screens.specs.Words.Stamps.{WasShown}
 use Rattle.con_screens.specs.LentLaws.{screen_has, left_shows}
 use Rattle.con_screens.specs.StampLaws.{raised_shown, raised_view}
 use Rattle.con_screens.proofs.screens.Screens.set_now.Goals as goal

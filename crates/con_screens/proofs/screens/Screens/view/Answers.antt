@@ -1,7 +1,8 @@
 use Rattle.std.proofs.Common.{◌≡◌, sym, subst, Option}
 use Rattle.std.specs.Prelude.{IfSome}
-use Rattle.con_screens.specs.Buffers.{Buffers, IsLive, buffer_at, screen_at}
-use Rattle.con_units.specs.View.{IsWhole}
+use Rattle.con_screens.specs.Buffers.{Buffers, buffer_at, screen_at}
+use Rattle.con_screens.specs.Words.Buffers.{IsLive}
+use Rattle.con_units.specs.Words.View.{IsWhole}
 use Rattle.con_screens.specs.View.{view_of}
 use Rattle.con_screens.specs.Views.{buffers_of}
 use Rattle.con_screens.specs.LentLaws.{screen_has}

@@ -2,7 +2,7 @@ use Rattle.std.proofs.Common.{ap, ◌∙◌, List, ◌++◌, ◌∷◌, []}
 use Rattle.con_events.specs.declared.entry.Entry.{Entry}
 use Rattle.con_machine.specs.State.{State}
 use Rattle.con_machine.specs.Step.{step}
-use Rattle.con_session.specs.Desk.{entry}
+use Rattle.con_session.specs.Words.Desk.{entry}
 use Rattle.con_session.specs.RanLaws.{ran_same, ran_one}
 use Rattle.con_session.proofs.desk.Desk.enter.Goals as goal
 

@@ -1,5 +1,5 @@
 use Rattle.std.proofs.Common.{◌≡◌, ap, ◌∙◌, subst, arith}
-use Rattle.con_text.specs.Typing.{ended, ShowsBuffers}
+use Rattle.con_text.specs.Words.Typing.{ended, ShowsBuffers}
 use Rattle.con_text.proofs.WindowLemmas.{ok_mapped, ended_cut, ended_whole}
 use Rattle.con_text.proofs.typing.Typist.end.Goals as goal
 use Rattle.con_text.proofs.typing.Typist.end.Goals.{then-held-gt0+in_ok-written, else-held-gt0}

@@ -1,7 +1,7 @@
 use Rattle.std.proofs.Common.{List, rules, ap}
 use Rattle.std.specs.Prelude.{not}
 use Rattle.std.proofs.lemmas.Fn.{filter_same}
-use Rattle.con_machine.specs.State.{is_noted}
+use Rattle.con_machine.specs.Words.State.{is_noted}
 use Rattle.con_machine.specs.declared.reads.noted.Noted.{Noted}
 use Rattle.con_machine.proofs.reads.notes.Notes.drop_of.Goals as goal
 

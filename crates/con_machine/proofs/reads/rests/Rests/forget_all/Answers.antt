@@ -1,7 +1,7 @@
 use Rattle.std.proofs.Common.{List, rules, ap}
 use Rattle.std.specs.Prelude.{not}
 use Rattle.std.proofs.lemmas.Fn.{filter_same}
-use Rattle.con_machine.specs.State.{is_rest_by}
+use Rattle.con_machine.specs.Words.State.{is_rest_by}
 use Rattle.con_machine.specs.declared.reads.rest.Rest.{Rest}
 use Rattle.con_machine.proofs.reads.rests.Rests.forget_all.Goals as goal
 

@@ -1,0 +1,5 @@
+-- The words of the code and of laws about the files of the same names in the folder above, which a reader need not believe.
+pub mod Alternate
+pub mod Echo
+pub mod Told
+pub mod Written

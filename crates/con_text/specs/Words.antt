@@ -1,0 +1,4 @@
+-- The words of the code and of laws about the files of the same names in the folder above, which a reader need not believe.
+pub mod Link
+pub mod Playing
+pub mod Typing
