@@ -1,7 +1,7 @@
 #!/usr/bin/env python3
 """Proves a program of the repository with the crates that it stands on, and builds it, by the toolchain's own gate. Outside what is proved.
 
-It is what the launcher `conpty` does at its first call, and how the programs of the benchmarks are built.
+It is what the launcher `conpty` does at its first call, and how the programs of the benchmarks are built; like the other tools it is outside what is proved.
 
     tools/prove.py PROGRAM
 

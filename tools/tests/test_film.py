@@ -163,10 +163,12 @@ class Films(unittest.TestCase):
         with open(link, "rb") as file:
             ran = support.base.run_program(support.PROGRAM, ["solo", session], file.read())
         stream, report = self.path("stream", ran.out), self.path("report", ran.err)
+        ends = [(int(end), at) for at, line in enumerate(ran.err.splitlines(), 1) for end in re.findall(rb'\["painted",(\d+)\]', line)]
+        end, line = ends[3]
         table = [
             (
-                [session, link, self.path("short", ran.out[:70]), report],
-                "line 14: a picture up to byte 71, and the stream has 70",
+                [session, link, self.path("short", ran.out[: end - 1]), report],
+                f"line {line}: a picture up to byte {end}, and the stream has {end - 1}",
             ),
             (
                 [support.example("ctrl_c", "json"), link, stream, report],
