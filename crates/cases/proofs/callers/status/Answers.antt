@@ -11,4 +11,4 @@ pub returns-clause-unshown : goal.returns-clause-unshown
 returns-clause-unshown g c names link stream trace form = (c.console_host.ensures.outcome.audited names link stream trace form).1
 
 pub returns-clause-no_form : goal.returns-clause-no_form
-returns-clause-no_form g c form = (c.console_host.ensures.outcome.usage form).nothing_written
+returns-clause-no_form g c form = (c.console_host.ensures.outcome.usage form).1
