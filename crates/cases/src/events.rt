@@ -13,7 +13,7 @@ use case_lines::fault::{Fault, Wrong};
 use case_lines::line::Line;
 use case_lines::wanted::{Wanted, Way};
 use con_events::{Entry, Event, Reply, Script, Scripts, Session, Steps};
-use con_machine::Console;
+use con_console::Console;
 use con_outside::SureSink;
 use con_trace::{Trace, TraceFault, read, write_entry};
 use con_units::{Bytes, OutOfMemory, Size, Units};

@@ -30,7 +30,7 @@ use crate::verdict::What;
 use crate::watch::Watch;
 use con_copies::same_reply;
 use con_events::{Actor, Entry, Event, Reply, Script, Session, Step};
-use con_machine::Console;
+use con_console::Console;
 use con_units::{Bytes, Frame, OutOfMemory};
 use std::alloc::Global;
 

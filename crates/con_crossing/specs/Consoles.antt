@@ -27,7 +27,8 @@ use Rattle.con_screen.specs.contracts.screen.Screen as screen
 use Rattle.con_screens.specs.contracts.buffer.Buffer as buffer
 use Rattle.con_screens.specs.contracts.screens.Screens as screens
 use Rattle.con_readers.specs.contracts.readers.Readers as readers
-use Rattle.con_machine.specs.contracts.console.Console as console
+use Rattle.con_machine.specs.contracts.parts.Parts as parts
+use Rattle.con_console.specs.contracts.console.Console as console
 
 pub splitter_send : IsSend splitter.the_row
 splitter_send = search (sendable, crosses) depth 40
@@ -60,8 +61,11 @@ ruleset lines_send = (records_records.the_send, history_histories.the_send, alia
 
 ruleset shown_send = (machine_title.the_send, units_view.the_send, machine_seen.the_send)
 
+pub parts_send : IsSend parts.the_row
+parts_send = search (sendable, crosses, clients_send, lines_send, shown_send, screens_send, readers_send) depth 40
+
 pub console_send : IsSend console.the_row
-console_send = search (sendable, crosses, clients_send, lines_send, shown_send, screens_send, readers_send) depth 40
+console_send = search (sendable, crosses, parts_send) depth 40
 
 pub splitter_sync : IsSync splitter.the_row
 splitter_sync = search (sendable, crosses) depth 40
@@ -94,5 +98,8 @@ ruleset lines_sync = (records_records.the_sync, history_histories.the_sync, alia
 
 ruleset shown_sync = (machine_title.the_sync, units_view.the_sync, machine_seen.the_sync)
 
+pub parts_sync : IsSync parts.the_row
+parts_sync = search (sendable, crosses, clients_sync, lines_sync, shown_sync, screens_sync, readers_sync) depth 40
+
 pub console_sync : IsSync console.the_row
-console_sync = search (sendable, crosses, clients_sync, lines_sync, shown_sync, screens_sync, readers_sync) depth 40
+console_sync = search (sendable, crosses, parts_sync) depth 40

@@ -8,7 +8,7 @@ ghost use Rattle.con_text.specs.Playing.{dump_after};
 ghost use Rattle.con_host.specs.Summary.{refusal, refusals, records_left, counts_text, summary_text, window};
 
 use con_events::{Entry, Reply, Session};
-use con_machine::Console;
+use con_console::Console;
 use con_session::Outcome;
 use con_term::Terminal;
 use con_text::dumped;

@@ -4,7 +4,7 @@ use Rattle.con_alias.specs.Room.{Places}
 use Rattle.con_machine.specs.State.{State}
 use Rattle.con_machine.specs.Sound.{IsConsole}
 use Rattle.con_machine.specs.declared.painting.seen.Seen.{Seen}
-use Rattle.con_machine.specs.declared.console.Console.TheInside.{Inside}
+use Rattle.con_machine.specs.declared.parts.Parts.TheInside.{Inside}
 
 -- how many more of each are promised to fit
 pub record Spare : Type 0 where

@@ -5,7 +5,7 @@ ghost use Rattle.con_machine.specs.Call.{called};
 ghost use Rattle.con_machine.specs.CallRooms.{IsCallRoom};
 
 use crate::calls::room_calls::take_answer;
-use crate::console::Console;
+use crate::parts::Parts;
 use crate::rooms::call_room::CallRoom;
 use con_events::{Call, Reply};
 use con_history::HistoryInfo;
@@ -25,7 +25,7 @@ pub(crate) mod setters;
 pub(crate) mod sizing;
 pub(crate) mod writing;
 
-impl Console {
+impl Parts {
     /// A call of an attached client.
     #[tactic(auto, unfolding(crate::specs::Call::called, crate::specs::CallRooms::IsCallRoom))]
     pub(crate) fn call(&mut self, p: u8, call: &Call, room: &mut CallRoom) -> Reply

@@ -8,13 +8,13 @@ ghost use Rattle.con_machine.specs.Reads.{began_read, began, collected};
 ghost use Rattle.con_machine.specs.Words.Reads.{began_read_input};
 ghost use Rattle.con_machine.specs.Step.{is_clients, is_due, effect};
 
-use crate::console::Console;
+use crate::parts::Parts;
 use crate::rooms::client_room::ClientRoom;
 use con_events::{Call, Event, Reply, Wanted};
 use con_units::OutOfMemory;
 use std::mem;
 
-impl Console {
+impl Parts {
     // Room for one read more, and for what is noted and left of it.
     fn read_places(&mut self) -> Result<(), OutOfMemory>
         ensures state { self.new.state ≡ self.old.state }
@@ -69,7 +69,7 @@ impl Console {
     /// Takes all memory that an event of an attached client needs. The state stays as it was, also where there was no
     /// memory.
     #[tactic(auto, unfolding(crate::specs::ClientRooms::IsClientRoom))]
-    pub(crate) fn client_room(&mut self, p: u8, event: &Event) -> Result<ClientRoom, OutOfMemory>
+    pub fn client_room(&mut self, p: u8, event: &Event) -> Result<ClientRoom, OutOfMemory>
         requires attached { is_attached self.old.state.procs p ≡ true }
         ensures state { self.new.state ≡ self.old.state }
         ensures room { IfOk result (λ room. IsClientRoom self.new p event.now room) }
@@ -82,7 +82,8 @@ impl Console {
         }
     }
 
-    fn call_in(&mut self, p: u8, call: &Call, room: &mut ClientRoom) -> Reply
+    /// A call, with its memory.
+    pub fn call_in(&mut self, p: u8, call: &Call, room: &mut ClientRoom) -> Reply
         requires attached { is_attached self.old.state.procs p ≡ true }
         requires room { IsRoomOfCall self.old p call.now room.old }
         ensures state { self.new.state ≡ (called self.old.state p call.now).after }
@@ -98,7 +99,8 @@ impl Console {
         }
     }
 
-    fn begin_read_in(
+    /// `ReadConsole`, with its memory.
+    pub fn begin_read_in(
         &mut self,
         p: u8,
         h: u32,
@@ -118,7 +120,8 @@ impl Console {
         }
     }
 
-    fn begin_records_in(&mut self, p: u8, h: u32, n: u32, room: &mut ClientRoom) -> Reply
+    /// `ReadConsoleInput`, with its memory.
+    pub fn begin_records_in(&mut self, p: u8, h: u32, n: u32, room: &mut ClientRoom) -> Reply
         requires { IsRecordsRoom self.old p h n room.old }
         ensures state { self.new.state ≡ (began_read_input self.old.state p h n).after }
         ensures reply { result ≡ (began_read_input self.old.state p h n).reply }
@@ -129,26 +132,8 @@ impl Console {
         }
     }
 
-    #[tactic(auto, unfolding(crate::specs::Reads::began))]
-    fn begin(&mut self, p: u8, wanted: &Wanted, room: &mut ClientRoom) -> Reply
-        requires attached { is_attached self.old.state.procs p ≡ true }
-        requires room { IsBeginRoom self.old p wanted.now room.old }
-        ensures state { self.new.state ≡ (began self.old.state p wanted.now).after }
-        ensures reply { result ≡ (began self.old.state p wanted.now).reply }
-    {
-        match wanted {
-            Wanted::Read { handle, n } => self.begin_read_in(p, *handle, *n, &[], 0, room),
-            Wanted::ReadInput { handle, n } => self.begin_records_in(p, *handle, *n, room),
-            Wanted::ReadWith {
-                handle,
-                n,
-                initial,
-                mask,
-            } => self.begin_read_in(p, *handle, *n, initial.as_slice(), *mask, room),
-        }
-    }
-
-    fn collect_in(&mut self, p: u8, room: &mut ClientRoom) -> Reply
+    /// The answer of the read of a client, which is done, with its memory.
+    pub fn collect_in(&mut self, p: u8, room: &mut ClientRoom) -> Reply
         requires done { has_done self.old.state.reads p ≡ true }
         requires room { IsBackRoom self.old p room.old }
         ensures state { self.new.state ≡ (collected self.old.state p).after }
@@ -156,29 +141,6 @@ impl Console {
     {
         match mem::replace(room, ClientRoom::Nothing) {
             ClientRoom::Back(back) => self.collect(p, back),
-            _ => unreachable!(),
-        }
-    }
-
-    /// An event of an attached client.
-    #[tactic(auto, unfolding(crate::specs::ClientRooms::IsClientRoom, crate::specs::Step::is_due, crate::specs::Step::effect))]
-    pub(crate) fn client(&mut self, p: u8, event: &Event, room: &mut ClientRoom) -> Reply
-        requires attached { is_attached self.old.state.procs p ≡ true }
-        requires clients { is_clients event.now ≡ true }
-        requires due { is_due self.old.state p event.now ≡ true }
-        requires room { IsClientRoom self.old p event.now room.old }
-        ensures state { self.new.state ≡ (effect self.old.state p event.now).after }
-        ensures reply { result ≡ (effect self.old.state p event.now).reply }
-    {
-        match event {
-            Event::Call(call) => self.call_in(p, call, room),
-            Event::Begin(wanted) => self.begin(p, wanted, room),
-            Event::Collect => self.collect_in(p, room),
-            Event::TakeCtrl => self.take_ctrl(p),
-            Event::Exit(status) => {
-                self.leave(p, *status);
-                Reply::Done
-            }
             _ => unreachable!(),
         }
     }

@@ -4,7 +4,7 @@ ghost use Rattle.con_procs.specs.Procs.{is_attached, ids_of};
 ghost use Rattle.con_readers.specs.Reads.{has_undone};
 ghost use Rattle.con_machine.specs.Closing.{hung_up, closing, all_wait};
 
-use crate::console::Console;
+use crate::parts::Parts;
 use con_procs::Procs;
 use con_readers::Readers;
 
@@ -29,7 +29,7 @@ fn all_wait(procs: &Procs, readers: &Readers) -> bool
     true
 }
 
-impl Console {
+impl Parts {
     /// Each attached process has a close event pending, and each read that is not done ends. It happens once.
     pub(crate) fn hang_up(&mut self)
         ensures state { self.new.state ≡ hung_up self.old.state }
@@ -45,7 +45,7 @@ impl Console {
 
     /// Closes the console where nothing more comes from the link and each attached process waits for input.
     #[tactic(auto, unfolding(crate::specs::Closing::closing))]
-    pub(crate) fn close_if_idle(&mut self)
+    pub fn close_if_idle(&mut self)
         ensures state { self.new.state ≡ closing self.old.state }
         ensures spare { self.new.spare ≡ self.old.spare }
     {

@@ -11,8 +11,8 @@ ghost use Rattle.con_machine.specs.Words.Reads.{released_all};
 ghost use Rattle.con_machine.specs.Sound.{AreCounted, IsPainted};
 
 use crate::calls::counting;
-use crate::console::Console;
 use crate::painting::seen::{Seen, without};
+use crate::parts::Parts;
 use con_events::Reply;
 use con_handles::Handles;
 use con_screens::Screens;
@@ -42,10 +42,10 @@ fn release_all(
     seen
 }
 
-impl Console {
+impl Parts {
     /// The client exits: its read goes, and each of its handles is closed.
     #[tactic(auto, unfolding(crate::specs::Reads::left))]
-    pub(crate) fn leave(&mut self, p: u8, status: u32)
+    pub fn leave(&mut self, p: u8, status: u32)
         requires { is_attached self.old.state.procs p ≡ true }
         ensures state { self.new.state ≡ left self.old.state p status }
     {
@@ -58,7 +58,7 @@ impl Console {
 
     /// The oldest control event that waits for the client is taken.
     #[tactic(auto, unfolding(crate::specs::Reads::took_ctrl))]
-    pub(crate) fn take_ctrl(&mut self, p: u8) -> Reply
+    pub fn take_ctrl(&mut self, p: u8) -> Reply
         ensures state { self.new.state ≡ (took_ctrl self.old.state p).after }
         ensures reply { result ≡ (took_ctrl self.old.state p).reply }
     {

@@ -4,7 +4,7 @@ ghost use Rattle.con_events.specs.declared.reply.Reply.TheVariants as replies;
 ghost use Rattle.con_machine.specs.Painting.{view_now, is_paint_due, painted};
 ghost use Rattle.con_machine.specs.Marks.{seen_at, IsPaintRoom};
 
-use crate::console::Console;
+use crate::parts::Parts;
 use crate::rooms::paint_room::PaintRoom;
 use con_events::Reply;
 use con_units::{OutOfMemory, View};
@@ -26,10 +26,10 @@ fn marks_all(fresh: bool, known: bool) -> bool
     fresh || !known
 }
 
-impl Console {
+impl Parts {
     /// Whether a Paint is due: nothing was painted, the view is another one, or a Resize or an Ask stands after the last
     /// Paint. Where the view is seen in the same place as then, only stamped rows are looked at.
-    pub(crate) fn is_paint_due(&self) -> bool
+    pub fn is_paint_due(&self) -> bool
         ensures { result ≡ is_paint_due self.now.state }
     {
         self.resized || self.asked || !showing::is_painted(&self.screens, self.seen, &self.painted)

@@ -5,7 +5,7 @@ ghost use Rattle.con_machine.specs.State.{opening, starts_of, handles_from};
 ghost use Rattle.con_machine.specs.Words.State.{first_handles, start_of};
 ghost use Rattle.con_machine.specs.Opened.{AreBefore, opened_ones};
 
-use crate::console::Console;
+use crate::parts::Parts;
 use crate::reads::notes::Notes;
 use crate::reads::rests::Rests;
 use crate::title::Title;
@@ -91,9 +91,9 @@ fn open_all(alloc: Global, scripts: &[Script]) -> Result<Handles, OutOfMemory>
     Ok(handles)
 }
 
-impl Console {
+impl Parts {
     /// The console of a session whose clients have just started, with racks of so many handlers; a missing rack has none.
-    pub fn new(alloc: Global, session: &Session, racks: &[u8]) -> Result<Console, OutOfMemory>
+    pub fn new(alloc: Global, session: &Session, racks: &[u8]) -> Result<Parts, OutOfMemory>
         ensures state { IfOk result (λ c. c.state ≡ opening session.now racks.now) }
     {
         let scripts = session.scripts();
@@ -103,7 +103,7 @@ impl Console {
         let screens = Screens::new(alloc, session.size())?;
         let histories = Histories::new(alloc)?;
         let title = Title::new(alloc)?;
-        Ok(Console {
+        Ok(Parts {
             handles,
             procs,
             readers: Readers::new(alloc),

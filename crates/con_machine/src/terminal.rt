@@ -12,7 +12,7 @@ ghost use Rattle.con_machine.specs.Words.Terminal.{asked, drained};
 
 use crate::calls::screen_calls::has_bit;
 use crate::calls::setters;
-use crate::console::Console;
+use crate::parts::Parts;
 use con_records::Record;
 use con_screens::{AllFits, Screens};
 use con_units::{OutOfMemory, Size};
@@ -33,7 +33,7 @@ fn resize_buffers(screens: &mut Screens, fits: AllFits)
     screens.resize_all(fits);
 }
 
-impl Console {
+impl Parts {
     /// Takes the memory of a Resize: that of every buffer, and room for the size record. Nothing that is seen changes.
     pub(crate) fn resize_room(&mut self, size: Size) -> Result<AllFits, OutOfMemory>
         requires { is_size size ≡ true }

@@ -9,14 +9,14 @@ ghost use Rattle.con_machine.specs.Step.{step};
 ghost use Rattle.con_machine.specs.Painting.{view_now};
 ghost use Rattle.con_machine.specs.Sizes.{SizedBy};
 
-use crate::console::Console;
+use crate::parts::Parts;
 
 /// A Resize makes the window as large as it says, and no other event gives it another size.
 pub fn an_event_sizes_the_window()
     ensures { (s : State) (a : Actor) (e : Event) → SizedBy s e (step s a e).after }
 {}
 
-impl Console {
+impl Parts {
     /// The view has all of its cells, and its cursor inside where it shows. It has the size of the window, of 1 to 512
     /// columns and 1 to 256 rows.
     pub fn view_is_whole(&self)

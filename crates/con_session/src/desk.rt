@@ -11,7 +11,8 @@ ghost use Rattle.con_session.specs.Painting.{Pictures};
 
 use crate::door::Door;
 use con_events::{Actor, Entry, Event, Reply};
-use con_machine::{Console, Room};
+use con_console::Console;
+use con_machine::Room;
 use con_units::{Marks, OutOfMemory, View};
 
 /// A console, and what was entered and answered so far. A Paint counts as answered by Done.

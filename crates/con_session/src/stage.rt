@@ -16,7 +16,7 @@ use crate::terminal::Side;
 use con_events::{End, Session};
 use con_handlers::CtrlHandler;
 use con_link::LinkReader;
-use con_machine::Console;
+use con_console::Console;
 use con_paint::Painter;
 use con_units::OutOfMemory;
 use std::alloc::Global;

@@ -9,7 +9,7 @@ ghost use Rattle.con_machine.specs.Words.CellCalls.{read_rect, rect_told, read_r
 ghost use Rattle.con_machine.specs.Rooms.{IsRectRoom, IsRun};
 
 use crate::calls::cells;
-use crate::console::Console;
+use crate::parts::Parts;
 use crate::rooms::rect_room::RectRoom;
 use con_events::{Numbers, Reply, Words};
 use con_grid::Grid;
@@ -197,7 +197,7 @@ fn told_words(alloc: Global, grid: &Grid, from: Coord, n: u32) -> Result<Reply, 
     }
 }
 
-impl Console {
+impl Parts {
     /// `ReadConsoleOutput`. 1816: more than 16,384 cells after clipping.
     pub(crate) fn told_rect(&self, p: u8, h: u32, rect: Rect) -> Result<Reply, OutOfMemory>
         ensures reply { IfOk result (λ r. r ≡ (read_rect self.now.state p h rect).reply) }

@@ -7,8 +7,8 @@ ghost use Rattle.con_machine.specs.Outcome.{are_rights};
 ghost use Rattle.con_machine.specs.Sound.{HasLive};
 
 use crate::calls::counting;
-use crate::console::Console;
 use crate::painting::seen;
+use crate::parts::Parts;
 use crate::rooms::unused::refused;
 use con_events::Reply;
 use con_handles::{Kind, Object};
@@ -21,7 +21,7 @@ fn are_rights(rights: u32) -> bool
     0 < rights && rights <= 3
 }
 
-impl Console {
+impl Parts {
     // A handle more for an object.
     fn open(&mut self, p: u8, object: Object, rights: u32) -> Reply
         requires room { 0 < self.old.spare.handles }

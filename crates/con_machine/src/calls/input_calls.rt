@@ -3,7 +3,7 @@ ghost use Rattle.std.specs.Prelude.{◌≡◌, ◌≤◌, length, IfOk};
 ghost use Rattle.con_units.specs.Limits.{most_records};
 ghost use Rattle.con_machine.specs.InputCalls.{peek_told, peeked, wrote_input, counted, flushed};
 
-use crate::console::Console;
+use crate::parts::Parts;
 use con_events::Reply;
 use con_handles::Kind;
 use con_records::{Record, Records, Taken};
@@ -28,7 +28,7 @@ fn peek(alloc: Global, records: &Records, n: u32) -> Result<Reply, OutOfMemory>
     Ok(Reply::Records(Taken(room)))
 }
 
-impl Console {
+impl Parts {
     /// `PeekConsoleInput`. 87: no record; 1816: more than 1,024.
     pub(crate) fn told_records(&self, p: u8, h: u32, n: u32) -> Result<Reply, OutOfMemory>
         ensures reply { IfOk result (λ r. r ≡ (peeked self.now.state p h n).reply) }

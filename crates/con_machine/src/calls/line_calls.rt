@@ -9,7 +9,7 @@ ghost use Rattle.con_machine.specs.LineCalls.{told_history_info, set_history, li
 ghost use Rattle.con_machine.specs.LineCalls.{listed_aliases, info_numbers, pair_of};
 
 use crate::calls::copies::{numbers, text};
-use crate::console::Console;
+use crate::parts::Parts;
 use crate::rooms::unused::refused;
 use con_alias::{AliasRoom, Aliases};
 use con_events::{Lines, Numbers, Reply};
@@ -76,7 +76,7 @@ fn pairs(alloc: Global, aliases: &Aliases, program: &Units) -> Result<Lines, Out
     Ok(Lines(room))
 }
 
-impl Console {
+impl Parts {
     /// `GetConsoleHistoryInfo`.
     pub(crate) fn told_history_info(&self) -> Result<Reply, OutOfMemory>
         ensures reply { IfOk result (λ r. r ≡ (told_history_info self.now.state).reply) }

@@ -5,7 +5,7 @@ ghost use Rattle.con_machine.specs.ProcessCalls.{is_no_signal};
 ghost use Rattle.con_machine.specs.Words.ProcessCalls.{listed_processes, sent_signal, set_ignore, added_handler, removed_handler};
 ghost use Rattle.con_machine.specs.Signals.{signalled_to};
 
-use crate::console::Console;
+use crate::parts::Parts;
 use con_events::{Numbers, Reply};
 use con_procs::Procs;
 use con_units::{Code, OutOfMemory};
@@ -40,7 +40,7 @@ fn is_no_signal(procs: &Procs, event: u32, group: u32) -> bool
     1 < event || (event == 1 && group != 0 && !procs.group_known(group))
 }
 
-impl Console {
+impl Parts {
     /// `GetConsoleProcessList`.
     pub(crate) fn told_processes(&self) -> Result<Reply, OutOfMemory>
         ensures reply { IfOk result (λ r. r ≡ (listed_processes self.now.state).reply) }

@@ -10,7 +10,7 @@ ghost use Rattle.con_machine.specs.LineCalls.{set_history, added_alias};
 ghost use Rattle.con_machine.specs.Words.ScreenCalls.{set_size, wrote};
 ghost use Rattle.con_machine.specs.declared.rooms.call_room.CallRoom.TheVariants as rooms;
 
-use crate::console::Console;
+use crate::parts::Parts;
 use crate::rooms::call_room::CallRoom;
 use con_events::{Reply, Words};
 use con_history::HistoryInfo;
@@ -28,8 +28,8 @@ pub(crate) fn take_answer(room: &mut CallRoom) -> Reply
     }
 }
 
-impl Console {
-    /// [`Console::create_buffer`] with its room.
+impl Parts {
+    /// [`Parts::create_buffer`] with its room.
     pub(crate) fn create_buffer_in(&mut self, p: u8, rights: u32, room: &mut CallRoom) -> Reply
         requires { IsBufferRoom self.old room.old }
         ensures state { self.new.state ≡ (created_buffer self.old.state p rights).after }
@@ -41,7 +41,7 @@ impl Console {
         }
     }
 
-    /// [`Console::set_size`] with its room.
+    /// [`Parts::set_size`] with its room.
     pub(crate) fn set_size_in(
         &mut self,
         p: u8,
@@ -60,7 +60,7 @@ impl Console {
         }
     }
 
-    /// [`Console::write`] with its room.
+    /// [`Parts::write`] with its room.
     pub(crate) fn write_in(&mut self, p: u8, h: u32, text: &Units, room: &mut CallRoom) -> Reply
         requires { IsTextRoom self.old text.now room.old }
         ensures state { self.new.state ≡ (wrote self.old.state p h text.now).after }
@@ -72,7 +72,7 @@ impl Console {
         }
     }
 
-    /// [`Console::write_rect`] with its room.
+    /// [`Parts::write_rect`] with its room.
     pub(crate) fn write_rect_in(
         &mut self,
         p: u8,
@@ -92,7 +92,7 @@ impl Console {
         }
     }
 
-    /// [`Console::set_history`] with its room.
+    /// [`Parts::set_history`] with its room.
     pub(crate) fn set_history_in(&mut self, info: HistoryInfo, room: &mut CallRoom) -> Reply
         requires { room.old ≡ rooms.Settings (room_for_configure self.old.state.histories info) }
         ensures state { self.new.state ≡ (set_history self.old.state info.lines info.number info.flag).after }
@@ -104,7 +104,7 @@ impl Console {
         }
     }
 
-    /// [`Console::add_alias`] with its room.
+    /// [`Parts::add_alias`] with its room.
     pub(crate) fn add_alias_in(
         &mut self,
         program: &Units,

@@ -7,7 +7,7 @@ ghost use Rattle.con_machine.specs.Outcome.{has_bit};
 
 use crate::calls::copies::{numbers, text};
 use crate::calls::setters;
-use crate::console::Console;
+use crate::parts::Parts;
 use con_events::{Numbers, Reply};
 use con_handles::{Kind, Object};
 use con_page::Info;
@@ -52,7 +52,7 @@ fn cursor_numbers(alloc: Global, size: u32, visible: bool) -> Result<Numbers, Ou
     numbers(alloc, &[i64::from(size), if visible { 1 } else { 0 }])
 }
 
-impl Console {
+impl Parts {
     /// `GetConsoleMode`.
     pub(crate) fn told_mode(&self, p: u8, h: u32) -> Reply
         ensures reply { result ≡ (told_mode self.now.state p h).reply }

@@ -11,8 +11,8 @@ ghost use Rattle.con_machine.specs.Words.ScreenCalls.{is_size, refitted_at, set_
 ghost use Rattle.con_machine.specs.Rooms.{IsSizeRoom, IsFitAt};
 ghost use Rattle.con_machine.specs.Sound.{AreCounted};
 
-use crate::console::Console;
 use crate::painting::showing::window;
+use crate::parts::Parts;
 use con_events::Reply;
 use con_page::Fit;
 use con_screens::Screens;
@@ -68,8 +68,8 @@ fn refit(screens: &mut Screens, id: BufferId, w: u32, h: u32, fit: Fit)
     screens.screen_mut(id).resize(fit);
 }
 
-impl Console {
-    /// The memory of [`Console::set_size`]. None where that is refused.
+impl Parts {
+    /// The memory of [`Parts::set_size`]. None where that is refused.
     pub(crate) fn size_room(
         &self,
         p: u8,

@@ -10,7 +10,7 @@ ghost use Rattle.con_screens.specs.Words.Stamps.{all_remembered};
 ghost use Rattle.con_machine.specs.Words.ScreenCalls.{told_by, written_to, wrote};
 ghost use Rattle.con_machine.specs.Sound.{AreCounted};
 
-use crate::console::Console;
+use crate::parts::Parts;
 use crate::terminal::typing::store_units;
 use crate::title::Title;
 use con_events::Reply;
@@ -45,7 +45,7 @@ fn set_title(title: &mut Title, answers: &Answers)
     }
 }
 
-impl Console {
+impl Parts {
     // What a text told: its reports are keys, and it may set the title and the cursor key mode.
     fn take_told(&mut self, answers: &Answers)
         requires { length answers.now.told.reports ≤ self.old.spare.records }

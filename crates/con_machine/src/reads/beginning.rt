@@ -13,7 +13,7 @@ ghost use Rattle.con_readers.specs.declared.open.OpenRead.TheVariants as reads;
 
 use crate::calls::copies::text;
 use crate::calls::screen_calls::has_bit;
-use crate::console::Console;
+use crate::parts::Parts;
 use crate::reads::fronts::line_front;
 use crate::reads::noted::Noted;
 use crate::rooms::read_room::{Beginning, LineRoom};
@@ -48,7 +48,7 @@ fn is_empty(units: &[u16]) -> bool
     units.is_empty()
 }
 
-impl Console {
+impl Parts {
     // Whether a read of units may begin.
     fn check_read(&self, p: u8, h: u32, n: u32, initial: &[u16]) -> Result<(), Code>
         ensures { result ≡ read_answer self.now.state p h n initial.now }

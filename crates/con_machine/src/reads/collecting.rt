@@ -7,14 +7,14 @@ ghost use Rattle.con_machine.specs.Reads.{collected};
 ghost use Rattle.con_machine.specs.Words.Reads.{part_left, line_cut};
 ghost use Rattle.con_machine.specs.Began.{HasBack};
 
-use crate::console::Console;
+use crate::parts::Parts;
 use crate::reads::fronts;
 use crate::reads::noted::Noted;
 use con_events::Reply;
 use con_readers::Answer;
 use con_units::{OutOfMemory, Units};
 
-impl Console {
+impl Parts {
     /// The memory of a Collect: what of a line's text is left for its handle, in memory that was taken when the read began. Nothing is left for a
     /// handle that was closed.
     pub(crate) fn collect_room(&mut self, p: u8) -> Result<Option<Units>, OutOfMemory>

@@ -14,12 +14,12 @@ ghost use Rattle.con_machine.specs.Serving.{settled_state};
 ghost use Rattle.con_machine.specs.Words.Serving.{read_started, line_shown, line_finished, line_woken};
 ghost use Rattle.con_machine.specs.Pumping.{pumped_of, with_pumped, followed_by, stepped, IsTold};
 
-use crate::console::Console;
+use crate::parts::Parts;
 use crate::reads::echoes;
 use con_cooked::Echo;
 use con_readers::{ReadStep, is_idle};
 
-impl Console {
+impl Parts {
     // A read becomes the first one.
     fn start_read(&mut self, p: u8)
         ensures state { self.new.state ≡ read_started self.old.state p }
@@ -107,7 +107,7 @@ impl Console {
     }
 
     /// Serves the open reads: the first one takes records until it is done or none is left, then the next one follows.
-    pub(crate) fn settle(&mut self)
+    pub fn settle(&mut self)
         ensures state { self.new.state ≡ settled_state self.old.state }
         ensures spare { self.new.spare ≡ self.old.spare }
     {

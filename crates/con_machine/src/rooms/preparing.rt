@@ -9,7 +9,7 @@ ghost use Rattle.con_machine.specs.declared.rooms.call_room.CallRoom.TheVariants
 ghost use Rattle.con_procs.specs.Procs.{is_attached};
 
 use crate::calls::cell_calls::rect_room;
-use crate::console::Console;
+use crate::parts::Parts;
 use crate::rooms::call_room::CallRoom;
 use con_events::{Call, Words};
 use con_history::HistoryInfo;
@@ -26,7 +26,7 @@ fn within(n: usize, most: usize) -> usize
     if n <= most { n } else { 0 }
 }
 
-impl Console {
+impl Parts {
     // Room for one handle more.
     fn handle_room(&mut self) -> Result<CallRoom, OutOfMemory>
         ensures state { self.new.state ≡ self.old.state }

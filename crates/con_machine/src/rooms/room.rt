@@ -22,7 +22,7 @@ impl Drop for Room {
 
 impl Room {
     /// No memory.
-    pub(crate) fn none() -> Room
+    pub fn none() -> Room
         ensures { result ≡ record { client = None; side = None } }
     {
         Room {
@@ -32,7 +32,7 @@ impl Room {
     }
 
     /// That of an attached client.
-    pub(crate) fn for_client(room: ClientRoom) -> Room
+    pub fn for_client(room: ClientRoom) -> Room
         ensures { result ≡ record { client = Some room; side = None } }
     {
         Room {
@@ -42,7 +42,7 @@ impl Room {
     }
 
     /// That of the terminal's side.
-    pub(crate) fn for_side(room: SideRoom) -> Room
+    pub fn for_side(room: SideRoom) -> Room
         ensures { result ≡ record { client = None; side = Some room } }
     {
         Room {
@@ -52,7 +52,7 @@ impl Room {
     }
 
     /// What is an attached client's.
-    pub(crate) fn of_client(self) -> ClientRoom
+    pub fn of_client(self) -> ClientRoom
         requires { IsSome self.client }
         ensures { self.client ≡ Some result }
     {
@@ -63,7 +63,7 @@ impl Room {
     }
 
     /// What is the terminal side's.
-    pub(crate) fn of_side(self) -> SideRoom
+    pub fn of_side(self) -> SideRoom
         requires { IsSome self.side }
         ensures { self.side ≡ Some result }
     {

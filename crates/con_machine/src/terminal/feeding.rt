@@ -4,7 +4,7 @@ ghost use Rattle.con_mouse.specs.Words.Reports.{IsReport};
 ghost use Rattle.con_machine.specs.Terminal.{records_of, key_taken, fed, quiet};
 ghost use Rattle.con_machine.specs.Feeding.{byte_taken, stored_count, told_report};
 
-use crate::console::Console;
+use crate::parts::Parts;
 use con_mouse::{Report, report_of};
 use con_records::Key;
 use con_units::OutOfMemory;
@@ -21,7 +21,7 @@ fn ended_report(keys: &KeyReader) -> Option<Report>
     }
 }
 
-impl Console {
+impl Parts {
     // A key: ctrl+C is signalled to all, once what stands before it is served, and another one is stored.
     fn take_key(&mut self, key: Key)
         requires { length (records_of self.old.state key) ≤ self.old.spare.records }

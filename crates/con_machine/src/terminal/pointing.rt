@@ -9,7 +9,7 @@ ghost use Rattle.con_machine.specs.Words.Terminal.{placed, report_taken};
 
 use crate::calls::screen_calls::has_bit;
 use crate::calls::setters;
-use crate::console::Console;
+use crate::parts::Parts;
 use con_mouse::Report;
 use con_records::{Mouse, Record};
 use con_screens::Screens;
@@ -44,7 +44,7 @@ fn placed(screens: &Screens, mouse: Mouse) -> Mouse
     placed
 }
 
-impl Console {
+impl Parts {
     // A report of the mouse: buttons change, and its record is stored, if it has one.
     fn point(&mut self, report: Report)
         requires report { IsReport report }

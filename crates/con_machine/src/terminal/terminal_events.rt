@@ -4,17 +4,17 @@ ghost use Rattle.con_machine.specs.Step.{is_clients, is_due, effect};
 ghost use Rattle.con_machine.specs.Marks.{told, Tells};
 ghost use Rattle.con_machine.specs.TerminalRooms.{IsSideRoom};
 
-use crate::console::Console;
+use crate::parts::Parts;
 use crate::ready::is_size;
 use crate::rooms::terminal_room::SideRoom::{self, Fits, Keys};
 use crate::rooms::unused::done;
 use con_events::{Event, Reply};
 use con_units::OutOfMemory;
 
-impl Console {
+impl Parts {
     /// Takes the memory of an event that is no client's. Nothing that is seen changes.
     #[tactic(auto, unfolding(crate::specs::TerminalRooms::IsSideRoom))]
-    pub(crate) fn terminal_room(&mut self, event: &Event) -> Result<SideRoom, OutOfMemory>
+    pub fn terminal_room(&mut self, event: &Event) -> Result<SideRoom, OutOfMemory>
         ensures state { self.new.state ≡ self.old.state }
         ensures room { IfOk result (λ r. IsSideRoom self.new event.now r) }
     {
@@ -52,7 +52,7 @@ impl Console {
     /// An event that is no client's. A Paint answers the view, which rows may differ from the view at the last Paint, and
     /// whether it is for a terminal of a new size; the others are done.
     #[tactic(auto, unfolding(crate::specs::TerminalRooms::IsSideRoom, crate::specs::Step::effect, crate::specs::Step::is_due))]
-    pub(crate) fn terminal(&mut self, event: &Event, room: SideRoom) -> Reply
+    pub fn terminal(&mut self, event: &Event, room: SideRoom) -> Reply
         requires side { is_clients event.now ≡ false }
         requires due { is_due self.old.state 0 event.now ≡ true }
         requires room { IsSideRoom self.old event.now room }

@@ -5,7 +5,7 @@ ghost use Rattle.con_machine.specs.ScreenCalls.{reported};
 ghost use Rattle.con_machine.specs.Terminal.{is_break, records_of};
 
 use crate::calls::screen_calls::has_bit;
-use crate::console::Console;
+use crate::parts::Parts;
 use con_records::{Key, Record, Records};
 use con_vtin::sequence_of;
 
@@ -33,7 +33,7 @@ pub(crate) fn store_units(records: &mut Records, units: &[u16])
     }
 }
 
-impl Console {
+impl Parts {
     /// Whether a key is ctrl+C, where the input is processed.
     pub(crate) fn is_break(&self, key: Key) -> bool
         ensures { result ≡ is_break self.now.state key }
