@@ -1,4 +1,4 @@
-//! The whole console as one machine: an event of an actor is one step, a new console and one reply.
+//! The whole console as one machine: an event of an actor is one step, a new console and one reply. con_console enters them.
 //!
 //! The definitions stand in `specs/`. `State` is the console as contracts see it: lists, numbers and texts, and
 //! no room. `Call` is one table of what each call of a client does, with its refusals in one order: 109, 6, 5, 87, 31, 1816;
@@ -9,8 +9,9 @@
 //! what comes from the terminal's side, `Closing` and `Signals` how reads end early, and `Painting` what is painted and when.
 //! `Step` joins them: `step`, and `is_ready`, which says when an event may be entered; `History` runs a list of entries.
 //!
-//! In `src/`, `calls` has a client's calls, a file for each group, and what they do to buffers; `reads` a read from its beginning until it is
-//! collected; `painting` when a Paint is due and what it shows; `terminal` what comes from the terminal's side; `rooms` the memory that events take.
+//! In `src/`, [`Parts`] is the console, `calls` has a client's calls, a file for each group, and what they do to buffers; `reads` a read from its
+//! beginning until it is collected; `painting` when a Paint is due and what it shows; `terminal` what comes from the terminal's side; `rooms` the memory
+//! that events take.
 //!
 //! Never promised: that a client that waits is ever answered, and which actor comes first.
 #![tactic(auto)]
@@ -35,6 +36,7 @@ pub use reads::noted::Noted;
 pub use reads::notes::Notes;
 pub use reads::rest::Rest;
 pub use reads::rests::Rests;
+pub use ready::is_size;
 pub use rooms::call_room::CallRoom;
 pub use rooms::client_room::ClientRoom;
 pub use rooms::paint_room::PaintRoom;
