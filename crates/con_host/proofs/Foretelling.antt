@@ -20,7 +20,7 @@ use Rattle.con_events.specs.declared.event.Event.{Event}
 use Rattle.con_events.specs.Session.{Clients}
 use Rattle.con_events.specs.declared.entry.Entry.{Entry}
 use Rattle.con_events.specs.declared.reply.Reply.{Reply}
-use Rattle.con_session.specs.Outcome.{HasSentBy, LeavesBy}
+use Rattle.con_actors.specs.Outcome.{HasSentBy, LeavesBy}
 use Rattle.con_lines.specs.Ending.{status_of}
 use Rattle.con_host.specs.Foretold.{ForetellsBy, HasNoFrameBy, StandsBy}
 use Rattle.con_host.specs.Sessions.{ending_after}

@@ -8,7 +8,7 @@ use Rattle.con_events.specs.declared.reply.Reply.{Reply}
 use Rattle.con_machine.specs.Follows.{session_start}
 use Rattle.con_laws.specs.Once.{TakenOnce}
 use Rattle.con_script.specs.Generated.{session_drawn}
-use Rattle.con_session.specs.Outcome.{IsSoloOutcome}
+use Rattle.con_actors.specs.Outcome.{IsSoloOutcome}
 use Rattle.con_outside.specs.Outside.{then_written, WrotePart}
 use Rattle.con_host.specs.Generating.{Generated, GeneratedRun, summary_of}
 use Rattle.con_host.specs.Summary.{summary_text}

@@ -16,8 +16,8 @@ use Rattle.con_machine.specs.History.{replies_of}
 use Rattle.con_machine.specs.State.{State}
 use Rattle.con_machine.specs.Step.{step}
 use Rattle.con_machine.specs.Turns.{is_paint, paints}
-use Rattle.con_session.specs.Desk.{listed}
-use Rattle.con_session.specs.Outcome.{LeavesBy}
+use Rattle.con_actors.specs.Desk.{listed}
+use Rattle.con_actors.specs.Outcome.{LeavesBy}
 use Rattle.con_lines.specs.Ending.{Ending, IsEnding, alone, done, no_memory, link, terminal, too_long, mirror, frame, status_of}
 use Rattle.con_trace.specs.Report.{History, IsHistory, history_of, report}
 use Rattle.con_trace.specs.Words.Report.{ReportTells, pictures, with_picture}

@@ -7,7 +7,7 @@ use Rattle.con_events.specs.declared.reply.Reply.{Reply}
 use Rattle.con_machine.specs.Follows.{session_start}
 use Rattle.con_laws.specs.Once.{TakenOnce}
 use Rattle.con_script.specs.Generated.{session_drawn}
-use Rattle.con_session.specs.Outcome.{IsSoloOutcome}
+use Rattle.con_actors.specs.Outcome.{IsSoloOutcome}
 use Rattle.con_lines.specs.Ending.{worded}
 use Rattle.con_ending.specs.Ending.{Reported, Tells}
 use Rattle.con_host.specs.Summary.{summary_text}

@@ -8,7 +8,7 @@ use Rattle.con_events.specs.declared.reply.Reply.{Reply}
 use Rattle.con_outside.specs.Outside.{then_written}
 use Rattle.con_machine.specs.Follows.{session_start}
 use Rattle.con_laws.specs.Once.{TakenOnce}
-use Rattle.con_session.specs.Second.{IsMirrorOutcome}
+use Rattle.con_actors.specs.Second.{IsMirrorOutcome}
 use Rattle.con_lines.specs.Ending.{Ending, worded, status_of}
 use Rattle.con_host.specs.Telling.{told_report}
 use Rattle.con_host.specs.Sessions.{ReadBack, ending_after}

@@ -9,7 +9,7 @@ use Rattle.con_outside.specs.Outside.{WroteFront}
 use Rattle.con_machine.specs.Follows.{session_start}
 use Rattle.con_laws.specs.Once.{TakenOnce}
 use Rattle.con_laws.specs.Rounds.{Rounds, is_memory}
-use Rattle.con_session.specs.Outcome.{Leaves}
+use Rattle.con_actors.specs.Outcome.{Leaves}
 use Rattle.con_ending.specs.Ending.{Reported}
 use Rattle.con_ending.specs.Files.{OfFile}
 use Rattle.con_lines.specs.Ending.{Ending, IsEnding, alone, worded, at_frame, status_of}

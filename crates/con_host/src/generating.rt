@@ -9,12 +9,13 @@ ghost use Rattle.con_host.specs.Generating.{Generated, GeneratedRun, summary_of}
 ghost use Rattle.con_host.specs.Summary.{summary_text};
 
 use crate::summary::summary;
+use con_actors::Outcome;
 use con_ending::{DONE, MEMORY, REPORT, TERMINAL, close, status_after};
 use con_events::{End, Session};
 use con_laws::once::each_record_is_taken_once;
 use con_outside::{Fault, Sink, SureSink, SureSource, write_whole};
 use con_script::generated;
-use con_session::{Outcome, run_solo};
+use con_session::run_solo;
 use con_trace::EndLine;
 use con_units::{Bytes, OutOfMemory};
 use std::alloc::Global;

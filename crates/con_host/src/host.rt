@@ -2,7 +2,7 @@
 
 ghost use Rattle.std.specs.Prelude.{◌≡◌, ◌≢◌, ℕ, ◌+◌, ◌<◌, ◌≤◌, ◌⊎◌, ◌↔◌, List, [], All, length, map, Some, None, IfSome, IsNone, IsTrue, codes, string_bytes};
 ghost use Rattle.con_outside.specs.Outside.{Rose, then_left};
-ghost use Rattle.con_session.specs.Worker.{told_kind};
+ghost use Rattle.con_actors.specs.Worker.{told_kind};
 ghost use Rattle.con_events.specs.Session.{Clients};
 ghost use Rattle.con_events.specs.declared.end.End.{End};
 ghost use Rattle.con_lines.specs.Ending.{status_of, worded};

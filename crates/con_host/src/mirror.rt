@@ -9,11 +9,12 @@ ghost use Rattle.con_host.specs.Foretold.{HasNoMirrorFrame, IsSession, MirrorFor
 ghost use Rattle.con_host.specs.Mirroring.{HasMirrored, RanMirrored, mirror_ending, mirror_report};
 ghost use Rattle.con_host.specs.Sessions.{ending_after};
 ghost use Rattle.con_host.specs.Telling.{ended_report};
-ghost use Rattle.con_session.specs.Worker.{told_kind};
+ghost use Rattle.con_actors.specs.Worker.{told_kind};
 ghost use Rattle.con_lines.specs.Ending.{status_of};
 ghost use Rattle.con_lines.specs.Words.Ending.{ending_of};
 
 use crate::session::{last_of, status_by, write_outcome};
+use con_actors::Outcome;
 use con_ending::{Unrun, close, session_of};
 use con_events::{End, Session};
 use con_forms::{a_legal_history_is_told, types_are_kept};
@@ -21,7 +22,7 @@ use con_handlers::CtrlHandler;
 use con_laws::once::each_record_is_taken_once;
 use con_link::{one_mirror_answer, one_mirror_frame};
 use con_outside::{Files, Sink, Source};
-use con_session::{Outcome, run_mirrored};
+use con_session::run_mirrored;
 use con_trace::{EndLine, report_tells};
 use std::alloc::Global;
 

@@ -10,10 +10,10 @@ ghost use Rattle.con_host.specs.Sessions.{ending_after, report_text};
 ghost use Rattle.con_host.specs.Telling.{ended_report, told_report};
 
 use crate::telling::write_report;
+use con_actors::Outcome;
 use con_ending::{status_after, status_told};
 use con_events::End;
 use con_outside::{Fault, Sink};
-use con_session::Outcome;
 use con_trace::EndLine;
 use std::alloc::Global;
 

@@ -6,7 +6,7 @@ ghost use Rattle.con_events.specs.declared.end.End.{End as Ended};
 ghost use Rattle.con_outside.specs.Outside.{Rose, then_left};
 ghost use Rattle.con_host.specs.Foretold.{Foretells, HasNoFrame, IsSession};
 ghost use Rattle.con_lines.specs.Ending.{status_of};
-ghost use Rattle.con_session.specs.Worker.{told_kind};
+ghost use Rattle.con_actors.specs.Worker.{told_kind};
 ghost use Rattle.con_host.specs.Sessions.{RanByTurns, Soloed, ending_after};
 
 use crate::session::tell;

@@ -7,9 +7,9 @@ ghost use Rattle.con_machine.specs.Turns.{paints};
 ghost use Rattle.con_text.specs.Playing.{dump_after};
 ghost use Rattle.con_host.specs.Summary.{refusal, refusals, records_left, counts_text, summary_text, window};
 
-use con_events::{Entry, Reply, Session};
+use con_actors::Outcome;
 use con_console::Console;
-use con_session::Outcome;
+use con_events::{Entry, Reply, Session};
 use con_term::Terminal;
 use con_text::dumped;
 use con_units::{OutOfMemory, Size};

@@ -8,11 +8,11 @@ use Rattle.con_machine.specs.Words.Painting.{is_fresh}
 use Rattle.con_machine.specs.History.{run}
 use Rattle.con_machine.specs.State.{State}
 use Rattle.con_paint.specs.Painter.{Kept}
-use Rattle.con_session.specs.LinkLaws.{link_stays}
-use Rattle.con_session.specs.OpeningLaws.{open_canvas, open_link, side_first}
-use Rattle.con_session.specs.Painting.{IsTied, Written}
-use Rattle.con_session.specs.Solo.{begins}
-use Rattle.con_session.specs.declared.terminal.Side.{Side}
+use Rattle.con_actors.specs.LinkLaws.{link_stays}
+use Rattle.con_actors.specs.OpeningLaws.{open_canvas, open_link, side_first}
+use Rattle.con_actors.specs.Painting.{IsTied, Written}
+use Rattle.con_actors.specs.Solo.{begins}
+use Rattle.con_actors.specs.declared.side.Side.{Side}
 use Rattle.con_pipe.specs.PipeEnds.{pieces_put, pieces_taken}
 use Rattle.con_pipe.specs.declared.put.PipeIn.{PipeIn}
 use Rattle.con_run.specs.Crews.{down_from}

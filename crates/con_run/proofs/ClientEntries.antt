@@ -7,9 +7,9 @@ use Rattle.con_handlers.specs.Memory.{Memory}
 use Rattle.con_laws.specs.Rounds.{Begun}
 use Rattle.con_machine.specs.State.{State}
 use Rattle.con_machine.specs.Turns.{turns}
-use Rattle.con_session.specs.DoorEntries.{hands_by, stands_others, turns_others, worker_by}
-use Rattle.con_session.specs.Standing.{ClientStands}
-use Rattle.con_session.specs.declared.worker.Worker.{Worker}
+use Rattle.con_actors.specs.DoorEntries.{hands_by, stands_others, turns_others, worker_by}
+use Rattle.con_actors.specs.Standing.{ClientStands}
+use Rattle.con_actors.specs.declared.worker.Worker.{Worker}
 use Rattle.con_threads.specs.Clients.{ClientGoes}
 use Rattle.con_threads.specs.Scribe.{SeesMore}
 use Rattle.con_threads.specs.ScribeLaws.{no_client}

@@ -15,11 +15,11 @@ use Rattle.con_handlers.specs.Memory.{Memory}
 use Rattle.con_machine.specs.Follows.{kinds_of}
 use Rattle.con_machine.specs.Numbered.{actor_of}
 use Rattle.con_laws.specs.Rounds.{Begun}
-use Rattle.con_session.specs.Opening.{AreFreshBy, fresh}
-use Rattle.con_session.specs.OpeningLaws.{get_below, seated_fresh}
-use Rattle.con_session.specs.Solo.{begins}
-use Rattle.con_session.specs.Words.Worker.{HandsStandBy}
-use Rattle.con_session.specs.declared.worker.Worker.{Worker}
+use Rattle.con_actors.specs.Opening.{AreFreshBy, fresh}
+use Rattle.con_actors.specs.OpeningLaws.{get_below, seated_fresh}
+use Rattle.con_actors.specs.Solo.{begins}
+use Rattle.con_actors.specs.Words.Worker.{HandsStandBy}
+use Rattle.con_actors.specs.declared.worker.Worker.{Worker}
 use Rattle.con_book.specs.Lock.{gave, newcomer}
 use Rattle.con_book.specs.Passes.{BookId, pass_id, view_of}
 use Rattle.con_book.specs.declared.machine.Machine.{Ghosts}

@@ -20,8 +20,8 @@ use Rattle.con_events.proofs.reply.Reply.TheSendSync as events_reply
 use Rattle.con_events.proofs.script.Step.TheSendSync as events_step
 use Rattle.con_link.proofs.reader.LinkReader.TheSendSync as link_reader
 use Rattle.con_pipe.proofs.put.PipeIn.TheSendSync as pipe_in
-use Rattle.con_session.proofs.terminal.Side.TheSendSync as session_side
-use Rattle.con_session.proofs.worker.Worker.TheSendSync as session_worker
+use Rattle.con_actors.proofs.side.Side.TheSendSync as session_side
+use Rattle.con_actors.proofs.worker.Worker.TheSendSync as session_worker
 use Rattle.con_paint.specs.contracts.painter.Painter as painter
 use Rattle.con_book.specs.contracts.bell.Bell as bell
 use Rattle.con_book.specs.contracts.book.Book as book
@@ -31,11 +31,11 @@ use Rattle.con_handlers.specs.contracts.chain.Chain as chain
 use Rattle.con_link.specs.contracts.reader.LinkReader as reader
 use Rattle.con_machine.specs.contracts.rooms.room.Room as room
 use Rattle.con_pipe.specs.contracts.put.PipeIn as put
-use Rattle.con_session.specs.contracts.desk.Brief as brief
-use Rattle.con_session.specs.contracts.hands.Hands as hands
-use Rattle.con_session.specs.contracts.seat.Seat as seat
-use Rattle.con_session.specs.contracts.terminal.Side as side
-use Rattle.con_session.specs.contracts.worker.Worker as worker
+use Rattle.con_actors.specs.contracts.desk.Brief as brief
+use Rattle.con_actors.specs.contracts.hands.Hands as hands
+use Rattle.con_actors.specs.contracts.seat.Seat as seat
+use Rattle.con_actors.specs.contracts.side.Side as side
+use Rattle.con_actors.specs.contracts.worker.Worker as worker
 use Rattle.con_threads.specs.contracts.ledger.LedgerMachine.TheImpl as machine
 use Rattle.con_threads.specs.contracts.ledger.LedgerView as ledger_page
 use Rattle.con_threads.specs.contracts.ledger.Told as told

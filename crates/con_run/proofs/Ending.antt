@@ -12,15 +12,15 @@ use Rattle.con_machine.specs.History.{run}
 use Rattle.con_laws.specs.Rounds.{client_at}
 use Rattle.con_machine.specs.Turns.{paints}
 use Rattle.con_laws.specs.Whole.{HaveAllLeft}
-use Rattle.con_session.specs.CanvasLaws.{canvas_ends, painted_count}
-use Rattle.con_session.specs.EndLaws.{by_number, ends_count, leaves_none, leaves_stops, leaves_whole}
-use Rattle.con_session.specs.LinkLaws.{link_failed, link_stays}
-use Rattle.con_session.specs.Outcome.{Leaves}
-use Rattle.con_session.specs.Solo.{Moment, begins, end_by}
-use Rattle.con_session.specs.declared.terminal.Side.{Side}
+use Rattle.con_actors.specs.CanvasLaws.{canvas_ends, painted_count}
+use Rattle.con_actors.specs.EndLaws.{by_number, ends_count, leaves_none, leaves_stops, leaves_whole}
+use Rattle.con_actors.specs.LinkLaws.{link_failed, link_stays}
+use Rattle.con_actors.specs.Outcome.{Leaves}
+use Rattle.con_actors.specs.Solo.{Moment, begins, end_by}
+use Rattle.con_actors.specs.declared.side.Side.{Side}
 use Rattle.con_run.specs.Session.{IsBroken, IsDone}
 use Rattle.con_threads.proofs.Causes.{rose_later, rose_sooner}
-use Rattle.con_session.specs.AskLaws.{asks_lost}
+use Rattle.con_actors.specs.AskLaws.{asks_lost}
 
 all_gone : (session : Clients) (racks : List (List ℕ)) (h : List Entry)
     → ((k : ℕ) → k < length session.scripts → (client_at (begins session racks None) h (k + 1)).stance ≡ Gone)

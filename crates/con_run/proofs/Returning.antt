@@ -21,18 +21,18 @@ use Rattle.con_laws.specs.Rounds.{Begun, client_at}
 use Rattle.con_machine.specs.State.{State}
 use Rattle.con_machine.specs.Step.{is_ready}
 use Rattle.con_paint.specs.Painter.{Kept}
-use Rattle.con_session.specs.Desk.{listed}
-use Rattle.con_session.specs.OpeningLaws.{get_map, some_at}
-use Rattle.con_session.specs.Painting.{CanvasIs, CanvasEnds, IsTied}
+use Rattle.con_actors.specs.Desk.{listed}
+use Rattle.con_actors.specs.OpeningLaws.{get_map, some_at}
+use Rattle.con_actors.specs.Painting.{CanvasIs, CanvasEnds, IsTied}
 use Rattle.con_link.specs.declared.fault.LinkFault.{LinkFault}
 use Rattle.con_link.specs.declared.fault.LinkFault.TheVariants as faults
 use Rattle.con_machine.specs.Follows.{is_cut}
-use Rattle.con_session.specs.Words.Sender.{end_for}
-use Rattle.con_session.specs.declared.terminal.Side.{Side}
-use Rattle.con_session.specs.Outcome.{Leaves}
-use Rattle.con_session.specs.Solo.{begins, end_by}
-use Rattle.con_session.specs.Standing.{ClientStands}
-use Rattle.con_session.specs.Words.Worker.{IsStance}
+use Rattle.con_actors.specs.Words.Sender.{end_for}
+use Rattle.con_actors.specs.declared.side.Side.{Side}
+use Rattle.con_actors.specs.Outcome.{Leaves}
+use Rattle.con_actors.specs.Solo.{begins, end_by}
+use Rattle.con_actors.specs.Standing.{ClientStands}
+use Rattle.con_actors.specs.Words.Worker.{IsStance}
 use Rattle.con_book.specs.History.{own}
 use Rattle.con_book.specs.Lock.{joined}
 use Rattle.con_book.specs.Passes.{BookId, pass_id, view_of, actor_of, seen}

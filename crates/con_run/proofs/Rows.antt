@@ -7,7 +7,7 @@ use Rattle.con_events.specs.declared.event.Event.{Event}
 use Rattle.con_events.specs.declared.event.Event.TheVariants as events
 use Rattle.con_machine.specs.State.{State, opening}
 use Rattle.con_laws.specs.Rounds.{Begun}
-use Rattle.con_session.specs.Solo.{begins}
+use Rattle.con_actors.specs.Solo.{begins}
 use Rattle.con_book.specs.History.{StartsWith, own}
 use Rattle.con_book.specs.Lock.{joined, newcomer, opener}
 use Rattle.con_book.specs.declared.history.Logged.{Logged}

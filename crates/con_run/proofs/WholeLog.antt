@@ -14,8 +14,8 @@ use Rattle.con_machine.specs.History.{run, replies_of}
 use Rattle.con_machine.specs.Numbered as numbers
 use Rattle.con_machine.specs.State.{State}
 use Rattle.con_machine.specs.Step.{is_ready}
-use Rattle.con_session.specs.Desk.{listed}
-use Rattle.con_session.specs.Words.Desk.{entry}
+use Rattle.con_actors.specs.Desk.{listed}
+use Rattle.con_actors.specs.Words.Desk.{entry}
 use Rattle.con_book.specs.History.{StartsWith, own, In, is_among}
 use Rattle.con_book.specs.History as book
 use Rattle.con_book.specs.Laws.{own-append}

@@ -11,12 +11,12 @@ use Rattle.con_machine.specs.Follows.{are_of_session}
 use Rattle.con_machine.specs.History.{run, is_legal, replies_of}
 use Rattle.con_laws.specs.Rounds.{Begun, client_at}
 use Rattle.con_machine.specs.Step.{is_ready}
-use Rattle.con_session.specs.Desk.{listed}
-use Rattle.con_session.specs.Painting.{CanvasIs, CanvasEnds}
-use Rattle.con_session.specs.Words.Sender.{LinkIs, LinkEnds}
-use Rattle.con_session.specs.Solo.{AsksStand}
-use Rattle.con_session.specs.Standing.{ClientStands}
-use Rattle.con_session.specs.declared.terminal.Side.{Side}
+use Rattle.con_actors.specs.Desk.{listed}
+use Rattle.con_actors.specs.Painting.{CanvasIs, CanvasEnds}
+use Rattle.con_actors.specs.Words.Sender.{LinkIs, LinkEnds}
+use Rattle.con_actors.specs.Solo.{AsksStand}
+use Rattle.con_actors.specs.Standing.{ClientStands}
+use Rattle.con_actors.specs.declared.side.Side.{Side}
 use Rattle.con_pipe.specs.PipeEnds.{pieces_put, pieces_taken, has_ended, IsPipe}
 use Rattle.con_pipe.specs.declared.put.PipeIn.{PipeIn}
 use Rattle.con_book.specs.Passes.{BookId, view_of}

@@ -6,7 +6,7 @@ use Rattle.con_events.specs.declared.event.Event.{Event}
 use Rattle.con_events.specs.declared.reply.Reply.{Reply}
 use Rattle.con_machine.specs.Follows.{are_of_session}
 use Rattle.con_machine.specs.History.{is_legal, replies_of}
-use Rattle.con_session.specs.Desk.{listed}
+use Rattle.con_actors.specs.Desk.{listed}
 use Rattle.con_book.specs.History.{StartsWith, In}
 use Rattle.con_book.specs.Lock.{joined}
 use Rattle.con_book.specs.Passes.{BookId, pass_id, view_of}

@@ -3,8 +3,8 @@ ghost use Rattle.std.specs.Prelude.{◌≡◌, ◌≢◌, ◌⊎◌, ◌≤◌, 
 ghost use Rattle.con_outside.specs.Outside.{Rose};
 ghost use Rattle.con_events.specs.Session.{Clients};
 ghost use Rattle.con_machine.specs.Follows.{session_start};
-ghost use Rattle.con_session.specs.Outcome.{Leaves};
-ghost use Rattle.con_session.specs.Solo.{begins};
+ghost use Rattle.con_actors.specs.Outcome.{Leaves};
+ghost use Rattle.con_actors.specs.Solo.{begins};
 ghost use Rattle.con_book.specs.Lock.{joined};
 ghost use Rattle.con_book.specs.Passes.{book_id, pass_id, view_of};
 ghost use Rattle.con_book.specs.Turn.{OwnIsMine};
@@ -19,11 +19,11 @@ ghost use Rattle.con_run.specs.Taking.{HasTaken, Covers, IsGathered, IsHistory, 
 use crate::closing::{closed, take_in};
 use crate::edges::Edges;
 use crate::gather::gather;
+use con_actors::{Outcome, end_by};
 use con_book::{Book, Pass};
 use con_events::{End, Entries, PieceEnds, Replies};
 use con_outside::Sink;
 use con_pipe::meet;
-use con_session::{Outcome, end_by};
 use con_threads::{ClientThread, Ledger, PainterThread, Scribe, SideThread};
 use con_units::OutOfMemory;
 use std::alloc::Global;

@@ -24,15 +24,15 @@ use Rattle.con_machine.specs.State.{State}
 use Rattle.con_machine.specs.Step.{is_ready}
 use Rattle.con_machine.specs.Turns.{sent, has_ended, paints}
 use Rattle.con_laws.specs.Whole.{HaveAllLeft}
-use Rattle.con_session.specs.Outcome.{IsOutcomeBy}
-use Rattle.con_session.specs.Words.Sender.{end_for, FailsBy}
-use Rattle.con_session.specs.Seats.{AllStandBy, AllFollow}
-use Rattle.con_session.specs.Solo.{Moment, GoesBy, AllIdle, StopsBy, begins, end_by}
-use Rattle.con_session.specs.Standing.{ClientStands}
+use Rattle.con_actors.specs.Outcome.{IsOutcomeBy}
+use Rattle.con_actors.specs.Words.Sender.{end_for, FailsBy}
+use Rattle.con_actors.specs.Seats.{AllStandBy, AllFollow}
+use Rattle.con_actors.specs.Solo.{Moment, GoesBy, AllIdle, StopsBy, begins, end_by}
+use Rattle.con_actors.specs.Standing.{ClientStands}
 use Rattle.con_session.proofs.Going.{failing, fails_now}
 use Rattle.con_session.proofs.Rounding.{AllRest, all_rest, broken_all, client_rests, nobody_none, painter_rests}
-use Rattle.con_session.specs.SenderLaws.{fails_false}
-use Rattle.con_session.specs.EndLaws.{waits_or_gone, left_by_waits, leaves_whole_by, leaves_stops_by, leaves_none_by}
+use Rattle.con_actors.specs.SenderLaws.{fails_false}
+use Rattle.con_actors.specs.EndLaws.{waits_or_gone, left_by_waits, leaves_whole_by, leaves_stops_by, leaves_none_by}
 
 -- ---- who has nothing to do
 

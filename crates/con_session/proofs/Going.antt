@@ -22,20 +22,20 @@ use Rattle.con_laws.specs.Rounds.{Begun}
 use Rattle.con_laws.specs.RoundWords.{AreTurns, IsTurn, clients_from, all_order, round_entries, entry_of, is_nobody, is_failed}
 use Rattle.con_machine.specs.State.{State}
 use Rattle.con_machine.specs.Turns.{paints, sent, has_ended, is_terminal, is_paint}
-use Rattle.con_session.specs.Words.Desk.{Rests, Stands, entry}
-use Rattle.con_session.specs.Painting.{CanvasIs, CanvasEnds, EntersPaint, PaintTurn, PainterFails, PainterActs}
-use Rattle.con_session.specs.Seats.{AllStandBy, AllFollow, ClientsTurnBy}
-use Rattle.con_session.specs.Words.Sender.{LinkBy, LinkEndsBy, SenderTurn, FailsBy}
-use Rattle.con_session.proofs.Beginning.{moment_of}
-use Rattle.con_session.specs.Solo.{AllIdle, Moment, HoldsBy, GoesBy, HasRounds, BreaksOff, StopsBy, RoundTurnBy, RoundsTurnBy, fails_at}
-use Rattle.con_session.specs.declared.terminal.Side.{Side}
-use Rattle.con_session.specs.declared.worker.Worker.{Worker}
-use Rattle.con_session.specs.CanvasLaws.{canvas_ends}
-use Rattle.con_session.specs.DeskLaws.{stands_one, stands_still}
-use Rattle.con_session.specs.LinkedLaws.{linked_other, linked_paint, linked_stays}
-use Rattle.con_session.specs.PaintCounts.{paints_next}
+use Rattle.con_actors.specs.Words.Desk.{Rests, Stands, entry}
+use Rattle.con_actors.specs.Painting.{CanvasIs, CanvasEnds, EntersPaint, PaintTurn, PainterFails, PainterActs}
+use Rattle.con_actors.specs.Seats.{AllStandBy, AllFollow, ClientsTurnBy}
+use Rattle.con_actors.specs.Words.Sender.{LinkBy, LinkEndsBy, SenderTurn, FailsBy}
+use Rattle.con_actors.specs.Beginning.{moment_of}
+use Rattle.con_actors.specs.Solo.{AllIdle, Moment, HoldsBy, GoesBy, HasRounds, BreaksOff, StopsBy, RoundTurnBy, RoundsTurnBy, fails_at}
+use Rattle.con_actors.specs.declared.side.Side.{Side}
+use Rattle.con_actors.specs.declared.worker.Worker.{Worker}
+use Rattle.con_actors.specs.CanvasLaws.{canvas_ends}
+use Rattle.con_actors.specs.DeskLaws.{stands_one, stands_still}
+use Rattle.con_actors.specs.LinkedLaws.{linked_other, linked_paint, linked_stays}
+use Rattle.con_actors.specs.PaintCounts.{paints_next}
 use Rattle.con_session.proofs.Rounding.{not_yet, fails_before, whole_round, broken_round, broken_all, nobody_all, nobody_none, one_round, round_longer}
-use Rattle.con_session.proofs.SeatLaws.{all_other, all_still}
+use Rattle.con_actors.specs.SeatLaws.{all_other, all_still}
 use Rattle.con_session.proofs.Turning.{sent_holds, sent_turn, sent_paints, entered_holds, entered_paints, painted_holds}
 use Rattle.con_session.proofs.Turning.{painted_serves, painted_turn, painted_count, clients_keep, numbered_on, canvas_on, some_on}
 
@@ -199,7 +199,7 @@ sent_err R M0 Then b scripts before old m s h rs left e turn link follow all f k
     let x = (all f was).holds in
     let c = fails_at b f in
     let st = stands_still c.state m.state s m.entries h m.replies rs r x.stands in
-    let P : List Entry → Type 0 = λ z. (j : ℕ) → j < length b.session.scripts → Rattle.con_session.specs.Standing.ClientStands c z (j + 1) in
+    let P : List Entry → Type 0 = λ z. (j : ℕ) → j < length b.session.scripts → Rattle.con_actors.specs.Standing.ClientStands c z (j + 1) in
     let N : ℕ → Type 0 = λ z. AllFollow c m.entries z in
     let C : List Entry → Type 0 = λ z. CanvasEnds c z b.session.size m.ends old m.written in
     let S : List Entry → Type 0 = λ z. m.failed ≡ true → 0 < paints z in

@@ -24,15 +24,15 @@ use Rattle.con_laws.specs.Rounds.{Begun}
 use Rattle.con_machine.specs.State.{State}
 use Rattle.con_machine.specs.Step.{is_ready}
 use Rattle.con_machine.specs.Turns.{sent, has_ended, paints}
-use Rattle.con_session.specs.CanvasLaws.{ends_as}
-use Rattle.con_session.specs.Words.Desk.{Enters, Rests, entry}
-use Rattle.con_session.specs.LinkLaws.{failed_for}
-use Rattle.con_session.specs.LinkedLaws.{linked_frame, linked_fault, linked_stops}
-use Rattle.con_session.specs.Painting.{CanvasEnds, EntersPaint, PaintTurn, acted}
-use Rattle.con_session.specs.Words.Sender.{FailsBy, Hears, LinkBy, LinkEndsBy, LinkIs, LinkTurn, LinkTurnBy, NoMore, SenderTurn, end_for, plain_of}
-use Rattle.con_session.specs.SenderLaws.{frame_ready, hangup_ready, none_asked, sends}
-use Rattle.con_session.specs.declared.desk.Picture.{Picture}
-use Rattle.con_session.specs.declared.terminal.Side.{Side}
+use Rattle.con_actors.specs.CanvasLaws.{ends_as}
+use Rattle.con_actors.specs.Words.Desk.{Enters, Rests, entry}
+use Rattle.con_actors.specs.LinkLaws.{failed_for}
+use Rattle.con_actors.specs.LinkedLaws.{linked_frame, linked_fault, linked_stops}
+use Rattle.con_actors.specs.Painting.{CanvasEnds, EntersPaint, PaintTurn, acted}
+use Rattle.con_actors.specs.Words.Sender.{FailsBy, Hears, LinkBy, LinkEndsBy, LinkIs, LinkTurn, LinkTurnBy, NoMore, SenderTurn, end_for, plain_of}
+use Rattle.con_actors.specs.SenderLaws.{frame_ready, hangup_ready, none_asked, sends}
+use Rattle.con_actors.specs.declared.desk.Picture.{Picture}
+use Rattle.con_actors.specs.declared.side.Side.{Side}
 
 -- what was read of the link, and how far the reader is then
 abbrev pub Took : (R : LinkReading) → Result R.One LinkFault → Option (List ℕ) → Option (List ℕ) → ℕ → ℕ → Type 0

@@ -10,12 +10,12 @@ use Rattle.con_events.specs.declared.reply.Reply.{Reply}
 use Rattle.con_machine.specs.Marks.{AreMarks}
 use Rattle.con_machine.specs.Painting.{view_now}
 use Rattle.con_machine.specs.State.{State}
-use Rattle.con_session.specs.Words.Desk.{Ran}
-use Rattle.con_session.specs.Painting.{IsTied, Pictured, Pictures}
-use Rattle.con_session.specs.PaintTurns.{tied_count, tied_rows, tied_size}
-use Rattle.con_session.specs.Words.Second.{GivenBehind, IsFollowed, StaysGiven, kept_as}
-use Rattle.con_session.specs.TiedLaws.{tied_cells, tied_ran}
-use Rattle.con_session.specs.declared.desk.Picture.{Picture}
+use Rattle.con_actors.specs.Words.Desk.{Ran}
+use Rattle.con_actors.specs.Painting.{IsTied, Pictured, Pictures}
+use Rattle.con_actors.specs.PaintTurns.{tied_count, tied_rows, tied_size}
+use Rattle.con_actors.specs.Words.Second.{GivenBehind, IsFollowed, StaysGiven, kept_as}
+use Rattle.con_actors.specs.TiedLaws.{tied_cells, tied_ran}
+use Rattle.con_actors.specs.declared.desk.Picture.{Picture}
 
 -- at a session's beginning none was given
 pub followed_none : (s : State) (given : Option View) → given ≡ None → IsFollowed s given

@@ -12,14 +12,14 @@ use Rattle.con_machine.specs.Follows.{session_start}
 use Rattle.con_laws.specs.Rounds.{Begun, is_memory}
 use Rattle.con_machine.specs.State.{State}
 use Rattle.con_machine.specs.Turns.{paints}
-use Rattle.con_session.specs.Outcome.{IsOutcomeBy}
-use Rattle.con_session.specs.Seats.{AllStandBy, AllFollow}
-use Rattle.con_session.specs.Second.{IsMirrorOutcome, Mirrors}
-use Rattle.con_session.specs.Words.Second.{Seconded}
+use Rattle.con_actors.specs.Outcome.{IsOutcomeBy}
+use Rattle.con_actors.specs.Seats.{AllStandBy, AllFollow}
+use Rattle.con_actors.specs.Second.{IsMirrorOutcome, Mirrors}
+use Rattle.con_actors.specs.Words.Second.{Seconded}
 use Rattle.con_session.proofs.SecondLaws.{second_begins}
-use Rattle.con_session.specs.Words.Sender.{FailsBy}
-use Rattle.con_session.specs.Solo.{Moment, GoesBy, AllIdle, StopsBy, begins, end_by}
-use Rattle.con_session.specs.declared.solo.Outcome.{Outcome}
+use Rattle.con_actors.specs.Words.Sender.{FailsBy}
+use Rattle.con_actors.specs.Solo.{Moment, GoesBy, AllIdle, StopsBy, begins, end_by}
+use Rattle.con_actors.specs.declared.outcome.Outcome.{Outcome}
 use Rattle.con_session.proofs.Ending.{handed_none, handed_stops, handed_whole}
 use Rattle.con_session.proofs.Mirroring.{Lacks, ends_by}
 

@@ -26,15 +26,15 @@ use Rattle.con_machine.specs.Painting.{view_now}
 use Rattle.con_laws.specs.Rounds.{Begun}
 use Rattle.con_machine.specs.State.{State}
 use Rattle.con_machine.specs.Turns.{is_terminal, is_paint}
-use Rattle.con_session.specs.Words.Desk.{entry}
-use Rattle.con_session.specs.LinkedLaws.{linked_hung, linked_stays, linked_stops}
-use Rattle.con_session.specs.Painting.{PaintTurn, PainterActs, PainterFails, Pictured, acted}
-use Rattle.con_session.specs.Second.{Mirrors}
-use Rattle.con_session.specs.Words.Second.{FollowTurn, MirrorLinkIs, SecondIs, Seconded, kept_behind}
+use Rattle.con_actors.specs.Words.Desk.{entry}
+use Rattle.con_actors.specs.LinkedLaws.{linked_hung, linked_stays, linked_stops}
+use Rattle.con_actors.specs.Painting.{PaintTurn, PainterActs, PainterFails, Pictured, acted}
+use Rattle.con_actors.specs.Second.{Mirrors}
+use Rattle.con_actors.specs.Words.Second.{FollowTurn, MirrorLinkIs, SecondIs, Seconded, kept_behind}
 use Rattle.con_session.proofs.SecondLaws.{second_ends, second_frame, second_hung, second_other, second_past}
-use Rattle.con_session.specs.Words.Sender.{Hears, LinkEndsBy, LinkTurnBy, plain_of}
-use Rattle.con_session.specs.declared.desk.Picture.{Picture}
-use Rattle.con_session.specs.declared.terminal.Side.{Side}
+use Rattle.con_actors.specs.Words.Sender.{Hears, LinkEndsBy, LinkTurnBy, plain_of}
+use Rattle.con_actors.specs.declared.desk.Picture.{Picture}
+use Rattle.con_actors.specs.declared.side.Side.{Side}
 use Rattle.con_session.proofs.Hearing.{Took, heard_by, heard_failed, heard_few}
 
 -- what an outcome has of the second terminal, where there was no memory

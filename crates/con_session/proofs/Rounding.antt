@@ -10,9 +10,9 @@ use Rattle.con_events.specs.declared.event.Event.{Event}
 use Rattle.con_laws.specs.RoundLaws.{turns_more, entries_more, rounds_more, all_entries_more}
 use Rattle.con_laws.specs.Rounds.{Begun}
 use Rattle.con_laws.specs.RoundWords.{AreTurns, IsTurn, clients_from, entry_of, round_entries, all_order, is_failed, is_nobody}
-use Rattle.con_session.specs.Painting.{PainterFails}
-use Rattle.con_session.specs.Words.Sender.{FailsBy}
-use Rattle.con_session.specs.Solo.{HasRounds}
+use Rattle.con_actors.specs.Painting.{PainterFails}
+use Rattle.con_actors.specs.Words.Sender.{FailsBy}
+use Rattle.con_actors.specs.Solo.{HasRounds}
 
 -- ---- from which Paint on the terminal counts as failed
 

@@ -32,22 +32,22 @@ use Rattle.con_machine.specs.Painting.{view_now}
 use Rattle.con_machine.specs.State.{State}
 use Rattle.con_machine.specs.History.{run}
 use Rattle.con_machine.specs.Turns.{is_terminal, is_paint, paints}
-use Rattle.con_session.specs.CanvasLaws.{joined_more, ends_more, take_all, written_more}
-use Rattle.con_session.specs.Words.Desk.{entry}
-use Rattle.con_session.specs.EndLaws.{stream_run}
-use Rattle.con_session.specs.Painting.{Written}
-use Rattle.con_session.specs.RunLaws.{matched_paint, piece_paint, piece_none, reach_paint, matched_resize, piece_resize, reach_resize}
+use Rattle.con_actors.specs.CanvasLaws.{joined_more, ends_more, take_all, written_more}
+use Rattle.con_actors.specs.Words.Desk.{entry}
+use Rattle.con_actors.specs.EndLaws.{stream_run}
+use Rattle.con_actors.specs.Painting.{Written}
+use Rattle.con_actors.specs.RunLaws.{matched_paint, piece_paint, piece_none, reach_paint, matched_resize, piece_resize, reach_resize}
 use Rattle.con_laws.specs.TerminalRuns.{EachRun, ShowsView}
-use Rattle.con_session.specs.Runs.{PrintsFew}
-use Rattle.con_session.specs.Words.Runs.{Painted, EachPiece, joined, ends_from}
-use Rattle.con_session.specs.Watched.{Watch, watch, watched, watched_at, seconds_at, seconds_of, painted_at}
-use Rattle.con_session.specs.Watched.{begun_at, flags_of, attached_by, mirrored_to, begins_by, picked, Stays}
+use Rattle.con_actors.specs.Runs.{PrintsFew}
+use Rattle.con_actors.specs.Words.Runs.{Painted, EachPiece, joined, ends_from}
+use Rattle.con_actors.specs.Watched.{Watch, watch, watched, watched_at, seconds_at, seconds_of, painted_at}
+use Rattle.con_actors.specs.Watched.{begun_at, flags_of, attached_by, mirrored_to, begins_by, picked, Stays}
 use Rattle.con_session.proofs.SecondsLaws.{seconds-one, flags-one, watched-one, picked-more, picked-same, picked-past, rests-more}
 use Rattle.con_session.proofs.SecondsLaws.{rests-past, last-more, flags-count, no_flag, no_sight, frame_begins, frame_at, frame_coming}
 use Rattle.con_session.proofs.SecondSame.{seconds_same, flags_same, picked_same, stays_so}
-use Rattle.con_session.specs.Seconds as told
-use Rattle.con_session.specs.Second.{Mirrors}
-use Rattle.con_session.specs.Words.Second.{Shown, PiecesStand, SecondIs, Reflects, FrameOf, SecondTurn, Wrote, kept_by}
+use Rattle.con_actors.specs.Seconds as told
+use Rattle.con_actors.specs.Second.{Mirrors}
+use Rattle.con_actors.specs.Words.Second.{Shown, PiecesStand, SecondIs, Reflects, FrameOf, SecondTurn, Wrote, kept_by}
 
 -- ---- sights and pieces
 

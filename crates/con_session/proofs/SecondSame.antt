@@ -11,9 +11,9 @@ use Rattle.con_events.specs.declared.event.Event.{Event}
 use Rattle.con_events.specs.declared.event.Event.TheVariants as events
 use Rattle.con_machine.specs.State.{State}
 use Rattle.con_machine.specs.Turns.{moved, is_terminal, is_paint}
-use Rattle.con_session.specs.Seconds.{attached_at, begun_by, mirrored_by, watching}
-use Rattle.con_session.specs.Seconds as now
-use Rattle.con_session.specs.Watched.{Watch, watched_at, begun_at, painted_at, seconds_of, flag_at, flags_of, picked, Stays}
+use Rattle.con_actors.specs.Seconds.{attached_at, begun_by, mirrored_by, watching}
+use Rattle.con_actors.specs.Seconds as now
+use Rattle.con_actors.specs.Watched.{Watch, watched_at, begun_at, painted_at, seconds_of, flag_at, flags_of, picked, Stays}
 
 abbrev from : List MirrorFrame → Option Size → Watch
 from coming at = record { coming = coming; at = at }

@@ -11,13 +11,13 @@ use Rattle.con_machine.specs.Words.Along.{after}
 use Rattle.con_machine.specs.State.{State}
 use Rattle.con_machine.specs.History.{run}
 use Rattle.con_machine.specs.Turns.{moved, is_paint, paints}
-use Rattle.con_session.specs.Watched.{Watch, watched, watched_at, seconds_at, seconds_of, begun_at}
-use Rattle.con_session.specs.Watched.{begins_by, painted_at, attached_by, flag_at, flags_of, picked, Stays}
+use Rattle.con_actors.specs.Watched.{Watch, watched, watched_at, seconds_at, seconds_of, begun_at}
+use Rattle.con_actors.specs.Watched.{begins_by, painted_at, attached_by, flag_at, flags_of, picked, Stays}
 use Rattle.con_link.specs.Words.Mirrored.{as_plain}
 use Rattle.con_link.specs.declared.mirror.MirrorFrame.TheVariants.{Plain, Attach, Detach}
 use Rattle.con_units.specs.declared.view.Frame.TheVariants as frames
 use Rattle.con_machine.specs.Follows.{sent_by}
-use Rattle.con_session.specs.Watched.{end_of}
+use Rattle.con_actors.specs.Watched.{end_of}
 
 seconds-append : (w : Watch) (s : State) (h g : List Entry) → seconds_of w s (h ++ g) ≡ seconds_of w s h ++ seconds_of (after watched w h) (run s h) g
 seconds-append w s [] g = refl

@@ -22,20 +22,20 @@ use Rattle.con_laws.specs.RoundWords.{clients_from, entry_of, round_entries, is_
 use Rattle.con_machine.specs.State.{State}
 use Rattle.con_machine.specs.Step.{is_ready}
 use Rattle.con_machine.specs.Turns.{moved, paints, is_paint, is_terminal}
-use Rattle.con_session.specs.Words.Desk.{Stands, entry}
-use Rattle.con_session.specs.Painting.{CanvasIs, PaintTurn, PainterFails, PainterActs}
-use Rattle.con_session.specs.Seats.{ClientsTurnBy, HaveTurns}
-use Rattle.con_session.specs.Words.Sender.{LinkBy, SenderTurn}
-use Rattle.con_session.specs.Solo.{AsksStand, HoldsBy, Moment}
-use Rattle.con_session.specs.declared.terminal.Side.{Side}
-use Rattle.con_session.specs.declared.worker.Worker.{Worker}
-use Rattle.con_session.specs.AskLaws.{asks_other, asks_own, asks_lost}
-use Rattle.con_session.specs.DeskLaws.{stands_one, stands_still}
-use Rattle.con_session.specs.LinkedLaws.{linked_other, linked_failed, linked_paint}
-use Rattle.con_session.specs.PaintCounts.{no_paint, paints_same, paints_next}
-use Rattle.con_session.specs.PaintingLaws.{painter_other}
-use Rattle.con_session.proofs.SeatLaws.{all_other, all_still}
-use Rattle.con_session.specs.TiedLaws.{served_paint, served_still}
+use Rattle.con_actors.specs.Words.Desk.{Stands, entry}
+use Rattle.con_actors.specs.Painting.{CanvasIs, PaintTurn, PainterFails, PainterActs}
+use Rattle.con_actors.specs.Seats.{ClientsTurnBy, HaveTurns}
+use Rattle.con_actors.specs.Words.Sender.{LinkBy, SenderTurn}
+use Rattle.con_actors.specs.Solo.{AsksStand, HoldsBy, Moment}
+use Rattle.con_actors.specs.declared.side.Side.{Side}
+use Rattle.con_actors.specs.declared.worker.Worker.{Worker}
+use Rattle.con_actors.specs.AskLaws.{asks_other, asks_own, asks_lost}
+use Rattle.con_actors.specs.DeskLaws.{stands_one, stands_still}
+use Rattle.con_actors.specs.LinkedLaws.{linked_other, linked_failed, linked_paint}
+use Rattle.con_actors.specs.PaintCounts.{no_paint, paints_same, paints_next}
+use Rattle.con_actors.specs.PaintingLaws.{painter_other}
+use Rattle.con_actors.specs.SeatLaws.{all_other, all_still}
+use Rattle.con_actors.specs.TiedLaws.{served_paint, served_still}
 
 -- ---- the actors' numbers
 

@@ -1,38 +1,31 @@
 //! A session by turns with a second terminal: rounds until nobody acts.
-ghost use Rattle.std.specs.Prelude.{◌≡◌, ◌⊎◌, ℕ, ◌<◌, ◌≤◌, Bool, true, false, List, [], All, length, map, None, Option, IfOk};
+ghost use Rattle.std.specs.Prelude.{◌≡◌, ◌⊎◌, ℕ, ◌<◌, ◌≤◌, true, false, List, All, length, map, Option, IfOk};
 ghost use Rattle.con_outside.specs.Outside.{Rose};
 ghost use Rattle.con_link.specs.LinkReading.{mirrored};
 ghost use Rattle.con_events.specs.declared.end.End.{End};
+ghost use Rattle.con_handlers.specs.Boxes.{boxed};
 ghost use Rattle.con_laws.specs.Rounds.{Begun};
 ghost use Rattle.con_machine.specs.Turns.{paints};
-ghost use Rattle.con_session.specs.Held.{moment};
-ghost use Rattle.con_session.specs.Painting.{IsTied};
-ghost use Rattle.con_session.specs.Second.{IsMirrorOutcome, Mirrors};
-ghost use Rattle.con_session.specs.Words.Second.{IsFollowed, Seconded};
-ghost use Rattle.con_session.specs.Words.Sender.{FailsBy};
-ghost use Rattle.con_session.specs.Solo.{GoesBy, RoundTurnBy, RoundsTurnBy, fails_at};
-ghost use Rattle.con_session.specs.Worker.{told_kind};
+ghost use Rattle.con_actors.specs.Held.{moment};
+ghost use Rattle.con_actors.specs.Painting.{IsTied};
+ghost use Rattle.con_actors.specs.Second.{IsMirrorOutcome, Mirrors};
+ghost use Rattle.con_actors.specs.Words.Second.{IsFollowed, Seconded};
+ghost use Rattle.con_actors.specs.Words.Sender.{FailsBy};
+ghost use Rattle.con_actors.specs.Solo.{GoesBy, RoundTurnBy, RoundsTurnBy, fails_at};
+ghost use Rattle.con_actors.specs.Worker.{told_kind};
 
+use crate::clients::clients_turn;
 use crate::painting::painted;
-use crate::seat::{Seat, clients_turn};
-use crate::second::{Second, followed, mirrored_turn};
-use crate::solo::{Outcome, any_of, end_by, left_by, nothing_left};
-use crate::stage::{Stage, begun};
-use con_events::{End, PieceEnds, Script, Session};
+use crate::second::{followed, mirrored_turn};
+use crate::solo::any_of;
+use con_actors::{
+    Mirrored, Seat, Second, Stage, begun, end_by, left_by, left_with, none_attached, nothing_left,
+};
+use con_events::{End, Script, Session};
 use con_handlers::CtrlHandler;
-use con_mirror::Mirror;
 use con_outside::{Sink, Source};
 use con_units::OutOfMemory;
 use std::alloc::Global;
-
-/// What a session with a second terminal leaves behind: what any session does, where the second terminal's stream ends after each Paint,
-/// and whether its sink failed.
-#[derive(Drop)]
-pub struct Mirrored {
-    pub outcome: Outcome,
-    pub ends: PieceEnds,
-    pub failed: bool,
-}
 
 // A round: the terminal's side with the mirror, each client, the painter with the second terminal. False: nobody had anything to do.
 fn mirror_round<I: Source, O: Sink, N: Sink>(
@@ -59,14 +52,14 @@ fn mirror_round<I: Source, O: Sink, N: Sink>(
         → GoesBy mirrored
         (Seconded b.state stage.old.side.ended second.old.mirror.kept second.old.ends.items second.old.end was
         (N.written sink.old) second.old.failed)
-        (fails_at b f) scripts.now before old (moment memory stage.old seats.old (I.left link.old) (O.written term.old)))
+        (fails_at b f) scripts.now before old (moment (boxed memory) stage.old seats.old (I.left link.old) (O.written term.old)))
         → (f : Option ℕ) → FailsBy stage.new.canvas.failed f (paints stage.new.desk.entries.items)
         → RoundTurnBy mirrored
         (Seconded b.state stage.new.side.ended second.new.mirror.kept second.new.ends.items second.new.end was
         (N.written sink.new) second.new.failed)
         (λ frames h. Mirrors b.state frames b.session.size second.new.ends.items was (N.written sink.new) second.new.failed true h)
         result (fails_at b f) scripts.now before old stage.old.desk.entries.items
-        (moment memory stage.new seats.new (I.left link.new) (O.written term.new)) }
+        (moment (boxed memory) stage.new seats.new (I.left link.new) (O.written term.new)) }
     ensures link { stage.new.side.end ≡ End.Link → (stage.old.side.end ≡ End.Link) ⊎ Rose (I.faults link.old) (I.faults link.new) }
     ensures term { stage.new.canvas.failed ≡ true → (stage.old.canvas.failed ≡ true) ⊎ Rose (O.faults term.old) (O.faults term.new) }
     ensures link_never_falls { I.faults link.old ≤ I.faults link.new }
@@ -110,20 +103,20 @@ fn mirror_rounds<I: Source, O: Sink, N: Sink>(
         → GoesBy mirrored
         (Seconded b.state stage.old.side.ended second.old.mirror.kept second.old.ends.items second.old.end was
         (N.written sink.old) second.old.failed)
-        (fails_at b f) scripts.now before old (moment memory stage.old seats.old (I.left link.old) (O.written term.old))) }
+        (fails_at b f) scripts.now before old (moment (boxed memory) stage.old seats.old (I.left link.old) (O.written term.old))) }
     ensures turn { (b : Begun) (before old was : Option (List ℕ))
         → ((f : Option ℕ) → FailsBy stage.old.canvas.failed f (paints stage.old.desk.entries.items)
         → GoesBy mirrored
         (Seconded b.state stage.old.side.ended second.old.mirror.kept second.old.ends.items second.old.end was
         (N.written sink.old) second.old.failed)
-        (fails_at b f) scripts.now before old (moment memory stage.old seats.old (I.left link.old) (O.written term.old)))
+        (fails_at b f) scripts.now before old (moment (boxed memory) stage.old seats.old (I.left link.old) (O.written term.old)))
         → (f : Option ℕ) → FailsBy stage.new.canvas.failed f (paints stage.new.desk.entries.items)
         → RoundsTurnBy mirrored
         (Seconded b.state stage.new.side.ended second.new.mirror.kept second.new.ends.items second.new.end was
         (N.written sink.new) second.new.failed)
         (λ frames h. Mirrors b.state frames b.session.size second.new.ends.items was (N.written sink.new) second.new.failed true h)
         result (fails_at b f) scripts.now before old
-        (moment memory stage.new seats.new (I.left link.new) (O.written term.new)) }
+        (moment (boxed memory) stage.new seats.new (I.left link.new) (O.written term.new)) }
     ensures link { stage.new.side.end ≡ End.Link → (stage.old.side.end ≡ End.Link) ⊎ Rose (I.faults link.old) (I.faults link.new) }
     ensures term { stage.new.canvas.failed ≡ true → (stage.old.canvas.failed ≡ true) ⊎ Rose (O.faults term.old) (O.faults term.new) }
     ensures link_never_falls { I.faults link.old ≤ I.faults link.new }
@@ -133,35 +126,6 @@ fn mirror_rounds<I: Source, O: Sink, N: Sink>(
 {
     while mirror_round(stage, seats, scripts, link, term, second, sink)? {}
     Ok(())
-}
-
-// A second terminal at a session's beginning: none is attached.
-fn none_attached(alloc: Global) -> Second
-    ensures mirror { result.mirror.kept ≡ None }
-    ensures given { result.mirror.given ≡ None }
-    ensures ends { (result.ends.items ≡ []) × (result.end ≡ 0) }
-    ensures failed { result.failed ≡ false }
-{
-    Second {
-        mirror: Mirror::new(alloc),
-        out: Vec::new(alloc),
-        ends: Vec::new(alloc),
-        end: 0,
-        failed: false,
-    }
-}
-
-// What is left of a session, with its second terminal.
-fn left_with(outcome: Outcome, second: Second) -> Mirrored
-    ensures outcome { result.outcome ≡ outcome }
-    ensures ends { result.ends ≡ second.ends.items }
-    ensures failed { result.failed ≡ second.failed }
-{
-    Mirrored {
-        outcome,
-        ends: PieceEnds(second.ends),
-        failed: second.failed,
-    }
 }
 
 /// Runs a session by turns on one thread, as `run_solo`, of a link by whose frames a second terminal attaches and detaches. While it

@@ -1,5 +1,5 @@
 //! The painter's turn: a Paint, its frame, and the frame's bytes to the terminal.
-ghost use Rattle.std.specs.Prelude.{◌≡◌, ◌⊎◌, ℕ, ◌+◌, ◌<◌, ◌≤◌, true, false, Bool, List, length, slice_index_or, IfOk, IfSome, Option, if◌then◌else◌};
+ghost use Rattle.std.specs.Prelude.{◌≡◌, ◌⊎◌, ℕ, ◌<◌, ◌≤◌, true, false, List, length, slice_index_or, IfOk, IfSome, Option, if◌then◌else◌};
 ghost use Rattle.con_units.specs.Words.Limits.{IsWindow};
 ghost use Rattle.con_units.specs.View.{row_of};
 ghost use Rattle.con_units.specs.Words.View.{IsWhole};
@@ -11,26 +11,14 @@ ghost use Rattle.con_machine.specs.History.{run};
 ghost use Rattle.con_machine.specs.Marks.{AreMarks};
 ghost use Rattle.con_laws.specs.Rounds.{Begun};
 ghost use Rattle.con_machine.specs.Turns.{paints};
-ghost use Rattle.con_session.specs.Painting.{CanvasIs, IsTied, PainterActs, PainterFails, PaintTurn, Pictured, acted};
-ghost use Rattle.con_session.specs.Words.Sender.{FailsBy};
+ghost use Rattle.con_actors.specs.Painting.{CanvasIs, IsTied, PainterActs, PainterFails, PaintTurn, Pictured, acted};
+ghost use Rattle.con_actors.specs.Words.Sender.{FailsBy};
 
-use crate::desk::{Desk, Picture};
+use con_actors::{Canvas, Desk, Picture, end_after, frame_length};
 use con_events::{Actor, Event};
 use con_outside::{Fault, Sink, write_whole};
 use con_paint::{Painter, room_for};
 use con_units::{OutOfMemory, Size};
-
-/// The painter, its frame's bytes, and where each frame ends in the stream.
-#[derive(Drop)]
-pub struct Canvas {
-    pub painter: Painter,
-    pub out: Vec<u8>,
-    pub ends: Vec<u64>,
-    /// How many bytes the frames have.
-    pub end: u64,
-    /// The terminal has failed.
-    pub failed: bool,
-}
 
 // A painter that knows nothing, where nothing is known of the terminal.
 fn ready_for(painter: &mut Painter, size: Size, fresh: bool) -> Result<(), OutOfMemory>
@@ -67,23 +55,6 @@ pub fn draw(painter: &mut Painter, out: &mut Vec<u8>, picture: &Picture) -> Resu
     ready_for(painter, size, picture.fresh)?;
     painter.paint(&picture.view, &picture.marks, out);
     Ok(())
-}
-
-/// How many bytes a frame has.
-pub fn frame_length(out: &Vec<u8>) -> usize
-    ensures { result ≡ length out.now.items }
-{
-    out.as_slice().len()
-}
-
-/// Where a frame of so many bytes ends in the stream, if the one before it ends here.
-pub fn end_after(end: u64, more: usize) -> Result<u64, OutOfMemory>
-    ensures { IfOk result (λ n. n ≡ end + more) }
-{
-    match end.checked_add(more as u64) {
-        Some(n) => Ok(n),
-        None => Err(OutOfMemory),
-    }
 }
 
 /// A turn of the painter: a Paint with its frame, where one is ready and the terminal has not failed. It answers what was painted,

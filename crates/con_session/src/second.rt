@@ -1,9 +1,8 @@
-//! The second terminal: it attaches and detaches by frames of the link, and follows each Paint while it is attached.
-ghost use Rattle.std.specs.Prelude.{◌≡◌, ◌⊎◌, ◌+◌, ℕ, ◌≤◌, true, false, is_some, Bool, List, ◌∷◌, [], ◌++◌, length, IfOk, IfSome, OnErr, Option, Some, None};
+//! The second terminal's turns: the terminal's side with its mirror, and a Paint that it follows.
+ghost use Rattle.std.specs.Prelude.{◌≡◌, ◌⊎◌, ℕ, ◌≤◌, true, false, is_some, Bool, List, ◌∷◌, [], ◌++◌, IfOk, IfSome, OnErr, Option};
 ghost use Rattle.con_units.specs.Words.View.{IsWhole};
 ghost use Rattle.con_units.specs.declared.place.Size.{Size};
 ghost use Rattle.con_outside.specs.Outside.{Rose};
-ghost use Rattle.con_link.specs.Words.Mirrored.{is_mirror_frame};
 ghost use Rattle.con_link.specs.LinkReading.{mirrored};
 ghost use Rattle.con_link.specs.declared.mirror.MirrorFrame.{MirrorFrame};
 ghost use Rattle.con_mirror.specs.Mirror.{AreSince};
@@ -15,71 +14,20 @@ ghost use Rattle.con_machine.specs.Painting.{view_now};
 ghost use Rattle.con_laws.specs.Rounds.{Begun};
 ghost use Rattle.con_machine.specs.State.{State};
 ghost use Rattle.con_machine.specs.Turns.{has_ended, paints, sent};
-ghost use Rattle.con_session.specs.Words.Desk.{Ran, entry};
-ghost use Rattle.con_session.specs.Second.{Mirrors};
-ghost use Rattle.con_session.specs.Words.Second.{FollowTurn, FrameOf, GivenBehind, IsGiven, MirrorLinkIs, SecondIs, SecondTurn, Seconded, StaysGiven, kept_behind, kept_by};
-ghost use Rattle.con_session.specs.Words.Sender.{FailsBy, LinkTurnBy, SenderTurn, plain_of};
+ghost use Rattle.con_actors.specs.Words.Desk.{Ran, entry};
+ghost use Rattle.con_actors.specs.Second.{Mirrors};
+ghost use Rattle.con_actors.specs.Words.Second.{FollowTurn, GivenBehind, IsGiven, MirrorLinkIs, SecondIs, SecondTurn, Seconded, StaysGiven};
+ghost use Rattle.con_actors.specs.Words.Sender.{FailsBy, LinkTurnBy, SenderTurn};
 
-use crate::desk::{Desk, Picture};
-use crate::painting::{end_after, frame_length};
-use crate::terminal::{Side, heard};
+use crate::terminal::heard;
+use con_actors::{
+    Desk, Picture, Second, Side, as_plain_read, attended, draw_part, end_after, frame_length,
+};
 use con_events::{Actor, End, Event};
-use con_link::{LinkFault, LinkReader, MirrorFrame};
+use con_link::LinkReader;
 use con_mirror::Mirror;
 use con_outside::{Fault, Sink, Source, write_whole};
-use con_paint::room_for;
-use con_units::{Frame, Marks, OutOfMemory, View};
-
-/// The mirror, its frame's bytes, and where the stream of the second terminal ends at each Paint.
-#[derive(Drop)]
-pub struct Second {
-    pub mirror: Mirror,
-    pub out: Vec<u8>,
-    pub ends: Vec<u64>,
-    /// How many bytes the frames have.
-    pub end: u64,
-    /// The second terminal's sink has failed.
-    pub failed: bool,
-}
-
-/// What a frame of the link does to the mirror.
-pub fn attend(mirror: &mut Mirror, frame: &MirrorFrame) -> Result<(), OutOfMemory>
-    requires { is_mirror_frame frame.now ≡ true }
-    ensures kept { IfOk result (λ _. mirror.new.kept ≡ kept_by mirror.old.kept frame.now) }
-    ensures given { StaysGiven mirror.old.given mirror.new.given }
-{
-    match frame {
-        MirrorFrame::Plain(_) => Ok(()),
-        MirrorFrame::Attach(size) => mirror.attach(*size),
-        MirrorFrame::Detach => {
-            mirror.detach();
-            Ok(())
-        }
-    }
-}
-
-// What was read of the link does to the mirror: where no frame was read, nothing.
-fn attended(mirror: &mut Mirror, read: &Result<MirrorFrame, LinkFault>) -> Result<(), OutOfMemory>
-    requires { IfOk read.now (λ frame. is_mirror_frame frame ≡ true) }
-    ensures kept { IfOk result (λ _. mirror.new.kept ≡ kept_behind mirror.old.kept read.now) }
-    ensures given { StaysGiven mirror.old.given mirror.new.given }
-{
-    match read {
-        Ok(frame) => attend(mirror, frame),
-        Err(_) => Ok(()),
-    }
-}
-
-// What was read, as every link has it: A and D ask for a frame of output.
-fn as_plain_read(read: Result<MirrorFrame, LinkFault>) -> Result<Frame, LinkFault>
-    ensures { result ≡ plain_of mirrored read }
-{
-    match read {
-        Ok(MirrorFrame::Plain(frame)) => Ok(frame),
-        Ok(_) => Ok(Frame::Ask),
-        Err(fault) => Err(fault),
-    }
-}
+use con_units::{Marks, OutOfMemory, View};
 
 /// One turn of the terminal's side, as `terminal_turn`, of a link that may have a second terminal: the mirror attends to the frame,
 /// before its event is entered.
@@ -119,30 +67,6 @@ pub fn mirrored_turn<I: Source>(
     heard(desk, side, as_plain_read(read))
 }
 
-// Writes the frame of the view's part to `out`, in the place of what was there; none where no terminal is attached. A row without a
-// mark is as it was in the view that was given last.
-fn frame(
-    mirror: &mut Mirror,
-    out: &mut Vec<u8>,
-    view: &View,
-    marks: &Marks,
-) -> Result<(), OutOfMemory>
-    requires view { IsWhole view.now }
-    requires marks { AreSince mirror.old.given view.now marks.now }
-    ensures frame { IfOk result (λ _. FrameOf mirror.old.kept mirror.new.kept view.now out.new.items) }
-    ensures given { IfOk result (λ _. IsGiven view.now mirror.new.given) }
-{
-    out.clear();
-    let Some(size) = mirror.size() else {
-        return Ok(());
-    };
-    if out.reserve(room_for(size)).is_err() {
-        return Err(OutOfMemory);
-    }
-    mirror.paint(view, marks, out);
-    Ok(())
-}
-
 /// Follows a Paint of this view, in which a row without a mark is as it was in the view that was given last. Behind a failure of the
 /// sink nothing more is written to it, and the frames go on.
 pub fn follow<N: Sink>(
@@ -166,7 +90,7 @@ pub fn follow<N: Sink>(
     if second.ends.reserve(1).is_err() {
         return Err(OutOfMemory);
     }
-    frame(&mut second.mirror, &mut second.out, view, marks)?;
+    draw_part(&mut second.mirror, &mut second.out, view, marks)?;
     let end = end_after(second.end, frame_length(&second.out))?;
     second.end = end;
     second.ends.push_reserved(end);

@@ -1,36 +1,26 @@
 //! A session by turns on one thread: rounds until nobody acts.
-ghost use Rattle.std.specs.Prelude.{◌≡◌, ◌⊎◌, ℕ, ◌<◌, ◌≤◌, ◌||◌, Bool, true, false, List, [], All, length, map, Option, IfOk};
+ghost use Rattle.std.specs.Prelude.{◌≡◌, ◌⊎◌, ℕ, ◌<◌, ◌≤◌, ◌||◌, true, false, List, All, length, map, Option, IfOk};
 ghost use Rattle.con_outside.specs.Outside.{Rose};
 ghost use Rattle.con_events.specs.declared.end.End.{End};
+ghost use Rattle.con_handlers.specs.Boxes.{boxed};
 ghost use Rattle.con_laws.specs.Rounds.{Begun};
 ghost use Rattle.con_machine.specs.Turns.{paints};
-ghost use Rattle.con_session.specs.Held.{moment};
-ghost use Rattle.con_session.specs.Outcome.{IsSoloOutcome};
-ghost use Rattle.con_session.specs.Painting.{IsTied};
-ghost use Rattle.con_session.specs.Words.Sender.{FailsBy};
-ghost use Rattle.con_session.specs.Solo.{Goes, RoundTurn, RoundsTurn, end_by, fails_at};
-ghost use Rattle.con_session.specs.Worker.{told_kind};
+ghost use Rattle.con_actors.specs.Held.{moment};
+ghost use Rattle.con_actors.specs.Outcome.{IsSoloOutcome};
+ghost use Rattle.con_actors.specs.Painting.{IsTied};
+ghost use Rattle.con_actors.specs.Words.Sender.{FailsBy};
+ghost use Rattle.con_actors.specs.Solo.{Goes, RoundTurn, RoundsTurn, fails_at};
+ghost use Rattle.con_actors.specs.Worker.{told_kind};
 
-use crate::desk::Desk;
+use crate::clients::clients_turn;
 use crate::painting::painter_turn;
-use crate::seat::{Seat, clients_turn};
-use crate::stage::{Stage, begun};
 use crate::terminal::terminal_turn;
-use con_events::{End, Entries, PieceEnds, Replies, Script, Session};
+use con_actors::{Outcome, Seat, Stage, begun, end_by, left_by, nothing_left};
+use con_events::{End, Script, Session};
 use con_handlers::CtrlHandler;
 use con_outside::{Sink, Source};
 use con_units::OutOfMemory;
 use std::alloc::Global;
-
-/// What a session leaves behind: its history, the answers, where each frame ends in the terminal's stream, and why it ended.
-/// A Paint counts as answered by Done.
-#[derive(Drop)]
-pub struct Outcome {
-    pub entries: Entries,
-    pub replies: Replies,
-    pub ends: PieceEnds,
-    pub end: End,
-}
 
 // Whether one of them acted.
 pub(crate) fn any_of(sent: bool, entered: bool, painted: bool) -> bool
@@ -57,10 +47,10 @@ fn round<I: Source, O: Sink>(
     ensures tied { IfOk result (λ _. IsTied stage.new.desk.console.state stage.new.canvas.painter) }
     ensures turn { (b : Begun) (before old : Option (List ℕ))
         → ((f : Option ℕ) → FailsBy stage.old.canvas.failed f (paints stage.old.desk.entries.items)
-        → Goes (fails_at b f) scripts.now before old (moment memory stage.old seats.old (I.left link.old) (O.written term.old)))
+        → Goes (fails_at b f) scripts.now before old (moment (boxed memory) stage.old seats.old (I.left link.old) (O.written term.old)))
         → (f : Option ℕ) → FailsBy stage.new.canvas.failed f (paints stage.new.desk.entries.items)
         → RoundTurn result (fails_at b f) scripts.now before old stage.old.desk.entries.items
-        (moment memory stage.new seats.new (I.left link.new) (O.written term.new)) }
+        (moment (boxed memory) stage.new seats.new (I.left link.new) (O.written term.new)) }
     ensures link { stage.new.side.end ≡ End.Link → (stage.old.side.end ≡ End.Link) ⊎ Rose (I.faults link.old) (I.faults link.new) }
     ensures term { stage.new.canvas.failed ≡ true → (stage.old.canvas.failed ≡ true) ⊎ Rose (O.faults term.old) (O.faults term.new) }
     ensures link_never_falls { I.faults link.old ≤ I.faults link.new }
@@ -94,12 +84,12 @@ fn rounds<I: Source, O: Sink>(
     requires tied { IsTied stage.old.desk.console.state stage.old.canvas.painter }
     requires going { (b : Begun) × (before : Option (List ℕ)) × (old : Option (List ℕ))
         × ((f : Option ℕ) → FailsBy stage.old.canvas.failed f (paints stage.old.desk.entries.items)
-        → Goes (fails_at b f) scripts.now before old (moment memory stage.old seats.old (I.left link.old) (O.written term.old))) }
+        → Goes (fails_at b f) scripts.now before old (moment (boxed memory) stage.old seats.old (I.left link.old) (O.written term.old))) }
     ensures turn { (b : Begun) (before old : Option (List ℕ))
         → ((f : Option ℕ) → FailsBy stage.old.canvas.failed f (paints stage.old.desk.entries.items)
-        → Goes (fails_at b f) scripts.now before old (moment memory stage.old seats.old (I.left link.old) (O.written term.old)))
+        → Goes (fails_at b f) scripts.now before old (moment (boxed memory) stage.old seats.old (I.left link.old) (O.written term.old)))
         → (f : Option ℕ) → FailsBy stage.new.canvas.failed f (paints stage.new.desk.entries.items)
-        → RoundsTurn result (fails_at b f) scripts.now before old (moment memory stage.new seats.new (I.left link.new) (O.written term.new)) }
+        → RoundsTurn result (fails_at b f) scripts.now before old (moment (boxed memory) stage.new seats.new (I.left link.new) (O.written term.new)) }
     ensures link { stage.new.side.end ≡ End.Link → (stage.old.side.end ≡ End.Link) ⊎ Rose (I.faults link.old) (I.faults link.new) }
     ensures term { stage.new.canvas.failed ≡ true → (stage.old.canvas.failed ≡ true) ⊎ Rose (O.faults term.old) (O.faults term.new) }
     ensures link_never_falls { I.faults link.old ≤ I.faults link.new }
@@ -107,54 +97,6 @@ fn rounds<I: Source, O: Sink>(
 {
     while round(stage, seats, scripts, link, term)? {}
     Ok(())
-}
-
-/// Why a session ended in which nobody has anything left to do: the terminal failed, or by the end that its side has.
-pub fn end_by(failed: bool, end: End) -> End
-    ensures { result ≡ end_by failed end }
-{
-    if failed { End::Term } else { end }
-}
-
-// What a stage leaves behind.
-pub(crate) fn left_by(stage: Stage, end: End) -> Outcome
-    ensures entries { result.entries ≡ stage.desk.entries.items }
-    ensures replies { result.replies ≡ stage.desk.replies.items }
-    ensures ends { result.ends ≡ stage.canvas.ends.items }
-    ensures end { result.end ≡ end }
-{
-    let Stage {
-        desk,
-        reader: _,
-        side: _,
-        canvas,
-    } = stage;
-    let Desk {
-        console: _,
-        entries,
-        replies,
-    } = desk;
-    Outcome {
-        entries: Entries(entries),
-        replies: Replies(replies),
-        ends: PieceEnds(canvas.ends),
-        end,
-    }
-}
-
-/// What is left where there was no memory to begin with.
-pub fn nothing_left(alloc: Global) -> Outcome
-    ensures entries { result.entries ≡ [] }
-    ensures replies { result.replies ≡ [] }
-    ensures ends { result.ends ≡ [] }
-    ensures end { result.end ≡ End.Memory }
-{
-    Outcome {
-        entries: Entries(Vec::new(alloc)),
-        replies: Replies(Vec::new(alloc)),
-        ends: PieceEnds(Vec::new(alloc)),
-        end: End::Memory,
-    }
 }
 
 /// Runs a session by turns on one thread: rounds of the terminal's side, each client and the painter, until a round in which nobody acts.

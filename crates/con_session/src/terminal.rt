@@ -1,58 +1,17 @@
 //! The terminal's side: one frame a turn.
-ghost use Rattle.std.specs.Prelude.{◌≡◌, ◌⊎◌, ℕ, Bool, true, false, List, ◌≤◌, Option, Err, IfOk, OnErr};
-ghost use Rattle.con_outside.specs.Outside.{Rose, then_left};
-ghost use Rattle.con_link.specs.Frames.{ends_link, is_frame};
-ghost use Rattle.con_machine.specs.Follows.{sent_by};
+ghost use Rattle.std.specs.Prelude.{◌≡◌, ◌⊎◌, ℕ, true, false, List, ◌≤◌, Option, IfOk};
+ghost use Rattle.con_outside.specs.Outside.{Rose};
+ghost use Rattle.con_link.specs.Frames.{is_frame};
 ghost use Rattle.con_laws.specs.Rounds.{Begun};
 ghost use Rattle.con_machine.specs.Turns.{has_ended, paints, sent};
-ghost use Rattle.con_session.specs.Words.Desk.{Ran};
-ghost use Rattle.con_session.specs.Words.Sender.{end_for, FailsBy, Hears, LinkIs, LinkTurn, SenderTurn};
+ghost use Rattle.con_actors.specs.Words.Desk.{Ran};
+ghost use Rattle.con_actors.specs.Words.Sender.{FailsBy, Hears, LinkIs, LinkTurn, SenderTurn};
 
-use crate::desk::Desk;
+use con_actors::{Desk, Side, end_by_fault, ends_the_link, event_for};
 use con_events::{Actor, End, Event};
 use con_link::{LinkFault, LinkReader};
 use con_outside::Source;
 use con_units::{Frame, OutOfMemory};
-
-/// The terminal's side: whether it has ended, and how the session ends where a fault of the link ended it.
-#[derive(Clone, Copy, PartialEq, Eq)]
-pub struct Side {
-    pub ended: bool,
-    pub end: End,
-}
-
-/// Whether no frame comes behind this one.
-pub fn ends_the_link(frame: &Frame) -> bool
-    ensures { result ≡ ends_link frame.now }
-{
-    matches!(frame, Frame::End | Frame::Hangup)
-}
-
-/// What the terminal's side enters for a frame.
-pub fn event_for(frame: Frame) -> Event
-    ensures { result ≡ sent_by frame }
-{
-    match frame {
-        Frame::Bytes(bytes) => Event::Feed(bytes),
-        Frame::Quiet => Event::Quiet,
-        Frame::Resize(size) => Event::Resize(size),
-        Frame::Ask => Event::Ask,
-        Frame::Hangup => Event::Hangup,
-        Frame::End => Event::Drained,
-    }
-}
-
-/// How a session ends where no frame was read.
-pub fn end_by_fault(fault: LinkFault) -> End
-    ensures { result ≡ end_for fault }
-{
-    match fault {
-        LinkFault::Failed => End::Link,
-        LinkFault::TooLong => End::TooLong,
-        LinkFault::Bad { place, kind } => End::Bad { place, kind },
-        LinkFault::OutOfMemory => End::Memory,
-    }
-}
 
 /// Enters what the terminal's side makes of what was read of the link: the event of a frame, or a hangup where no frame was read.
 /// Where there is no memory nothing was entered.

@@ -14,10 +14,10 @@ use Rattle.con_machine.specs.Painting.{view_now}
 use Rattle.con_laws.specs.PictureLaws.{paint_answers}
 use Rattle.con_machine.specs.State.{State}
 use Rattle.con_machine.specs.Step.{step, is_ready}
-use Rattle.con_session.specs.Desk.{listed}
-use Rattle.con_session.specs.Words.Desk.{brief_of}
-use Rattle.con_session.specs.PaintTurns.{picture_of, whole_of, window_of}
-use Rattle.con_session.specs.Replying.{listed_by, brief_by, view_is}
+use Rattle.con_actors.specs.Desk.{listed}
+use Rattle.con_actors.specs.Words.Desk.{brief_of}
+use Rattle.con_actors.specs.PaintTurns.{picture_of, whole_of, window_of}
+use Rattle.con_actors.specs.Replying.{listed_by, brief_by, view_is}
 use Rattle.con_threads.specs.Ledger.{logged_front, paged, brief_told, told_of, TellsPicture}
 use Rattle.con_threads.specs.Ledger as ledger
 use Rattle.con_threads.specs.LedgerLaws.{front_whole}

@@ -25,17 +25,17 @@ use Rattle.con_machine.specs.State.{State}
 use Rattle.con_machine.specs.Sights.{sights_of, sights_at}
 use Rattle.con_machine.specs.Step.{step, is_ready}
 use Rattle.con_machine.specs.Turns.{moved, is_paint, paints}
-use Rattle.con_session.specs.declared.desk.Brief.{Brief}
-use Rattle.con_session.specs.declared.desk.Picture.{Picture}
-use Rattle.con_session.specs.CanvasLaws.{canvas_ok, joined_more, painted_count}
-use Rattle.con_session.specs.Desk.{listed}
-use Rattle.con_session.specs.Words.Desk.{entry, is_painter}
-use Rattle.con_session.specs.DeskLaws.{run_one}
-use Rattle.con_session.specs.Painting.{CanvasIs, CanvasEnds, IsTied, PainterStands, Pictures}
-use Rattle.con_session.specs.PaintCounts.{no_paint}
-use Rattle.con_session.specs.PaintingLaws.{painter_other, none_each}
-use Rattle.con_session.specs.Words.Runs.{EachPiece, Painted, joined}
-use Rattle.con_session.specs.TiedLaws.{no_painter, tied_ran, tied_paint}
+use Rattle.con_actors.specs.declared.desk.Brief.{Brief}
+use Rattle.con_actors.specs.declared.desk.Picture.{Picture}
+use Rattle.con_actors.specs.CanvasLaws.{canvas_ok, joined_more, painted_count}
+use Rattle.con_actors.specs.Desk.{listed}
+use Rattle.con_actors.specs.Words.Desk.{entry, is_painter}
+use Rattle.con_actors.specs.DeskLaws.{run_one}
+use Rattle.con_actors.specs.Painting.{CanvasIs, CanvasEnds, IsTied, PainterStands, Pictures}
+use Rattle.con_actors.specs.PaintCounts.{no_paint}
+use Rattle.con_actors.specs.PaintingLaws.{painter_other, none_each}
+use Rattle.con_actors.specs.Words.Runs.{EachPiece, Painted, joined}
+use Rattle.con_actors.specs.TiedLaws.{no_painter, tied_ran, tied_paint}
 use Rattle.con_threads.specs.Painters.{Draws, DrawsLess, PainterTurn, PaintsTo}
 use Rattle.con_threads.specs.Ledger.{IsPicture}
 use Rattle.con_threads.specs.Scribe.{is_same, opened, history, SeesMore, HasEntered}

@@ -7,11 +7,11 @@ use Rattle.con_events.specs.declared.script.Step.{Step}
 use Rattle.con_handlers.specs.Memory.{Memory}
 use Rattle.con_machine.specs.Client.{Client, Stance, GoesOn, MayLeave, MustLeave, Gone}
 use Rattle.con_laws.specs.Rounds.{Begun, client_at}
-use Rattle.con_session.specs.Door.{are_others}
-use Rattle.con_session.specs.DoorEntries.{client_by, turns_saw}
-use Rattle.con_session.specs.DoorTurns.{ClientAt, HasTurnedBy}
-use Rattle.con_session.specs.Words.Worker.{HandsStandBy, IsStance, IsWorker}
-use Rattle.con_session.specs.declared.worker.Worker.{Worker}
+use Rattle.con_actors.specs.Door.{are_others}
+use Rattle.con_actors.specs.DoorEntries.{client_by, turns_saw}
+use Rattle.con_actors.specs.DoorTurns.{ClientAt, HasTurnedBy}
+use Rattle.con_actors.specs.Words.Worker.{HandsStandBy, IsStance, IsWorker}
+use Rattle.con_actors.specs.declared.worker.Worker.{Worker}
 use Rattle.con_threads.specs.Clients.{ClientGoes, ClientView, HasServedBy, IsClientThreadBy, ViewGoes}
 use Rattle.con_threads.specs.Scribe.{opened, history, IsSameScribe, IsScribe}
 use Rattle.con_threads.specs.declared.scribe.Scribe.{Scribe}

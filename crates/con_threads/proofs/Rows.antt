@@ -33,9 +33,9 @@ use Rattle.con_machine.specs.Closing.{closing}
 use Rattle.con_machine.specs.Reads.{began, collected, took_ctrl, left, line_front}
 use Rattle.con_machine.specs.Terminal.{fed, quiet, resized}
 use Rattle.con_machine.specs.Painting.{painted, same_view}
-use Rattle.con_session.specs.Words.Desk.{brief_of}
-use Rattle.con_session.specs.declared.desk.Brief.{Brief}
-use Rattle.con_session.specs.declared.desk.Brief.TheVariants as briefs
+use Rattle.con_actors.specs.Words.Desk.{brief_of}
+use Rattle.con_actors.specs.declared.desk.Brief.{Brief}
+use Rattle.con_actors.specs.declared.desk.Brief.TheVariants as briefs
 use Rattle.con_book.specs.History.{after}
 use Rattle.con_book.specs.declared.history.Logged.{Logged}
 use Rattle.con_threads.specs.Ledger.{IsLogOf, logged_entries, entry_by, next_page, page_brief, page_ready, told_of}

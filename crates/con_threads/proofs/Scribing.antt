@@ -16,8 +16,8 @@ use Rattle.con_machine.specs.Numbered as numbers
 use Rattle.con_machine.specs.Numbered.{ready_of}
 use Rattle.con_machine.specs.State.{State}
 use Rattle.con_machine.specs.Step.{step, is_ready}
-use Rattle.con_session.specs.Words.Desk.{brief_of}
-use Rattle.con_session.specs.Words.Desk as desk
+use Rattle.con_actors.specs.Words.Desk.{brief_of}
+use Rattle.con_actors.specs.Words.Desk as desk
 use Rattle.con_threads.specs.Ledger.{logged_entries, logged_front, next_page, page_ready, page_brief, page_tells, brief_by, brief_told, TellsPicture}
 use Rattle.con_threads.specs.LedgerLaws.{logged_entries-append, after_state, history_legal, others_entered, front_whole}
 use Rattle.con_threads.specs.Scribe.{opened, history, IsScribe, IsSameScribe, SeesMore, HasEntered}

@@ -16,8 +16,8 @@ use Rattle.con_machine.specs.History.{run}
 use Rattle.con_laws.specs.Rounds.{Begun}
 use Rattle.con_machine.specs.State.{State}
 use Rattle.con_machine.specs.Step.{is_ready}
-use Rattle.con_session.specs.Words.Sender.{end_for}
-use Rattle.con_session.specs.SenderLaws.{frame_ready}
+use Rattle.con_actors.specs.Words.Sender.{end_for}
+use Rattle.con_actors.specs.SenderLaws.{frame_ready}
 use Rattle.con_threads.specs.Scribe.{IsScribe, IsSameScribe, SeesMore, history, opened}
 use Rattle.con_threads.specs.ScribeLaws.{same_opened, same_then}
 use Rattle.con_threads.specs.Sides.{IsSending, HasSentOn, IsSideThread, SideGoes, ThreadGoes}

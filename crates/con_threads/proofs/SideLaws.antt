@@ -24,13 +24,13 @@ use Rattle.con_laws.specs.Rounds.{Begun}
 use Rattle.con_machine.specs.State.{State}
 use Rattle.con_machine.specs.Step.{is_due, is_ready}
 use Rattle.con_machine.specs.Turns.{is_terminal, moved}
-use Rattle.con_session.specs.Words.Desk.{entry}
-use Rattle.con_session.specs.AskLaws.{asks_other, asks_own, asks_lost}
-use Rattle.con_session.specs.LinkLaws.{link_failed, link_fault, link_frame, link_hung, link_other, link_stays, link_stops}
-use Rattle.con_session.specs.Words.Sender.{LinkEnds, LinkIs, end_for}
-use Rattle.con_session.specs.SenderLaws.{side_other}
-use Rattle.con_session.specs.Solo.{AsksStand}
-use Rattle.con_session.specs.declared.terminal.Side.{Side}
+use Rattle.con_actors.specs.Words.Desk.{entry}
+use Rattle.con_actors.specs.AskLaws.{asks_other, asks_own, asks_lost}
+use Rattle.con_actors.specs.LinkLaws.{link_failed, link_fault, link_frame, link_hung, link_other, link_stays, link_stops}
+use Rattle.con_actors.specs.Words.Sender.{LinkEnds, LinkIs, end_for}
+use Rattle.con_actors.specs.SenderLaws.{side_other}
+use Rattle.con_actors.specs.Solo.{AsksStand}
+use Rattle.con_actors.specs.declared.side.Side.{Side}
 use Rattle.con_threads.specs.Scribe.{HasEntered, SeesMore, is_same}
 use Rattle.con_threads.specs.Sides.{IsSending, SideGoes}
 use Rattle.con_threads.specs.declared.ledger.Told.{Told}

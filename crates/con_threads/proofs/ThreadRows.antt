@@ -37,11 +37,11 @@ use Rattle.con_machine.specs.Reads.{began, collected, took_ctrl, left, line_fron
 use Rattle.con_laws.specs.Rounds.{Begun}
 use Rattle.con_machine.specs.Terminal.{fed, quiet, resized}
 use Rattle.con_machine.specs.Painting.{painted, same_view}
-use Rattle.con_session.specs.Words.Runs.{ends_from}
-use Rattle.con_session.specs.Words.Sender.{LinkIs, hung}
-use Rattle.con_session.specs.Solo.{AsksStand, begins}
-use Rattle.con_session.specs.declared.terminal.Side.{Side}
-use Rattle.con_session.specs.declared.worker.Worker.{Worker}
+use Rattle.con_actors.specs.Words.Runs.{ends_from}
+use Rattle.con_actors.specs.Words.Sender.{LinkIs, hung}
+use Rattle.con_actors.specs.Solo.{AsksStand, begins}
+use Rattle.con_actors.specs.declared.side.Side.{Side}
+use Rattle.con_actors.specs.declared.worker.Worker.{Worker}
 use Rattle.con_threads.specs.Clients.{ClientGoes}
 use Rattle.con_threads.specs.Painters.{Draws, DrawsLess}
 use Rattle.con_threads.specs.Post.{AreOthers}

@@ -5,8 +5,8 @@ use Rattle.con_units.specs.declared.code.OutOfMemory.{OutOfMemory}
 use Rattle.con_units.specs.declared.place.Size.{Size}
 use Rattle.con_outside.specs.Outside.{then_written, WroteFront}
 use Rattle.con_laws.specs.Rounds.{Begun}
-use Rattle.con_session.specs.CanvasLaws.{canvas_ends}
-use Rattle.con_session.specs.Painting.{CanvasIs}
+use Rattle.con_actors.specs.CanvasLaws.{canvas_ends}
+use Rattle.con_actors.specs.Painting.{CanvasIs}
 use Rattle.con_pipe.specs.PipeEnds.{pieces_put, IsSameIn}
 use Rattle.con_pipe.specs.declared.put.PipeIn.{PipeIn}
 use Rattle.con_threads.specs.Painters.{PainterGoes, PainterTurn, IsPainterThread, HasDrawn, PaintsTo, HasFinished}

@@ -8,9 +8,9 @@ use Rattle.con_outside.specs.Outside.{then_written, WroteFront}
 use Rattle.con_paint.specs.Painter.{Kept}
 use Rattle.con_events.specs.declared.entry.Entry.{Entry}
 use Rattle.con_laws.specs.Rounds.{Begun}
-use Rattle.con_session.specs.CanvasLaws.{joined_more, written_more}
-use Rattle.con_session.specs.Painting.{CanvasIs, CanvasEnds, Written}
-use Rattle.con_session.specs.Words.Runs.{joined}
+use Rattle.con_actors.specs.CanvasLaws.{joined_more, written_more}
+use Rattle.con_actors.specs.Painting.{CanvasIs, CanvasEnds, Written}
+use Rattle.con_actors.specs.Words.Runs.{joined}
 use Rattle.con_threads.specs.Painters.{Draws, DrawsLess}
 use Rattle.con_threads.specs.Writers.{Writes}
 

@@ -6,10 +6,10 @@ use Rattle.con_events.specs.declared.script.Step.{Step}
 use Rattle.con_handlers.specs.Boxes.{Recalls, boxed}
 use Rattle.con_handlers.specs.Memory.{Memory}
 use Rattle.con_laws.specs.Rounds.{Begun, client_at}
-use Rattle.con_session.specs.Held.{in_chain, in_rack}
-use Rattle.con_session.specs.Standing.{ClientStands}
-use Rattle.con_session.specs.Words.Worker.{IsWorker, HandsStandBy}
-use Rattle.con_session.specs.declared.worker.Worker.{Worker}
+use Rattle.con_actors.specs.Held.{in_chain, in_rack}
+use Rattle.con_actors.specs.Standing.{ClientStands}
+use Rattle.con_actors.specs.Words.Worker.{IsWorker, HandsStandBy}
+use Rattle.con_actors.specs.declared.worker.Worker.{Worker}
 use Rattle.con_threads.specs.Scribe.{IsScribe, IsSameScribe, opened, history}
 use Rattle.con_threads.specs.declared.client.ClientThread.{ClientThread}
 use Rattle.con_threads.specs.declared.scribe.Scribe.{Scribe}

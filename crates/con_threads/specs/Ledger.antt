@@ -17,11 +17,11 @@ use Rattle.con_machine.specs.Numbered.{actor_of, ready_of, fits_of, blank_state}
 use Rattle.con_machine.specs.State.{State}
 use Rattle.con_machine.specs.Step.{step, is_ready}
 use Rattle.con_machine.specs.declared.rooms.room.Room.{Room}
-use Rattle.con_session.specs.Desk.{listed}
-use Rattle.con_session.specs.Words.Desk.{brief_of, entry}
-use Rattle.con_session.specs.Painting.{Pictures}
-use Rattle.con_session.specs.declared.desk.Brief.{Brief}
-use Rattle.con_session.specs.declared.desk.Brief.TheVariants as briefs
+use Rattle.con_actors.specs.Desk.{listed}
+use Rattle.con_actors.specs.Words.Desk.{brief_of, entry}
+use Rattle.con_actors.specs.Painting.{Pictures}
+use Rattle.con_actors.specs.declared.desk.Brief.{Brief}
+use Rattle.con_actors.specs.declared.desk.Brief.TheVariants as briefs
 use Rattle.con_threads.specs.declared.ledger.Ledger.{Ledger}
 use Rattle.con_threads.specs.declared.ledger.LedgerView.{LedgerView}
 use Rattle.con_threads.specs.declared.ledger.Told.{Told}

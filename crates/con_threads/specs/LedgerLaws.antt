@@ -18,8 +18,8 @@ use Rattle.con_machine.specs.HistoryLaws.{run-append, replies-append, legal-appe
 use Rattle.con_machine.specs.Numbered.{actor_of, ready_of}
 use Rattle.con_machine.specs.State.{State}
 use Rattle.con_machine.specs.Step.{step, is_ready}
-use Rattle.con_session.specs.Desk.{listed}
-use Rattle.con_session.specs.Words.Desk.{entry}
+use Rattle.con_actors.specs.Desk.{listed}
+use Rattle.con_actors.specs.Words.Desk.{entry}
 use Rattle.con_threads.specs.Ledger.{logged_front, logged_entries, paged, next_page, page_ready, entry_by, actor_or, IsLogOf}
 use Rattle.con_threads.specs.Scribe.{is_same}
 use Rattle.con_threads.specs.declared.ledger.LedgerView.{LedgerView}

@@ -7,8 +7,8 @@ use Rattle.con_events.specs.declared.entry.Entry.{Entry}
 use Rattle.con_paint.specs.Painter.{Kept}
 use Rattle.con_machine.specs.History.{run}
 use Rattle.con_laws.specs.Rounds.{Begun}
-use Rattle.con_session.specs.Painting.{CanvasIs, CanvasEnds, IsTied}
-use Rattle.con_session.specs.Words.Runs.{joined}
+use Rattle.con_actors.specs.Painting.{CanvasIs, CanvasEnds, IsTied}
+use Rattle.con_actors.specs.Words.Runs.{joined}
 use Rattle.con_pipe.specs.PipeEnds.{pieces_put, IsSameIn}
 use Rattle.con_pipe.specs.declared.put.PipeIn.{PipeIn}
 use Rattle.con_threads.specs.Scribe.{IsScribe, IsSameScribe, opened, history}

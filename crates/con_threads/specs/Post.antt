@@ -7,8 +7,8 @@ use Rattle.con_events.specs.declared.actor.Actor.TheVariants as actors
 use Rattle.con_events.specs.declared.entry.Entry.{Entry}
 use Rattle.con_events.specs.declared.event.Event.{Event}
 use Rattle.con_machine.specs.State.{State}
-use Rattle.con_session.specs.Door.{Saw, Entered, are_others}
-use Rattle.con_session.specs.declared.desk.Brief.{Brief}
+use Rattle.con_actors.specs.Door.{Saw, Entered, are_others}
+use Rattle.con_actors.specs.declared.desk.Brief.{Brief}
 use Rattle.con_threads.specs.Ledger.{brief_told}
 use Rattle.con_threads.specs.Scribe.{is_same, opened, IsSameScribe, SeesMore, HasEntered}
 use Rattle.con_threads.specs.ScribeLaws.{no_client, others_then, same_opened}

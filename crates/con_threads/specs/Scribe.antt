@@ -11,7 +11,7 @@ use Rattle.con_machine.specs.History.{run, is_legal}
 use Rattle.con_machine.specs.Numbered as numbers
 use Rattle.con_machine.specs.State.{State}
 use Rattle.con_machine.specs.Step.{step, is_ready}
-use Rattle.con_session.specs.Words.Desk.{brief_of, entry}
+use Rattle.con_actors.specs.Words.Desk.{brief_of, entry}
 use Rattle.con_threads.specs.Ledger.{logged_entries, brief_told, TellsPicture}
 use Rattle.con_threads.specs.declared.ledger.Told.{Told}
 use Rattle.con_threads.specs.declared.scribe.Scribe.{Scribe}

@@ -15,7 +15,7 @@ use Rattle.con_machine.specs.HistoryLaws.{run-append, legal-append, legal-one}
 use Rattle.con_machine.specs.State.{State}
 use Rattle.con_machine.specs.Step.{step, is_ready}
 use Rattle.con_machine.specs.Turns.{is_client, is_terminal}
-use Rattle.con_session.specs.Words.Desk.{brief_of, entry, is_painter, Ran}
+use Rattle.con_actors.specs.Words.Desk.{brief_of, entry, is_painter, Ran}
 use Rattle.con_threads.specs.Ledger.{brief_told, TellsPicture}
 use Rattle.con_threads.specs.Scribe.{opened, is_same, IsSameScribe, SeesMore, HasEntered}
 use Rattle.con_threads.specs.declared.ledger.LedgerView.{LedgerView}

@@ -7,10 +7,10 @@ use Rattle.con_events.specs.declared.event.Event.{Event}
 use Rattle.con_machine.specs.History.{run, is_legal}
 use Rattle.con_laws.specs.Rounds.{Begun}
 use Rattle.con_machine.specs.State.{State}
-use Rattle.con_session.specs.Words.Desk.{entry}
-use Rattle.con_session.specs.Words.Sender.{LinkIs, LinkEnds}
-use Rattle.con_session.specs.Solo.{AsksStand}
-use Rattle.con_session.specs.declared.terminal.Side.{Side}
+use Rattle.con_actors.specs.Words.Desk.{entry}
+use Rattle.con_actors.specs.Words.Sender.{LinkIs, LinkEnds}
+use Rattle.con_actors.specs.Solo.{AsksStand}
+use Rattle.con_actors.specs.declared.side.Side.{Side}
 use Rattle.con_threads.specs.Scribe.{IsScribe, IsSameScribe, history, is_same, opened}
 use Rattle.con_threads.specs.declared.side.SideThread.{SideThread}
 

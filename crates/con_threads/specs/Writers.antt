@@ -1,7 +1,7 @@
 -- The writer's thread.
 use Rattle.std.specs.Prelude.{◌≡◌, ◌⊎◌, ◌≤◌, ℕ, Bool, true, ◌||◌, List, Option}
 use Rattle.con_outside.specs.Outside.{Rose}
-use Rattle.con_session.specs.Painting.{Written}
+use Rattle.con_actors.specs.Painting.{Written}
 use Rattle.con_pipe.specs.PipeEnds.{pieces_taken, has_ended, IsSameOut}
 use Rattle.con_threads.specs.declared.writer.WriterThread.{WriterThread}
 

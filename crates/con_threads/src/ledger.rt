@@ -2,11 +2,11 @@
 ghost use Rattle.std.specs.Prelude.{◌≡◌, ◌≤◌, vec_len, vec_capacity};
 
 use crate::listing::listed_in;
+use con_actors::{Brief, Picture, brief_for};
 use con_book::{Logged, Machine};
-use con_events::{Entry, Event, Reply};
 use con_console::{Console, Shown};
+use con_events::{Entry, Event, Reply};
 use con_machine::Room;
-use con_session::{Brief, Picture, brief_for};
 use con_units::OutOfMemory;
 use std::alloc::Global;
 use std::collections::LinkedList;
@@ -40,7 +40,7 @@ pub enum Told {
 
 impl Told {
     ghost use Rattle.std.specs.Prelude.{◌≡◌};
-    ghost use Rattle.con_session.specs.Desk.{listed};
+    ghost use Rattle.con_actors.specs.Desk.{listed};
     ghost use Rattle.con_threads.specs.Ledger.{told_of};
 
     // What is told of a reply, and the reply as it is listed.
@@ -60,7 +60,7 @@ impl Told {
 impl Ledger {
     ghost use Rattle.std.specs.Prelude.{◌≡◌, [], map};
     ghost use Rattle.con_machine.specs.History.{replies_of};
-    ghost use Rattle.con_session.specs.Desk.{listed};
+    ghost use Rattle.con_actors.specs.Desk.{listed};
     ghost use Rattle.con_threads.specs.Ledger.{logged_entries, page_of, IsLogOf};
     ghost use Rattle.con_threads.specs.declared.ledger.LedgerView.{LedgerView};
 

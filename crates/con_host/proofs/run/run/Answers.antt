@@ -1,6 +1,6 @@
 use Rattle.std.proofs.Common.{refl}
 use Rattle.con_link.specs.LinkReading.{plainly}
-use Rattle.con_session.specs.Words.Sender.{NoMore}
+use Rattle.con_actors.specs.Words.Sender.{NoMore}
 use Rattle.con_host.proofs.Certain.{plain_certain}
 use Rattle.con_host.proofs.Foretelling.{left_foretold, left_no_frame, left_too_much}
 use Rattle.con_host.proofs.ReadBacks.{ends_so, read_back}

@@ -8,7 +8,7 @@ use Rattle.std.proofs.Common.{rules, ◌∷◌, []}
 use Rattle.con_book.specs.contracts.book.Book as book
 use Rattle.con_events.specs.contracts.event.Event as event
 use Rattle.con_machine.specs.contracts.rooms.room.Room as room
-use Rattle.con_session.specs.contracts.desk.Brief as brief
+use Rattle.con_actors.specs.contracts.desk.Brief as brief
 use Rattle.con_threads.specs.Clients.{seen_of}
 use Rattle.con_run.proofs.Crewing.{served_as}
 use Rattle.con_threads.specs.contracts.client.ClientThread as client

@@ -9,7 +9,7 @@ use Rattle.std.specs.contracts.alloc.Global as Global
 use Rattle.con_book.specs.contracts.book.Book as book
 use Rattle.con_events.specs.contracts.event.Event as event
 use Rattle.con_machine.specs.contracts.rooms.room.Room as room
-use Rattle.con_session.specs.contracts.desk.Brief as brief
+use Rattle.con_actors.specs.contracts.desk.Brief as brief
 use Rattle.con_threads.specs.contracts.ledger.Ledger as ledger
 use Rattle.con_threads.specs.contracts.ledger.LedgerMachine.TheImpl as machine
 use Rattle.con_threads.specs.contracts.ledger.LedgerView as page

@@ -1,5 +1,5 @@
 use Rattle.std.proofs.Common.{sym, ap, ◌∙◌}
-use Rattle.con_session.specs.OpeningLaws.{fresh_as}
+use Rattle.con_actors.specs.OpeningLaws.{fresh_as}
 use Rattle.con_threads.specs.declared.ledger.LedgerView.{LedgerView}
 use Rattle.con_run.proofs.Crewing.{all_new_go, fresh_of, new_belongs}
 use Rattle.con_run.proofs.Making.{crew_from}

@@ -1,5 +1,5 @@
 use Rattle.std.proofs.Common.{None}
-use Rattle.con_session.specs.Solo.{begins}
+use Rattle.con_actors.specs.Solo.{begins}
 use Rattle.con_run.proofs.Crewing.{crew_works, served_goes}
 use Rattle.con_run.proofs.Ending.{failed_in}
 use Rattle.con_run.proofs.Returning.{all_back, edges_go_on, side_not_term}

@@ -1,6 +1,6 @@
 use Rattle.std.proofs.Common.{rules, arith, ap, map, ◌∙◌}
-use Rattle.con_session.specs.OpeningLaws.{sizes_same}
-use Rattle.con_session.specs.Worker.{told_kind}
+use Rattle.con_actors.specs.OpeningLaws.{sizes_same}
+use Rattle.con_actors.specs.Worker.{told_kind}
 use Rattle.con_threads.specs.declared.ledger.LedgerView.{LedgerView}
 use Rattle.con_run.proofs.Ending.{none_left}
 use Rattle.con_run.proofs.Making.{few_scripts, state_begun, was_fine}

@@ -1,8 +1,8 @@
 use Rattle.std.proofs.Common.{sym, ◌∙◌, [], true}
 use Rattle.con_link.specs.LinkReading.{mirrored}
-use Rattle.con_session.specs.Words.Second.{Seconded}
-use Rattle.con_session.proofs.Beginning.{all_follow}
-use Rattle.con_session.specs.TiedLaws.{tied_ran}
+use Rattle.con_actors.specs.Words.Second.{Seconded}
+use Rattle.con_actors.specs.Beginning.{all_follow}
+use Rattle.con_actors.specs.TiedLaws.{tied_ran}
 use Rattle.con_session.proofs.LastGiven.{followed_paint, followed_ran, followed_still, pictured_since}
 use Rattle.con_session.proofs.Going.{followed_err, round_ok, round_err, sent_err, entered_err, painted_err}
 use Rattle.con_session.proofs.Mirroring.{Lacks, acts_some, closed_by, ends_by, fails_some, followed_by, followed_none, paint_some, past_by, pictured_whole}

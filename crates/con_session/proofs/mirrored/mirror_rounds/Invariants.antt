@@ -5,11 +5,11 @@ use Rattle.con_link.specs.LinkReading.{mirrored}
 use Rattle.con_events.specs.declared.end.End.TheVariants as ends
 use Rattle.con_laws.specs.Rounds.{Begun}
 use Rattle.con_machine.specs.Turns.{paints}
-use Rattle.con_session.specs.Held.{moment}
-use Rattle.con_session.specs.Painting.{IsTied}
-use Rattle.con_session.specs.Words.Sender.{FailsBy}
-use Rattle.con_session.specs.Words.Second.{IsFollowed, Seconded}
-use Rattle.con_session.specs.Solo.{GoesBy, fails_at}
+use Rattle.con_actors.specs.Held.{moment}
+use Rattle.con_actors.specs.Painting.{IsTied}
+use Rattle.con_actors.specs.Words.Sender.{FailsBy}
+use Rattle.con_actors.specs.Words.Second.{IsFollowed, Seconded}
+use Rattle.con_actors.specs.Solo.{GoesBy, fails_at}
 use Rattle.con_session.proofs.mirrored.mirror_rounds.Given as goal
 
 abbrev pub invariant-loop : goal.invariant-loop

@@ -1,14 +1,14 @@
 use Rattle.std.proofs.Common.{None, ap, ◌∙◌}
 use Rattle.con_link.specs.LinkReading.{mirrored}
-use Rattle.con_session.specs.Solo.{begins}
-use Rattle.con_session.specs.declared.solo.Outcome.{Outcome}
-use Rattle.con_session.specs.declared.terminal.Side.{Side}
+use Rattle.con_actors.specs.Solo.{begins}
+use Rattle.con_actors.specs.declared.outcome.Outcome.{Outcome}
+use Rattle.con_actors.specs.declared.side.Side.{Side}
 use Rattle.con_session.proofs.Ending.{term_by}
 use Rattle.con_session.proofs.LastGiven.{followed_none}
 use Rattle.con_session.proofs.MirrorEnding.{link_cause, mirror_none, mirror_stopped, mirror_whole, no_link, no_term, none_failed, open_second}
 use Rattle.con_session.proofs.Mirroring.{cause_now}
-use Rattle.con_session.proofs.Beginning.{all_follow, count_of, goes_open}
-use Rattle.con_session.specs.OpeningLaws.{sizes_same}
+use Rattle.con_actors.specs.Beginning.{all_follow, count_of, goes_open}
+use Rattle.con_actors.specs.OpeningLaws.{sizes_same}
 use Rattle.con_session.proofs.mirrored.run_mirrored.Goals as goal
 
 pub returns-in_default-clause-outcome : goal.returns-in_default-clause-outcome

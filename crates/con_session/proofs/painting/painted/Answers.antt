@@ -1,7 +1,7 @@
 use Rattle.std.proofs.Common.{◌≡◌, true, false, sym, ap, ◌∙◌, refl, inl, inr, ◌++◌, ◌∷◌, [], List, ℕ, ◌+◌}
-use Rattle.con_session.specs.CanvasLaws.{canvas_ok, canvas_failed, canvas_ends, canvas_none, canvas_rests, ends_as}
-use Rattle.con_session.specs.PaintTurns.{tied_count, tied_size, tied_rows, paints_now, failed_rests, unready_rests}
-use Rattle.con_session.specs.TiedLaws.{served_paint, served_still, tied_paint}
+use Rattle.con_actors.specs.CanvasLaws.{canvas_ok, canvas_failed, canvas_ends, canvas_none, canvas_rests, ends_as}
+use Rattle.con_actors.specs.PaintTurns.{tied_count, tied_size, tied_rows, paints_now, failed_rests, unready_rests}
+use Rattle.con_actors.specs.TiedLaws.{served_paint, served_still, tied_paint}
 use Rattle.con_session.proofs.Hearing.{paint_lacks}
 use Rattle.con_session.proofs.painting.painted.Goals as goal
 

@@ -1,10 +1,10 @@
 use Rattle.std.proofs.Common.{refl, inl}
 use Rattle.con_link.specs.LinkReading.{mirrored}
 use Rattle.con_events.specs.declared.event.Event.TheVariants as events
-use Rattle.con_session.specs.LinkLaws.{no_ok, sender_err}
-use Rattle.con_session.specs.LinkedLaws.{linked_err}
-use Rattle.con_session.specs.RanLaws.{ran_same}
-use Rattle.con_session.specs.SenderLaws.{hangup_ready, hangs, ended_idles, none_asked}
+use Rattle.con_actors.specs.LinkLaws.{no_ok, sender_err}
+use Rattle.con_actors.specs.LinkedLaws.{linked_err}
+use Rattle.con_actors.specs.RanLaws.{ran_same}
+use Rattle.con_actors.specs.SenderLaws.{hangup_ready, hangs, ended_idles, none_asked}
 use Rattle.con_session.proofs.Hearing.{heard_turn}
 use Rattle.con_session.proofs.Mirroring.{mirror_failed, mirror_few, mirror_frames, mirror_heard, mirror_hung, mirror_stays, mirror_stops, plain_frame}
 use Rattle.con_session.proofs.second.mirrored_turn.Goals as goal

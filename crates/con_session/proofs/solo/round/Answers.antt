@@ -1,9 +1,9 @@
 use Rattle.std.proofs.Common.{sym, ◌∙◌, []}
 use Rattle.con_link.specs.LinkReading.{plainly}
-use Rattle.con_session.specs.Words.Sender.{NoMore}
+use Rattle.con_actors.specs.Words.Sender.{NoMore}
 use Rattle.con_session.proofs.Going.{round_ok, round_err, sent_err, entered_err, painted_err}
-use Rattle.con_session.proofs.Beginning.{all_follow}
-use Rattle.con_session.specs.TiedLaws.{tied_ran}
+use Rattle.con_actors.specs.Beginning.{all_follow}
+use Rattle.con_actors.specs.TiedLaws.{tied_ran}
 use Rattle.con_session.proofs.solo.round.Goals as goal
 
 pub painter_turn-requires : goal.painter_turn-requires

@@ -1,7 +1,7 @@
 use Rattle.std.proofs.Common.{◌∙◌, arith}
 use Rattle.con_machine.specs.Turns.{paints}
 use Rattle.con_link.specs.LinkReading.{plainly}
-use Rattle.con_session.specs.Words.Sender.{NoMore}
+use Rattle.con_actors.specs.Words.Sender.{NoMore}
 use Rattle.con_session.proofs.Going.{cause_more, failing, fails_now, goes_idle, goes_longer, goes_on, rounds_err}
 use Rattle.con_session.proofs.solo.rounds.Goals as goal
 

@@ -4,10 +4,10 @@ use Rattle.con_outside.specs.Outside.{Rose}
 use Rattle.con_events.specs.declared.end.End.TheVariants as ends
 use Rattle.con_laws.specs.Rounds.{Begun}
 use Rattle.con_machine.specs.Turns.{paints}
-use Rattle.con_session.specs.Held.{moment}
-use Rattle.con_session.specs.Painting.{IsTied}
-use Rattle.con_session.specs.Words.Sender.{FailsBy}
-use Rattle.con_session.specs.Solo.{Goes, fails_at}
+use Rattle.con_actors.specs.Held.{moment}
+use Rattle.con_actors.specs.Painting.{IsTied}
+use Rattle.con_actors.specs.Words.Sender.{FailsBy}
+use Rattle.con_actors.specs.Solo.{Goes, fails_at}
 use Rattle.con_session.proofs.solo.rounds.Given as goal
 
 abbrev pub invariant-loop : goal.invariant-loop

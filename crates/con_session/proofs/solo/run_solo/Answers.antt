@@ -1,10 +1,10 @@
 use Rattle.std.proofs.Common.{None}
 use Rattle.con_link.specs.LinkReading.{plainly}
-use Rattle.con_session.specs.Words.Sender.{NoMore}
-use Rattle.con_session.specs.Solo.{begins}
+use Rattle.con_actors.specs.Words.Sender.{NoMore}
+use Rattle.con_actors.specs.Solo.{begins}
 use Rattle.con_session.proofs.Ending.{handed_none, handed_stops, handed_whole, term_by}
-use Rattle.con_session.proofs.Beginning.{all_follow, count_of, goes_open, going_open}
-use Rattle.con_session.specs.OpeningLaws.{sizes_same}
+use Rattle.con_actors.specs.Beginning.{all_follow, count_of, goes_open, going_open}
+use Rattle.con_actors.specs.OpeningLaws.{sizes_same}
 use Rattle.con_session.proofs.solo.run_solo.Goals as goal
 
 pub returns-in_default-clause-outcome : goal.returns-in_default-clause-outcome

@@ -1,5 +1,5 @@
 use Rattle.std.proofs.Common.{refl}
-use Rattle.con_session.specs.SenderLaws.{hangup_ready}
+use Rattle.con_actors.specs.SenderLaws.{hangup_ready}
 use Rattle.con_session.proofs.Hearing.{event_ready, hears_fault, hears_frame}
 use Rattle.con_session.proofs.terminal.heard.Goals as goal
 

@@ -1,8 +1,8 @@
 use Rattle.std.proofs.Common.{refl}
 use Rattle.con_events.specs.declared.event.Event.TheVariants as events
-use Rattle.con_session.specs.RanLaws.{ran_same}
-use Rattle.con_session.specs.LinkLaws.{link_hung}
-use Rattle.con_session.specs.SenderLaws.{hangup_ready, hangs, ended_idles, none_asked}
+use Rattle.con_actors.specs.RanLaws.{ran_same}
+use Rattle.con_actors.specs.LinkLaws.{link_hung}
+use Rattle.con_actors.specs.SenderLaws.{hangup_ready, hangs, ended_idles, none_asked}
 use Rattle.con_session.proofs.Hearing.{heard_link, heard_turn, plain_failed, plain_few, read_frame}
 use Rattle.con_session.proofs.terminal.terminal_turn.Goals as goal
 

@@ -1,6 +1,6 @@
 use Rattle.std.proofs.Common.{◌∙◌, ap}
-use Rattle.con_session.proofs.DoorGoing.{exits_by_ctrl, then_turned}
-use Rattle.con_session.specs.declared.worker.Worker.{Worker}
+use Rattle.con_actors.specs.DoorGoing.{exits_by_ctrl, then_turned}
+use Rattle.con_actors.specs.declared.worker.Worker.{Worker}
 use Rattle.con_session.proofs.turn.act.Goals as goal
 
 pub returns-then-worker-clause-turned : goal.returns-then-worker-clause-turned

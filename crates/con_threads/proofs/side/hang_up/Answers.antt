@@ -2,7 +2,7 @@ use Rattle.std.proofs.Common.{ap, ◌∙◌}
 use Rattle.con_events.specs.declared.actor.Actor.{Actor}
 use Rattle.con_events.specs.declared.event.Event.TheVariants as events
 use Rattle.con_machine.specs.Step.{is_ready}
-use Rattle.con_session.specs.SenderLaws.{hangup_ready}
+use Rattle.con_actors.specs.SenderLaws.{hangup_ready}
 use Rattle.con_threads.proofs.side.hang_up.Goals as goal
 
 pub enter-requires-clause-ready : goal.enter-requires-clause-ready

@@ -1,5 +1,5 @@
 use Rattle.std.proofs.Common.{ap, ◌∙◌, ℕ, ◌+◌, List, ◌∷◌, ◌++◌, []}
-use Rattle.con_session.specs.PaintTurns.{tied_count, tied_size, tied_rows}
+use Rattle.con_actors.specs.PaintTurns.{tied_count, tied_size, tied_rows}
 use Rattle.con_threads.specs.Scribe.{opened, history}
 use Rattle.con_threads.specs.ScribeLaws.{same_opened}
 use Rattle.con_threads.proofs.Painting.{drawn_less, less_ends, turn_err, tied_from, rests_less, rests_tied, rests_drawn, tied_there, picture, paint_none, paint_tied, paint_drawn}

@@ -1,6 +1,6 @@
 use Rattle.std.proofs.Common.{sym, ap, ◌∙◌, inl, inr, Ok, Err}
 use Rattle.con_events.specs.declared.actor.Actor.TheVariants as actors
-use Rattle.con_session.specs.LinkLaws.{failed_for}
+use Rattle.con_actors.specs.LinkLaws.{failed_for}
 use Rattle.con_threads.specs.ScribeLaws.{same_self, sees_here}
 use Rattle.con_threads.proofs.SendingLaws.{gave_up, hung_up, looked, never_blocked, passed_on, saw, served_by, stopped}
 use Rattle.con_threads.proofs.side.SideThread.turn.Goals as goal

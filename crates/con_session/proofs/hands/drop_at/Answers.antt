@@ -1,5 +1,0 @@
-use Rattle.con_session.proofs.ChainLaws.{dropped_is}
-use Rattle.con_session.proofs.hands.drop_at.Goals as goal
-
-pub returns : goal.returns
-returns g c = dropped_is _ _ _ c.args.index c.remove.ensures.answer c.remove.ensures.ok c.remove.ensures.err
