@@ -19,7 +19,7 @@ use Rattle.con_actors.specs.Outcome.{Leaves}
 use Rattle.con_actors.specs.Solo.{Moment, begins, end_by}
 use Rattle.con_actors.specs.declared.side.Side.{Side}
 use Rattle.con_run.specs.Session.{IsBroken, IsDone}
-use Rattle.con_threads.proofs.Causes.{rose_later, rose_sooner}
+use Rattle.con_run.proofs.Causes.{rose_later, rose_sooner}
 use Rattle.con_actors.specs.AskLaws.{asks_lost}
 
 all_gone : (session : Clients) (racks : List (List ℕ)) (h : List Entry)

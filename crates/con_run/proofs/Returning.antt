@@ -60,11 +60,12 @@ use Rattle.con_threads.specs.declared.writer.WriterThread.{WriterThread}
 use Rattle.con_run.proofs.ClientEntries.{goes_sees}
 use Rattle.con_run.proofs.Crewing.{served_at, served_crew}
 use Rattle.con_run.proofs.Ending.{leaves_broken, leaves_done}
-use Rattle.con_threads.proofs.Painting.{canvas_sees, less_sees, tied_sees}
-use Rattle.con_threads.proofs.SideLaws.{goes_seen}
+use Rattle.con_threads.proofs.Painting.{canvas_sees, tied_sees}
+use Rattle.con_run.proofs.Lessening.{less_sees}
+use Rattle.con_run.proofs.SideLaws.{goes_seen}
 use Rattle.con_run.proofs.Taking.{covers_more}
 use Rattle.con_run.proofs.WholeLog.{down_length, kept_length, sees_raw}
-use Rattle.con_threads.proofs.Writing.{piped, piped_less}
+use Rattle.con_run.proofs.Written.{piped, piped_less}
 
 -- ---- a painter whose pass has taken others in
 

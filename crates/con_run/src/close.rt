@@ -19,11 +19,12 @@ ghost use Rattle.con_run.specs.Taking.{HasTaken, Covers, IsGathered, IsHistory, 
 use crate::closing::{closed, take_in};
 use crate::edges::Edges;
 use crate::gather::gather;
-use con_actors::{Outcome, end_by};
+use crate::work::painter::paint_due;
 use con_book::{Book, Pass};
 use con_events::{End, Entries, PieceEnds, Replies};
 use con_outside::Sink;
 use con_pipe::meet;
+use con_actors::{Outcome, end_by};
 use con_threads::{ClientThread, Ledger, PainterThread, Scribe, SideThread};
 use con_units::OutOfMemory;
 use std::alloc::Global;
@@ -133,7 +134,7 @@ pub fn finished<R: Wait, O: Sink>(
     if is_astray(hung, writer.failed) {
         return left(book, opening, painter, End::Memory);
     }
-    match painter.finish(rt, alloc, &book, term, writer.failed) {
+    match paint_due(&mut painter, rt, alloc, &book, term, writer.failed) {
         Ok(failed) => left(book, opening, painter, end_by(failed, side.end)),
         Err(OutOfMemory) => left(book, opening, painter, End::Memory),
     }

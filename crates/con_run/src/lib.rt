@@ -1,7 +1,8 @@
-//! A session by threads, from its beginning to its outcome. The threads are con_threads'.
+//! A session by threads, from its beginning to its outcome. The threads are con_threads', with what each does in a turn.
 //!
-//! [`run_session`] makes all of them, each with a pass of one book, lets them run beside each other, takes their passes together once all
-//! have returned, paints what is still due, closes the book and leaves an `Outcome`, as a session by turns does.
+//! [`run_session`] makes all of them, each with a pass of one book, lets them run beside each other, each turn by turn until it returns (`work`),
+//! takes their passes together once all have returned, paints what is still due, closes the book and leaves an `Outcome`, as a session by turns
+//! does.
 //!
 //! Where a thread cannot be made, which is want of memory, all return. That nothing was entered, read or written then is no clause.
 //!
@@ -17,5 +18,6 @@ mod gather;
 mod paired;
 mod run;
 mod session;
+mod work;
 
 pub use session::run_session;

@@ -12,6 +12,10 @@ ghost use Rattle.con_threads.specs.Writers.{HasWritten};
 
 use crate::abreast::each_beside;
 use crate::paired::beside;
+use crate::work::client::client_work;
+use crate::work::painter::painter_work;
+use crate::work::side::side_work;
+use crate::work::writer::writer_work;
 use con_book::Book;
 use con_outside::{Gate, Sink, Source};
 use con_pipe::PipeIn;
@@ -39,11 +43,11 @@ fn run_painter<R: Threads + Wait + Sync, O: Sink + Send>(
     let mut one = ||
         requires { (pass_id painter.now.scribe.pass ≡ book_id book.now) × IsPainterThread painter.now × (is_finished put.now ≡ false) }
         ensures { HasDrawn painter.entry.now painter.exit.now put.entry.now put.exit.now }
-    { painter.work(rt, alloc, book, signals, put) };
+    { painter_work(painter, rt, alloc, book, signals, put) };
     let mut two = ||
         ensures { HasWritten writer.entry.now writer.exit.now (O.written term.entry.now) (O.written term.exit.now)
             (O.faults term.entry.now) (O.faults term.exit.now) }
-    { writer.work(rt, term, signals) };
+    { writer_work(writer, rt, term, signals) };
     beside(rt, signals, &mut one, &mut two);
 }
 
@@ -75,7 +79,7 @@ fn run_edges<R: Threads + Wait + Sync, I: Source + Send, O: Sink + Send>(
         ensures failed { side.exit.now.side.end ≡ End.Link
             → (side.entry.now.side.end ≡ End.Link) ⊎ Rose (I.faults link.entry.now) (I.faults link.exit.now) }
         ensures never_falls { I.faults link.entry.now ≤ I.faults link.exit.now }
-    { side.work(rt, book, signals, link) };
+    { side_work(side, rt, book, signals, link) };
     let mut two = ||
         requires { (pass_id painter.now.scribe.pass ≡ book_id book.now) × IsPainterThread painter.now × (is_finished put.now ≡ false) }
         ensures painter { HasDrawn painter.entry.now painter.exit.now put.entry.now put.exit.now }
@@ -103,7 +107,7 @@ fn run_clients<R: Threads + Wait + Sync, G: Gate>(
         &|_, client: &mut ClientThread<'_>|
             requires { (pass_id client.old.scribe.pass ≡ book_id book.now) × IsClientThread memory client.old }
             ensures { HasServed memory client.old client.new }
-        { client.work(rt, book, signals, gate) },
+        { client_work(client, rt, book, signals, gate) },
     );
 }
 

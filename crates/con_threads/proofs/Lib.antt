@@ -1,11 +1,7 @@
-pub mod Causes
 pub mod Ledgering
 pub mod Painting
+pub mod Passing
 pub mod Posting
 pub mod Rows
 pub mod Scribing
-pub mod SendingLaws
-pub mod SideLaws
-pub mod ThreadRows
-pub mod Turning
 pub mod Writing

@@ -1,13 +1,12 @@
 //! The writer's thread.
 ghost use Rattle.std.specs.Prelude.{◌≡◌, ◌⊎◌, ◌≤◌, ℕ, true, List, ◌∷◌, ◌++◌, [], Option};
 ghost use Rattle.con_outside.specs.Outside.{Rose};
-ghost use Rattle.con_threads.specs.Writers.{Writes, HasWritten};
+ghost use Rattle.con_threads.specs.Writers.{Writes};
 
 use crate::signals::Signals;
 use con_outside::{Fault, Sink, write_whole};
 use con_pipe::PipeOut;
 use con_units::Bytes;
-use std::sync::Wait;
 use std::sync::atomic::Ordering::SeqCst;
 
 /// The writer. `failed`: the sink failed. `broken`: it had no memory. Behind either it takes pieces and writes none.
@@ -52,18 +51,5 @@ impl WriterThread {
                 signals.stop();
             }
         }
-    }
-
-    /// Takes pieces until the end mark, and writes each.
-    pub fn work<R: Wait, O: Sink>(&mut self, rt: &R, term: &mut O, signals: &Signals)
-        ensures { HasWritten self.old self.new (O.written term.old) (O.written term.new) (O.faults term.old) (O.faults term.new) }
-    {
-        for _ in rt.forever() {
-            match self.take.next(rt) {
-                Some(piece) => self.write(term, &piece, signals),
-                None => return,
-            }
-        }
-        unreachable!()
     }
 }

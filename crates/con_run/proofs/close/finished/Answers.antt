@@ -13,8 +13,8 @@ gather_all-gone-requires-clause-books g c = crew_books _ _ _ _ c.requires.back.c
 pub gather_all-gone-requires-clause-single : goal.gather_all-gone-requires-clause-single
 gather_all-gone-requires-clause-single g c = crew_single _ _ _ _ c.requires.back.clients
 
-pub finish-requires-clause-is : goal.finish-requires-clause-is
-finish-requires-clause-is g c =
+pub paint_due-requires-clause-is : goal.paint_due-requires-clause-is
+paint_due-requires-clause-is g c =
     let first = c.args.edges.painter in
     let last : PainterThread = with_scribe first (record first.scribe { pass = c.gather_all-gone.new.into }) in
     taken_painter first last _ c.requires.back.edges.painter_is c.gather_all-gone.ensures.into refl refl refl
@@ -49,7 +49,7 @@ left-requires-in-Ok g c =
     let last : PainterThread = with_scribe first (record first.scribe { pass = c.gather_all-gone.new.into }) in
     let took = c.gather_all-gone.ensures.into in
     let covers = c.gather_all-gone.ensures.covers in
-    may_close _ _ _ opener _ _ _ _ _ back last c.finish.new.self took c.finish.ensures.same c.finish.ensures.is.is_scribe covers
+    may_close _ _ _ opener _ _ _ _ _ back last c.paint_due.new.painter took c.paint_due.ensures.same c.paint_due.ensures.is.is_scribe covers
 
 pub left-requires-in-Err : goal.left-requires-in-Err
 left-requires-in-Err g c =
@@ -59,7 +59,7 @@ left-requires-in-Err g c =
     let last : PainterThread = with_scribe first (record first.scribe { pass = c.gather_all-gone.new.into }) in
     let took = c.gather_all-gone.ensures.into in
     let covers = c.gather_all-gone.ensures.covers in
-    may_close _ _ _ opener _ _ _ _ _ back last c.finish.new.self took c.finish.ensures.same c.finish.ensures.is.is_scribe covers
+    may_close _ _ _ opener _ _ _ _ _ back last c.paint_due.new.painter took c.paint_due.ensures.same c.paint_due.ensures.is.is_scribe covers
 
 pub returns-then-not-are_whole-clause-outcome : goal.returns-then-not-are_whole-clause-outcome
 returns-then-not-are_whole-clause-outcome g c = λ session racks before left old e n edges crew.
@@ -107,8 +107,8 @@ returns-in-Ok-clause-outcome g c = λ session racks before left old e n edges cr
     let end = (c.meet.ensures.all (c.meet.ensures.take.2 ∙ c.requires.back.ended)).0 in
     let pieces = sym c.meet.ensures.take.1 ∙ (end ∙ c.meet.ensures.put.1) in
     let history = c.left-in-Ok.ensures.history c.args.clients _ _
-    (gathered _ _ _ opener _ _ _ _ _ back last c.finish.new.self took c.finish.ensures.same c.finish.ensures.is.is_scribe covers) in
-    leaves_ok _ _ _ opener _ _ _ _ _ back last c.finish.new.self took c.finish.ensures.same c.finish.ensures.is.is_scribe covers
+    (gathered _ _ _ opener _ _ _ _ _ back last c.paint_due.new.painter took c.paint_due.ensures.same c.paint_due.ensures.is.is_scribe covers) in
+    leaves_ok _ _ _ opener _ _ _ _ _ back last c.paint_due.new.painter took c.paint_due.ensures.same c.paint_due.ensures.is.is_scribe covers
     session racks before left old _ _ e n edges crew pieces refl refl refl refl _ _ history _ _ c.in-Ok.failed
     c.left-in-Ok.ensures.ends (c.left-in-Ok.ensures.end ∙ c.end_by.ensures) c.in-Ok.ensures.finished w.3 w.4 w.2 w.1
     (λ h. c.in-Ok.ensures.stays (c.is_astray.ensures (search rules) h)) (c.gather_all-gone.ensures.gone w.0) c.in-Ok.ensures.idle
@@ -125,7 +125,7 @@ returns-clause-outcome g c = λ session racks before left old e n edges crew.
     let end = (c.meet.ensures.all (c.meet.ensures.take.2 ∙ c.requires.back.ended)).0 in
     let pieces = sym c.meet.ensures.take.1 ∙ (end ∙ c.meet.ensures.put.1) in
     let history = c.left-in-Err.ensures.history c.args.clients _ _
-    (gathered _ _ _ opener _ _ _ _ _ back last c.finish.new.self took c.finish.ensures.same c.finish.ensures.is.is_scribe covers) in
-    leaves_err _ _ _ opener _ _ _ _ _ back last c.finish.new.self took c.finish.ensures.same c.finish.ensures.is.is_scribe covers
+    (gathered _ _ _ opener _ _ _ _ _ back last c.paint_due.new.painter took c.paint_due.ensures.same c.paint_due.ensures.is.is_scribe covers) in
+    leaves_err _ _ _ opener _ _ _ _ _ back last c.paint_due.new.painter took c.paint_due.ensures.same c.paint_due.ensures.is.is_scribe covers
     session racks before left old _ _ e n edges crew pieces refl refl refl refl _ _ history _ _ _
     c.left-in-Err.ensures.ends c.left-in-Err.ensures.end c.in-Err.ensures.finished w.3 w.4

@@ -1,5 +1,5 @@
 use Rattle.std.proofs.Common.{sym, ◌∙◌}
-use Rattle.con_threads.proofs.SideLaws.{entered_blocked, entered_sent}
+use Rattle.con_threads.proofs.Passing.{entered_blocked, entered_sent}
 use Rattle.con_threads.proofs.side.pass_on.Goals as goal
 
 pub returns-clause-sent : goal.returns-clause-sent
