@@ -28,9 +28,9 @@ use crate::client::Track;
 use crate::side::Side;
 use crate::verdict::What;
 use crate::watch::Watch;
+use con_console::Console;
 use con_copies::same_reply;
 use con_events::{Actor, Entry, Event, Reply, Script, Session, Step};
-use con_console::Console;
 use con_units::{Bytes, Frame, OutOfMemory};
 use std::alloc::Global;
 

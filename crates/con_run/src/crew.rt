@@ -5,9 +5,9 @@ ghost use Rattle.con_book.specs.Passes.{book_id, pass_id, view_of, made, seen};
 ghost use Rattle.con_threads.specs.Clients.{seen_of};
 ghost use Rattle.con_run.specs.Crews.{AreNew, Begins, IsOpening, down_from};
 
+use con_actors::Seat;
 use con_book::{Book, Pass};
 use con_events::{Actor, Script};
-use con_actors::Seat;
 use con_threads::{ClientThread, Ledger, Scribe};
 use con_units::OutOfMemory;
 use std::alloc::Global;

@@ -10,12 +10,12 @@ ghost use Rattle.con_run.specs.Crews.{IsOpening, down_from};
 ghost use Rattle.con_pipe.specs.PipeEnds.{is_finished};
 ghost use Rattle.con_run.specs.Session.{AreMade, EdgesGo};
 
+use con_actors::{Canvas, Desk, Side, Stage};
 use con_book::{Book, Opened, Pass};
 use con_events::{Actor, End};
 use con_link::LinkReader;
 use con_paint::Painter;
 use con_pipe::{PipeEnds, PipeIn, pipe};
-use con_actors::{Canvas, Desk, Side, Stage};
 use con_threads::{Ledger, PainterThread, Scribe, SideThread, WriterThread};
 use con_units::OutOfMemory;
 use std::alloc::Global;

@@ -12,10 +12,10 @@ ghost use Rattle.con_threads.specs.Scribe.{opened, history, IsScribe, IsSameScri
 use crate::ledger::Ledger;
 use crate::post::Post;
 use crate::scribe::Scribe;
+use con_actors::Seat;
 use con_book::Book;
 use con_events::{Actor, Step};
 use con_outside::Gate;
-use con_actors::Seat;
 use con_session::act;
 use con_units::OutOfMemory;
 use std::sync::Wait;

@@ -2,11 +2,11 @@
 ghost use Rattle.std.specs.Prelude.{◌≡◌, ◌≤◌, vec_len, vec_capacity};
 
 use crate::listing::listed_in;
-use con_book::{Logged, Machine};
-use con_events::{Entry, Event, Reply};
-use con_console::{Console, Shown};
-use con_machine::Room;
 use con_actors::{Brief, Picture, brief_for};
+use con_book::{Logged, Machine};
+use con_console::{Console, Shown};
+use con_events::{Entry, Event, Reply};
+use con_machine::Room;
 use con_units::OutOfMemory;
 use std::alloc::Global;
 use std::collections::LinkedList;

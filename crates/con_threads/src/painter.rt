@@ -12,10 +12,10 @@ ghost use Rattle.con_threads.specs.Painters.{IsPainterThread, PainterTurn};
 
 use crate::ledger::{Ledger, Told};
 use crate::scribe::Scribe;
+use con_actors::{end_after, frame_length};
 use con_book::Book;
 use con_events::Event;
 use con_paint::Painter;
-use con_actors::{end_after, frame_length};
 use con_session::draw;
 use con_units::{Bytes, OutOfMemory};
 use std::alloc::Global;

@@ -4,9 +4,9 @@ ghost use Rattle.con_threads.specs.Ledger.{brief_told};
 
 use crate::ledger::{Ledger, Told};
 use crate::scribe::Scribe;
+use con_actors::{Brief, Door};
 use con_book::Book;
 use con_events::{Actor, Event};
-use con_actors::{Brief, Door};
 use con_units::OutOfMemory;
 use std::sync::Wait;
 

@@ -9,10 +9,10 @@ ghost use Rattle.con_threads.specs.Sides.{IsSending};
 
 use crate::ledger::{Ledger, Told};
 use crate::scribe::Scribe;
+use con_actors::Side;
 use con_book::Book;
 use con_events::Event;
 use con_link::LinkReader;
-use con_actors::Side;
 use con_units::OutOfMemory;
 use std::sync::Wait;
 

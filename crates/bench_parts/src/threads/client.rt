@@ -1,7 +1,7 @@
 // A client's thread, at a console under a mutex.
+use con_console::Console;
 use con_copies::copied_call;
 use con_events::{Actor, Call, Event, Step};
-use con_console::Console;
 use con_units::OutOfMemory;
 use std::sync::{Mutex, Wait};
 

@@ -1,7 +1,7 @@
 // A session's clients, all at once.
 use crate::threads::client::{Client, Desk};
-use con_events::Session;
 use con_console::Console;
+use con_events::Session;
 use con_script::{generated, read_session};
 use std::alloc::{AllocError, Global};
 use std::io::Read;

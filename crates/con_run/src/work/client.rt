@@ -4,9 +4,9 @@ ghost use Rattle.con_book.specs.Passes.{book_id, pass_id};
 ghost use Rattle.con_threads.specs.Clients.{HasServed, IsClientThread};
 
 use crate::work::moved::Moved;
+use con_actors::Hands;
 use con_book::Book;
 use con_outside::Gate;
-use con_actors::Hands;
 use con_threads::{ClientThread, Ledger, Signals};
 use con_units::OutOfMemory;
 use std::sync::Wait;

@@ -10,11 +10,11 @@ ghost use Rattle.con_threads.specs.Scribe.{IsScribe, IsSameScribe, SeesMore, his
 ghost use Rattle.con_threads.specs.Sides.{IsSending, HasSentOn, IsSideThread};
 
 use crate::work::moved::Moved;
+use con_actors::{end_by_fault, ends_the_link, event_for};
 use con_book::Book;
 use con_events::Event;
 use con_link::LinkFault;
 use con_outside::Source;
-use con_actors::{end_by_fault, ends_the_link, event_for};
 use con_threads::{Ledger, Scribe, SideThread, Signals, pass_on};
 use con_units::OutOfMemory;
 use std::sync::Wait;
