@@ -23,7 +23,7 @@ use Rattle.con_events.specs.declared.reply.Reply.{Reply}
 use Rattle.con_actors.specs.Outcome.{HasSentBy, LeavesBy}
 use Rattle.con_lines.specs.Ending.{status_of}
 use Rattle.con_host.specs.Foretold.{ForetellsBy, HasNoFrameBy, StandsBy}
-use Rattle.con_host.specs.Sessions.{ending_after}
+use Rattle.con_telling.specs.Telling.{ending_after}
 use Rattle.con_host.proofs.Certain.{Certain, IsTold}
 
 abbrev spelled : (R : LinkReading) → List R.One → List ℕ

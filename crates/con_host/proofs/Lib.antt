@@ -1,6 +1,5 @@
 pub mod Hosts
 pub mod SessionLemmas
-pub mod TellLemmas
 pub mod Generations
 pub mod Statuses
 pub mod Certain

@@ -8,8 +8,8 @@ use Rattle.con_laws.specs.Rounds.{is_memory}
 use Rattle.con_outside.specs.Outside.{then_written}
 use Rattle.con_lines.specs.Ending.{status_of}
 use Rattle.con_ending.specs.Ending.{Reported, lost_status}
-use Rattle.con_host.specs.Mirroring.{HasMirrored, RanMirrored, mirror_ending}
-use Rattle.con_host.specs.Sessions.{ending_after}
+use Rattle.con_host.specs.Mirroring.{HasMirrored, RanMirrored}
+use Rattle.con_telling.specs.Telling.{ending_after, mirror_ending}
 use Rattle.con_host.proofs.Reports.{apart, nine_at, told_at, unless_done}
 use Rattle.con_host.proofs.SessionLemmas.{end_says, is_end, memory_end, of_form}
 

@@ -26,10 +26,9 @@ use Rattle.con_forms.specs.Kept.{EndKeeps, Kept}
 use Rattle.con_forms.specs.Laws.{AllAreTold, AreSaid, EachIsTold, HistoriesFit, answers}
 use Rattle.con_forms.specs.Told.{is_told, told}
 use Rattle.con_forms.specs.Words.Told.{history_told}
-use Rattle.con_host.specs.Mirroring.{mirror_ending}
-use Rattle.con_host.specs.Sessions.{IsFrontOfReport, ReadBack, ReadsAs, ending_after, trace_of}
-use Rattle.con_host.specs.Telling.{ended_report, lines_text, told_report}
-use Rattle.con_host.proofs.TellLemmas.{report_cut, whole_is_told}
+use Rattle.con_telling.specs.Telling.{ended_report, ending_after, lines_text, mirror_ending, told_report}
+use Rattle.con_host.specs.Sessions.{IsFrontOfReport, ReadBack, ReadsAs, trace_of}
+use Rattle.con_telling.specs.Laws.{report_cut, whole_is_told}
 
 -- ---- replies as a session lists them are replies as a report has them, and its pictures are the Paints
 

@@ -12,8 +12,8 @@ use Rattle.con_lines.specs.Ending.{Ending, status_of}
 use Rattle.con_ending.specs.Ending.{Reported, lost_status}
 use Rattle.con_ending.specs.Laws.{reported_by, status_after}
 use Rattle.con_forms.specs.Told.{is_told}
-use Rattle.con_host.specs.Telling.{ended_report, told_report}
-use Rattle.con_host.proofs.TellLemmas.{whole_is_told}
+use Rattle.con_telling.specs.Telling.{ended_report, told_report}
+use Rattle.con_telling.specs.Laws.{whole_is_told}
 
 -- ---- of its status
 

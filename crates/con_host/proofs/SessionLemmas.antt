@@ -12,7 +12,8 @@ use Rattle.con_ending.specs.Ending.{Reported, Tells}
 use Rattle.con_ending.specs.Files.{OfFile, ending_for}
 use Rattle.con_ending.specs.Words.Files.{Explains}
 use Rattle.con_ending.specs.declared.file.Unrun.TheVariants as unrun
-use Rattle.con_host.specs.Sessions.{HasRun, Ran, RanByTurns, Soloed, ending_after}
+use Rattle.con_host.specs.Sessions.{HasRun, Ran, RanByTurns, Soloed}
+use Rattle.con_telling.specs.Telling.{ending_after}
 use Rattle.con_host.proofs.Reasons.{never}
 use Rattle.con_host.proofs.Reports.{apart, told_at}
 

@@ -1,4 +1,4 @@
--- What a reader must believe: a report as far as it is told, how a session by threads, by turns, with a second terminal and a generated one end, and
+-- What a reader must believe: how a session by threads, by turns, with a second terminal and a generated one end, and
 -- the whole call.
 pub mod Foretold
 pub mod Generating
@@ -6,4 +6,3 @@ pub mod Hosting
 pub mod Mirroring
 pub mod Sessions
 pub mod Summary
-pub mod Telling

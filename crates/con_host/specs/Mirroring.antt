@@ -1,24 +1,18 @@
 -- How a session of a file with a second terminal ends: from the bytes of its file and of its link to those of both terminals and of the report.
-use Rattle.std.specs.Prelude.{◌≡◌, ◌⊎◌, ℕ, Bool, true, List, Option, codes}
+use Rattle.std.specs.Prelude.{◌≡◌, ◌⊎◌, ℕ, Bool, List, Option}
 use Rattle.con_events.specs.Session.{Clients}
 use Rattle.con_events.specs.declared.end.End.{End}
-use Rattle.con_events.specs.declared.end.End.TheVariants as ends
 use Rattle.con_events.specs.declared.entry.Entry.{Entry}
 use Rattle.con_events.specs.declared.reply.Reply.{Reply}
 use Rattle.con_outside.specs.Outside.{then_written}
 use Rattle.con_machine.specs.Follows.{session_start}
 use Rattle.con_laws.specs.Once.{TakenOnce}
 use Rattle.con_actors.specs.Second.{IsMirrorOutcome}
-use Rattle.con_lines.specs.Ending.{Ending, worded, status_of}
-use Rattle.con_host.specs.Telling.{told_report}
-use Rattle.con_host.specs.Sessions.{ReadBack, ending_after}
+use Rattle.con_lines.specs.Ending.{status_of}
+use Rattle.con_telling.specs.Telling.{mirror_ending, told_report}
+use Rattle.con_host.specs.Sessions.{ReadBack}
 use Rattle.con_ending.specs.Ending.{Reported}
 use Rattle.con_ending.specs.Files.{OfFile}
-
--- the last line of a session that ended so, and whether its second terminal failed: where all else was done, the line says that
-abbrev pub mirror_ending : End → Bool → Ending
-mirror_ending ends.Done true = worded 12 (codes "mirror")
-mirror_ending end lost = ending_after end
 
 -- the report of a history with its answers and ends, up to this end
 abbrev pub mirror_report : List Entry → List Reply → List ℕ → End → Bool → List ℕ

@@ -1,8 +1,7 @@
 -- How a session of a file ends, by threads and by turns: from the bytes of its file and of its link to those of the terminal and of the report.
-use Rattle.std.specs.Prelude.{◌≡◌, ℕ, true, false, List, Option, codes}
+use Rattle.std.specs.Prelude.{◌≡◌, ℕ, true, false, List, Option}
 use Rattle.con_events.specs.Session.{Clients}
 use Rattle.con_events.specs.declared.end.End.{End}
-use Rattle.con_events.specs.declared.end.End.TheVariants as ends
 use Rattle.con_events.specs.declared.entry.Entry.{Entry}
 use Rattle.con_events.specs.declared.reply.Reply.{Reply}
 use Rattle.con_outside.specs.Outside.{WroteFront}
@@ -12,22 +11,13 @@ use Rattle.con_laws.specs.Rounds.{Rounds, is_memory}
 use Rattle.con_actors.specs.Outcome.{Leaves}
 use Rattle.con_ending.specs.Ending.{Reported}
 use Rattle.con_ending.specs.Files.{OfFile}
-use Rattle.con_lines.specs.Ending.{Ending, IsEnding, alone, worded, at_frame, status_of}
+use Rattle.con_lines.specs.Ending.{Ending, IsEnding, status_of}
 use Rattle.con_trace.specs.Report.{History, IsHistory, IsReport, report_of}
 use Rattle.con_trace.specs.declared.trace.Trace.{Trace}
 use Rattle.con_forms.specs.Told.{is_told}
-use Rattle.con_host.specs.Telling.{told_report}
+use Rattle.con_telling.specs.Telling.{ending_after, told_report}
 
 -- ---- the session's end
-
--- the last line of a session that ended so
-abbrev pub ending_after : End → Ending
-ending_after ends.Done = alone 0
-ending_after ends.Term = worded 5 (codes "term")
-ending_after ends.Link = worded 4 (codes "link")
-ending_after ends.TooLong = worded 10 (codes "too long")
-ending_after (ends.Bad place kind) = at_frame place kind
-ending_after ends.Memory = alone 9
 
 -- the report of a history with its answers and ends, up to this end; it ends before a Paint that has no end
 abbrev pub report_text : List Entry → List Reply → List ℕ → End → List ℕ

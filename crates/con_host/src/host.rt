@@ -9,7 +9,7 @@ ghost use Rattle.con_lines.specs.Ending.{status_of, worded};
 ghost use Rattle.con_units.specs.declared.place.Size.{Size};
 ghost use Rattle.con_ending.specs.Ending.{Tells};
 ghost use Rattle.con_host.specs.Foretold.{Foretells, HasNoFrame, HasNoMirrorFrame, IsSession, MirrorForetells};
-ghost use Rattle.con_host.specs.Sessions.{ending_after};
+ghost use Rattle.con_telling.specs.Telling.{ending_after};
 ghost use Rattle.con_inspect.specs.Auditing.{IsComplete};
 ghost use Rattle.con_inspect.specs.Four.{four_of};
 ghost use Rattle.con_words.specs.Words.{form_of, typing, playing, running, solo, mirroring, generating, auditing};

@@ -23,7 +23,6 @@ pub mod run;
 pub mod session;
 pub mod solo;
 pub mod summary;
-pub mod telling;
 
 pub use generating::host_gen;
 pub use host::console_host;

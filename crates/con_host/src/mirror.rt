@@ -6,46 +6,24 @@ ghost use Rattle.con_events.specs.declared.end.End.{End as Ended};
 ghost use Rattle.con_outside.specs.Outside.{Rose, then_left, WroteFront};
 ghost use Rattle.con_ending.specs.Ending.{Reported};
 ghost use Rattle.con_host.specs.Foretold.{HasNoMirrorFrame, IsSession, MirrorForetells};
-ghost use Rattle.con_host.specs.Mirroring.{HasMirrored, RanMirrored, mirror_ending, mirror_report};
-ghost use Rattle.con_host.specs.Sessions.{ending_after};
-ghost use Rattle.con_host.specs.Telling.{ended_report};
+ghost use Rattle.con_host.specs.Mirroring.{HasMirrored, RanMirrored, mirror_report};
+ghost use Rattle.con_telling.specs.Telling.{ended_report, ending_after, mirror_ending};
 ghost use Rattle.con_actors.specs.Worker.{told_kind};
 ghost use Rattle.con_lines.specs.Ending.{status_of};
-ghost use Rattle.con_lines.specs.Words.Ending.{ending_of};
 
-use crate::session::{last_of, status_by, write_outcome};
-use con_actors::Outcome;
+use crate::session::write_outcome;
 use con_ending::{Unrun, close, session_of};
-use con_events::{End, Session};
+use con_events::Session;
 use con_forms::{a_legal_history_is_told, types_are_kept};
 use con_handlers::CtrlHandler;
 use con_laws::once::each_record_is_taken_once;
 use con_link::{one_mirror_answer, one_mirror_frame};
 use con_outside::{Files, Sink, Source};
+use con_actors::Outcome;
 use con_session::run_mirrored;
-use con_trace::{EndLine, report_tells};
+use con_telling::{mirror_last_of, status_by};
+use con_trace::report_tells;
 use std::alloc::Global;
-
-// The last line where all was done, but for a second terminal that may have failed.
-fn done_line(lost: bool) -> EndLine
-    ensures { ending_of result ≡ mirror_ending Ended.Done lost }
-{
-    if lost {
-        EndLine::Word(12, "mirror")
-    } else {
-        EndLine::Plain(0)
-    }
-}
-
-// The last line of a session that ended so.
-fn mirror_last_of(end: End, lost: bool) -> EndLine
-    ensures { ending_of result ≡ mirror_ending end lost }
-{
-    match end {
-        End::Done => done_line(lost),
-        _ => last_of(end),
-    }
-}
 
 // Writes the report of a session whose second terminal may have failed, and answers its status.
 fn tell_mirrored<R: Sink>(alloc: Global, outcome: &Outcome, lost: bool, report: &mut R) -> u8

@@ -7,7 +7,8 @@ ghost use Rattle.con_outside.specs.Outside.{Rose, then_left};
 ghost use Rattle.con_host.specs.Foretold.{Foretells, HasNoFrame, IsSession};
 ghost use Rattle.con_lines.specs.Ending.{status_of};
 ghost use Rattle.con_actors.specs.Worker.{told_kind};
-ghost use Rattle.con_host.specs.Sessions.{HasRun, Ran, ending_after};
+ghost use Rattle.con_host.specs.Sessions.{HasRun, Ran};
+ghost use Rattle.con_telling.specs.Telling.{ending_after};
 
 use crate::session::tell;
 use con_ending::{Unrun, close, session_of};

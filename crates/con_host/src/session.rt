@@ -5,31 +5,14 @@ ghost use Rattle.con_outside.specs.Outside.{Rose, then_written, WroteFront, Wrot
 ghost use Rattle.con_lines.specs.Ending.{status_of};
 ghost use Rattle.con_lines.specs.Words.Ending.{ending_of};
 ghost use Rattle.con_ending.specs.Ending.{Reported};
-ghost use Rattle.con_ending.specs.Laws.{status_after};
-ghost use Rattle.con_host.specs.Sessions.{ending_after, report_text};
-ghost use Rattle.con_host.specs.Telling.{ended_report, told_report};
+ghost use Rattle.con_telling.specs.Telling.{ended_report, ending_after, told_report};
+ghost use Rattle.con_host.specs.Sessions.{report_text};
 
-use crate::telling::write_report;
-use con_actors::Outcome;
-use con_ending::{status_after, status_told};
-use con_events::End;
 use con_outside::{Fault, Sink};
+use con_actors::Outcome;
+use con_telling::{last_of, status_by, write_report};
 use con_trace::EndLine;
 use std::alloc::Global;
-
-/// The last line of a session that ended so.
-pub fn last_of(end: End) -> EndLine
-    ensures { ending_of result ≡ ending_after end }
-{
-    match end {
-        End::Done => EndLine::Plain(0),
-        End::Term => EndLine::Word(5, "term"),
-        End::Link => EndLine::Word(4, "link"),
-        End::TooLong => EndLine::Word(10, "too long"),
-        End::Bad { place, kind } => EndLine::Frame(place, kind),
-        End::Memory => EndLine::Plain(9),
-    }
-}
 
 /// Writes the report of a session that ran, with this last line.
 pub fn write_outcome<R: Sink>(
@@ -56,13 +39,6 @@ pub fn write_outcome<R: Sink>(
         last,
     )?;
     Ok(())
-}
-
-/// The status of a session whose report, with this last line, was written so.
-pub fn status_by(written: Result<(), Fault>, last: &EndLine) -> u8
-    ensures { result ≡ status_after written (status_of (ending_of last.now)) }
-{
-    status_after(written, status_told(last))
 }
 
 /// Writes the report of a session that ran, and answers its status.

@@ -1,6 +1,6 @@
 use Rattle.std.proofs.Common.{◌≤◌, length}
-use Rattle.con_host.proofs.TellLemmas.{Writes}
-use Rattle.con_host.proofs.telling.write_lines.Given as goal
+use Rattle.con_telling.proofs.TellLemmas.{Writes}
+use Rattle.con_telling.proofs.telling.write_lines.Given as goal
 
 abbrev pub invariant-loop-coming : goal.invariant-loop-coming
 invariant-loop-coming g l = record {

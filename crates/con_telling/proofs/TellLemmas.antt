@@ -13,7 +13,8 @@ use Rattle.con_lines.specs.Line.{ended, line_text}
 use Rattle.con_trace.specs.Report.{said, said_text, report}
 use Rattle.con_trace.specs.Words.Report.{end_of, ends_behind}
 use Rattle.con_forms.specs.Told.{has_end, is_told, told}
-use Rattle.con_host.specs.Telling.{ended_report, lines_text, told_report}
+use Rattle.con_telling.specs.Laws.{front_behind, report_cut, report_parts, whole_is_told}
+use Rattle.con_telling.specs.Telling.{ended_report, lines_text, told_report}
 
 -- what was written so far, and the lines that are still to come, are all lines
 pub record Tells (all coming : List Said) (old now : Option (List ℕ)) : Type 0 where
@@ -39,15 +40,6 @@ append_nothing (x ∷ xs) = ap (λ ys. x ∷ ys) (append_nothing xs)
 tells_all : (all : List Said) (old now : Option (List ℕ)) → Tells all [] old now → now ≡ then_written old (lines_text all)
 tells_all all old now t = t.wrote ∙ ap (then_written old) (sym (append_nothing t.front) ∙ sym t.parts)
 
--- a front of what stands behind what was written is a front of all
-pub front_behind : (a b c all : List ℕ) (old now new : Option (List ℕ)) → now ≡ then_written old a → all ≡ a ++ (b ++ c) → WroteFront b now new → WroteFront all old new
-front_behind a b c all old now new wrote parts w = (
-  length a + w.0,
-  (let e : length all ≡ length a + (length b + length c) = ap length parts ∙ (length-append a (b ++ c) ∙ ap (λ n. length a + n) (length-append b c)) in omega (arith, e, w.1)),
-  then_written-more a (take w.0 b) old now new wrote w.2
-      ∙ ap (then_written old) (ap (λ xs. a ++ xs) (sym (take-append-le w.0 b c w.1)) ∙ (sym (take-append-add a (b ++ c) w.0) ∙ ap (take (length a + w.0)) (sym parts))),
-)
-
 -- a line was cut
 tells_cut : (all ss : List Said) (s : Said) (old now new : Option (List ℕ)) → Tells all (s ∷ ss) old now → WroteFront (said_text s) now new → WroteFront (lines_text all) old new
 tells_cut all ss s old now new t w = front_behind t.front (said_text s) (lines_text ss) (lines_text all) old now new t.wrote t.parts w
@@ -65,14 +57,6 @@ tells_stop : (all ss : List Said) (old now : Option (List ℕ)) → Tells all ss
 tells_stop all ss old now t = front_behind t.front [] (lines_text ss) (lines_text all) old now now t.wrote t.parts (whole_front [] now now (then_written-none now))
 
 -- ---- the last line
-
-pub report_parts : (ss : List Said) (last : Ending) → report ss last ≡ lines_text ss ++ ended (ending_text last)
-report_parts [] last = refl
-report_parts (s ∷ ss) last = ap (λ xs. said_text s ++ xs) (report_parts ss last) ∙ sym (append_assoc (said_text s) (lines_text ss) (ended (ending_text last)))
-
--- the lines were cut
-pub report_cut : (ss : List Said) (last : Ending) (old new : Option (List ℕ)) → WroteFront (lines_text ss) old new → WroteFront (report ss last) old new
-report_cut ss last old new w = front_behind [] (lines_text ss) (ended (ending_text last)) (report ss last) old old new (then_written-none old) (report_parts ss last) w
 
 -- the last line was cut
 pub report_ended : (ss : List Said) (last : Ending) (old now new : Option (List ℕ)) → now ≡ then_written old (lines_text ss) → WroteFront (ended (ending_text last)) now new → WroteFront (report ss last) old new
@@ -206,10 +190,6 @@ none_answered h hs ms [] ns old now w = (tells_all (said h hs ms) old now w.said
 none_answered h hs ms (e ∷ es) ns old now w = (tells_all (said h hs ms) old now w.said', w.all' refl)
 
 -- ---- a report as far as it is told
-
--- where all is told it is the whole report
-pub whole_is_told : (h : List Entry) (rs : List Reply) (ns : List ℕ) (last : Ending) → is_told h rs ns ≡ true → told_report h rs ns last ≡ ended_report h rs ns last
-whole_is_told h rs ns last t = ap (λ (b : Bool). if b then ended_report h rs ns last else lines_text (told h rs ns)) t
 
 -- the lines that are told are a front of it
 lines_front : (b : Bool) (h : List Entry) (rs : List Reply) (ns : List ℕ) (last : Ending) (old new : Option (List ℕ)) → is_told h rs ns ≡ b → WroteFront (lines_text (said h rs ns)) old new

@@ -2,9 +2,10 @@ use Rattle.std.proofs.Common.{◌≡◌}
 use Rattle.con_outside.specs.Outside.{then_written}
 use Rattle.con_lines.specs.Words.Ending.{ending_of}
 use Rattle.con_trace.specs.Report.{said}
-use Rattle.con_host.specs.Telling.{lines_text}
-use Rattle.con_host.proofs.TellLemmas.{at_err, report_cut, report_ended, report_is_cut, report_ends_cut, report_whole, told_front, told_whole_front, on_err, on_ok}
-use Rattle.con_host.proofs.telling.write_report.Goals as goal
+use Rattle.con_telling.specs.Telling.{lines_text}
+use Rattle.con_telling.proofs.TellLemmas.{at_err, report_ended, report_is_cut, report_ends_cut, report_whole, told_front, told_whole_front, on_err, on_ok}
+use Rattle.con_telling.specs.Laws.{report_cut}
+use Rattle.con_telling.proofs.telling.write_report.Goals as goal
 
 pub returns-in_err-write_lines-clause-front : goal.returns-in_err-write_lines-clause-front
 returns-in_err-write_lines-clause-front g c = report_cut (said c.args.entries.now c.args.replies.now c.args.ends.now) (ending_of c.args.last.now) _ _ c.write_lines.ensures.front

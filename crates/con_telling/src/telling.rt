@@ -6,7 +6,7 @@ ghost use Rattle.con_lines.specs.Words.Ending.{ending_of};
 ghost use Rattle.con_trace.specs.Report.{said, report};
 ghost use Rattle.con_trace.specs.Words.Report.{end_of, ends_behind};
 ghost use Rattle.con_forms.specs.Told.{has_end, is_told, told};
-ghost use Rattle.con_host.specs.Telling.{lines_text, told_report};
+ghost use Rattle.con_telling.specs.Telling.{lines_text, told_report};
 
 use con_events::{Entry, Event, Reply};
 use con_outside::{Fault, Sink};

@@ -1,6 +1,6 @@
 use Rattle.std.proofs.Common.{arith, sym}
-use Rattle.con_host.proofs.TellLemmas.{cut_step, stop_step, writes_step}
-use Rattle.con_host.proofs.telling.write_lines.Goals as goal
+use Rattle.con_telling.proofs.TellLemmas.{cut_step, stop_step, writes_step}
+use Rattle.con_telling.proofs.telling.write_lines.Goals as goal
 
 pub returns-then-not-has_end-clause-front : goal.returns-then-not-has_end-clause-front
 returns-then-not-has_end-clause-front g c =
