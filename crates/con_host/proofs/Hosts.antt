@@ -5,19 +5,17 @@ use Rattle.con_outside.specs.Outside.{then_left}
 use Rattle.con_outside.specs.Laws.{then_left-none}
 use Rattle.con_lines.specs.Ending.{worded}
 use Rattle.con_ending.specs.Ending.{Tells}
-use Rattle.con_host.specs.Generating.{Generated}
+use Rattle.con_sessions.specs.Generating.{Generated}
 use Rattle.con_host.specs.Hosting.{Hosted}
-use Rattle.con_host.specs.Mirroring.{HasMirrored}
+use Rattle.con_sessions.specs.Mirroring.{HasMirrored}
 use Rattle.con_text.specs.Playing.{Played}
-use Rattle.con_host.specs.Sessions.{HasRun, Soloed}
+use Rattle.con_sessions.specs.Sessions.{HasRun, Soloed}
 use Rattle.con_text.specs.Typing.{Typed}
 use Rattle.con_inspect.specs.Auditing.{Audits, HasAudited}
 use Rattle.con_inspect.specs.Four.{Four, four_of}
 use Rattle.con_words.specs.Words.{Asked, typing, playing, running, solo, mirroring, generating, auditing}
-use Rattle.con_host.proofs.Generations.{no_memory as no_generating}
+use Rattle.con_sessions.specs.Laws.{no_memory as no_generating, no_memory as no_running, no_mirror, no_turns}
 use Rattle.con_ending.specs.Laws.{nothing_yet}
-use Rattle.con_host.proofs.SessionLemmas.{no_memory as no_running, no_turns}
-use Rattle.con_host.proofs.Mirrors.{no_mirror}
 
 pub no_form : (s : ℕ) (asked : Option Asked) (files : Option (List ℕ → Option (List ℕ))) (files_failed : Type 0) (racks : List (List ℕ)) (before old second before_report report : Option (List ℕ)) (failed second_failed : Type 0) → None ≡ asked → Tells s (worded 2 (codes "usage")) before_report report failed
     → Hosted s asked files files_failed racks before before old old second second before_report report failed second_failed

@@ -1,10 +1,2 @@
 pub mod Hosts
-pub mod SessionLemmas
-pub mod Generations
 pub mod Statuses
-pub mod Certain
-pub mod Foretelling
-pub mod Reasons
-pub mod Reports
-pub mod Mirrors
-pub mod ReadBacks

@@ -5,7 +5,7 @@ use Rattle.con_units.specs.declared.place.Size.{Size}
 use Rattle.con_outside.specs.Outside.{then_left}
 use Rattle.con_text.specs.Playing.{Played}
 use Rattle.con_text.specs.Typing.{Typed}
-use Rattle.con_host.specs.Generating.{Generated}
+use Rattle.con_sessions.specs.Generating.{Generated}
 
 -- all was done, or there was no memory; one of two things failed; or the text is longer than a link may be
 abbrev pub Comes : ℕ → ℕ → ℕ → List ℕ → Type 0

@@ -4,10 +4,10 @@ use Rattle.con_units.specs.declared.place.Size.{Size}
 use Rattle.con_outside.specs.Outside.{then_left}
 use Rattle.con_lines.specs.Ending.{worded}
 use Rattle.con_ending.specs.Ending.{Tells}
-use Rattle.con_host.specs.Generating.{Generated}
-use Rattle.con_host.specs.Mirroring.{HasMirrored}
+use Rattle.con_sessions.specs.Generating.{Generated}
+use Rattle.con_sessions.specs.Mirroring.{HasMirrored}
 use Rattle.con_text.specs.Playing.{Played}
-use Rattle.con_host.specs.Sessions.{HasRun, Soloed}
+use Rattle.con_sessions.specs.Sessions.{HasRun, Soloed}
 use Rattle.con_text.specs.Typing.{Typed}
 use Rattle.con_inspect.specs.Auditing.{HasAudited}
 use Rattle.con_words.specs.Words.{Asked, typing, playing, running, solo, mirroring, generating, auditing}

@@ -1,8 +1,2 @@
--- What a reader must believe: how a session by threads, by turns, with a second terminal and a generated one end, and
--- the whole call.
-pub mod Foretold
-pub mod Generating
+-- What a reader must believe: what the top call does, by its words.
 pub mod Hosting
-pub mod Mirroring
-pub mod Sessions
-pub mod Summary

@@ -2,12 +2,8 @@
 //!
 //! [`console_host`] reads the words, and then
 //! - `type` and `play`: what [`con_text`] does with the link's bytes;
-//! - `run SESSION`: reads the session of a file, runs it by threads, and writes its history to the report ([`host_run`]);
-//! - `solo SESSION`: the same by turns on one thread ([`host_solo`]);
-//! - `mirror SESSION`: the same with a second terminal, which attaches and detaches by frames of the link and shows a part of each
-//!   picture ([`host_mirror`]);
-//! - `gen N`: runs the generated session of a number by turns, without a link, and writes its summary to the report
-//!   ([`host_gen`]);
+//! - `run SESSION`, `solo SESSION`, `mirror SESSION` and `gen N`: what [`con_sessions`] does with the session of a file ([`host_run`], [`host_solo`],
+//!   [`host_mirror`]) or of a number ([`host_gen`]);
 //! - `audit SESSION LINK STREAM REPORT`: what [`con_inspect`] says of four files.
 //!
 //! Its contract says, for each status that it answers, what was taken from the link, and what the terminals and the
@@ -16,16 +12,7 @@
 //! Never promised: that memory is there, that a read of the link returns, that `run` does, and that two of its threads run at once.
 #![tactic(auto)]
 
-pub mod generating;
 pub mod host;
-pub mod mirror;
-pub mod run;
-pub mod session;
-pub mod solo;
-pub mod summary;
 
-pub use generating::host_gen;
+pub use con_sessions::{host_gen, host_mirror, host_run, host_solo};
 pub use host::console_host;
-pub use mirror::host_mirror;
-pub use run::host_run;
-pub use solo::host_solo;

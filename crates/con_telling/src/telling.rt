@@ -1,6 +1,6 @@
 //! A whole report, written.
 
-ghost use Rattle.std.specs.Prelude.{◌≡◌, ◌≤◌, true, List, [], ◌∷◌, ◌++◌, OnOk, OnErr, length, take, Option};
+ghost use Rattle.std.specs.Prelude.{◌≡◌, ◌≤◌, true, OnOk, OnErr};
 ghost use Rattle.con_outside.specs.Outside.{Rose, then_written, WroteFront, WrotePart};
 ghost use Rattle.con_lines.specs.Words.Ending.{ending_of};
 ghost use Rattle.con_trace.specs.Report.{said, report};

@@ -1,14 +1,13 @@
 use Rattle.std.proofs.Common.{◌≡◌, None, Some, map, string_bytes, ap, sym, subst, ◌∙◌, List, [], ℕ, arith}
 use Rattle.std.specs.Prelude.{option_map}
-use Rattle.con_host.specs.Foretold.{IsSession}
+use Rattle.con_sessions.specs.Foretold.{IsSession}
 use Rattle.con_words.specs.Asked.{asked_of}
 use Rattle.con_inspect.specs.Auditing.{IsComplete}
 use Rattle.con_outside.specs.Outside.{Rose}
 use Rattle.con_words.specs.Words.{auditing, form_of, generating, mirroring, running, solo}
 use Rattle.con_host.proofs.Hosts.{as_generated, no_form, no_words, same_four, same_mirror, same_name, same_run}
 use Rattle.con_host.proofs.Statuses.{done_by, done_within, generated_comes, long_by, played_comes, typed_comes}
-use Rattle.con_host.proofs.Mirrors.{no_usage_of_mirror}
-use Rattle.con_host.proofs.SessionLemmas.{no_usage, no_usage_of_turns}
+use Rattle.con_sessions.specs.Laws.{no_usage, no_usage_of_mirror, no_usage_of_turns}
 use Rattle.con_host.proofs.host.console_host.Goals as goal
 
 pub returns-in-Ok-None-clause-outcome : goal.returns-in-Ok-None-clause-outcome

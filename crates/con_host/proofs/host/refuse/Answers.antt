@@ -1,5 +1,5 @@
 use Rattle.std.proofs.Common.{refl}
-use Rattle.con_host.proofs.Reports.{unless_done}
+use Rattle.con_sessions.specs.Laws.{unless_done}
 use Rattle.con_host.proofs.host.refuse.Goals as goal
 
 pub returns-clause-status : goal.returns-clause-status
