@@ -15,7 +15,7 @@ use Rattle.con_forms.specs.Told.{is_told, told}
 use Rattle.con_telling.specs.Telling.{ended_report, lines_text, told_report}
 
 -- a front of what stands behind what was written is a front of all
-pub front_behind : (a b c all : List ℕ) (old now new : Option (List ℕ)) → now ≡ then_written old a → all ≡ a ++ (b ++ c)
+unfoldable pub front_behind : (a b c all : List ℕ) (old now new : Option (List ℕ)) → now ≡ then_written old a → all ≡ a ++ (b ++ c)
     → WroteFront b now new → WroteFront all old new
 front_behind a b c all old now new wrote parts w = (
   length a + w.0,
