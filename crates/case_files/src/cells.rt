@@ -9,8 +9,8 @@ pub fn size(line: Line<'_>) -> Result<Size, Wrong> {
     let Some((width, height)) = line.text.split_once('x') else {
         return Err(line.wrong(Fault::Size));
     };
-    let w = number::<u16>(line.part(width))?;
-    let h = number::<u16>(line.part(height))?;
+    let w = given!(number::<u16>(line.part(width)));
+    let h = given!(number::<u16>(line.part(height)));
     if 1 <= w && w <= 512 && 1 <= h && h <= 256 {
         Ok(Size { w, h })
     } else {

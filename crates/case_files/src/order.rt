@@ -1,5 +1,7 @@
 //! A gate that brings steps, a terminal and a link into an order.
+use crate::rule::{Kind, Rule};
 use con_outside::Gate;
+use std::alloc::{AllocError, Global};
 use std::sync::atomic::AtomicU64;
 use std::sync::atomic::Ordering::SeqCst;
 use std::thread::yield_now;
@@ -7,40 +9,11 @@ use std::thread::yield_now;
 /// How often somebody looks whether what it waits for has come.
 const LOOKS: u32 = 3_000_000;
 
-/// A client, a step of it, what has to come before the step begins, and what has come when it is done: sums of powers of two.
-pub type Rule = (u8, u32, u64, u64);
-
-/// What waits for what, in sums of powers of two: steps of clients; the link, from these places on; each write to the terminal. The
-/// terminal's first write comes as `begun`, and letters as what stands with them once they are written. Before `step` each client comes
-/// as the power of its place, and waits for all of `meets`, if that is any.
-#[derive(Clone, Copy)]
-pub struct Plan {
-    pub rules: &'static [Rule],
-    pub link: &'static [(usize, u64)],
-    pub letters: &'static [(u8, u64)],
-    pub begun: u64,
-    pub needs: u64,
-    pub meets: u64,
-    pub step: u32,
-}
-
-impl Plan {
-    /// Nothing waits.
-    pub const NONE: Plan = Plan {
-        rules: &[],
-        link: &[],
-        letters: &[],
-        begun: 0,
-        needs: 0,
-        meets: 0,
-        step: 0,
-    };
-}
-
-/// A gate that keeps the steps of clients to a plan. It counts those that waited in vain, all steps, and each of those of short scripts.
+/// A gate that keeps steps of clients, the link and the terminal to the rules of an order. It counts those that waited in vain, all steps, and
+/// each of those of short scripts.
 #[derive(Drop)]
 pub struct Order {
-    plan: Plan,
+    rules: Vec<Rule>,
     came: AtomicU64,
     late: AtomicU64,
     begun: AtomicU64,
@@ -61,11 +34,17 @@ fn mark_of(client: u8, n: u32) -> u64 {
     1u64.checked_shl(place.saturating_mul(4)).unwrap_or(0)
 }
 
+// The power of a client's place.
+fn power_of(client: u8) -> u64 {
+    let place = u32::from(client).saturating_sub(1);
+    1u64.checked_shl(place).unwrap_or(0)
+}
+
 impl Order {
-    /// An order by this plan, in which nothing has come.
-    pub fn of(plan: Plan) -> Order {
+    /// An order by these rules, in which nothing has come.
+    pub fn of(rules: Vec<Rule>) -> Order {
         Order {
-            plan,
+            rules,
             came: AtomicU64::new(0),
             late: AtomicU64::new(0),
             begun: AtomicU64::new(0),
@@ -93,43 +72,76 @@ impl Order {
 
     /// Returns when all that the link waits for at this place has come.
     pub fn wait_at(&self, at: usize) {
-        for (place, needs) in self.plan.link {
-            if *place == at {
-                self.wait(*needs);
+        for rule in self.rules.as_slice() {
+            let [place, needs, _, _] = rule.numbers;
+            match rule.kind {
+                Kind::Link if place == at as u64 => self.wait(needs),
+                _ => {}
             }
         }
     }
 
-    /// The terminal is sent these bytes: tells that its first write has begun and which of the letters stand among them, and returns when
-    /// all that a write waits for has come.
+    /// The terminal is sent these bytes: tells which of the letters stand among them, and that its first write has begun, and returns when
+    /// all that a write waits for has come, rule by rule.
     pub fn send(&self, bytes: &[u8]) {
-        for (letter, what) in self.plan.letters {
-            if bytes.contains(letter) {
-                self.come(*what);
+        for rule in self.rules.as_slice() {
+            let [first, second, _, _] = rule.numbers;
+            match rule.kind {
+                Kind::Letter if bytes.contains(&(first as u8)) => self.come(second),
+                Kind::Term => {
+                    self.come(first);
+                    self.wait(second);
+                }
+                _ => {}
             }
         }
-        self.come(self.plan.begun);
-        self.wait(self.plan.needs);
     }
 
-    /// All that has come.
-    pub fn came(&self) -> u64 {
-        self.came.load(SeqCst)
+    /// What each of four watched handlers has to be asked, where they are watched.
+    pub fn asked(&self) -> Option<[u64; 4]> {
+        for rule in self.rules.as_slice() {
+            match rule.kind {
+                Kind::Asked => return Some(rule.numbers),
+                _ => {}
+            }
+        }
+        None
     }
 
-    /// How often each step was entered, and how often it was left once it was entered: a digit each (`mark_of`).
-    pub fn steps(&self) -> [u64; 2] {
-        [self.entered.load(SeqCst), self.left.load(SeqCst)]
+    // What came of a rule that wants a number in the end, twice where that is one number; so many lines of the report are those of clients.
+    fn reached(&self, kind: Kind, clients: u64) -> Option<(u64, u64)> {
+        match kind {
+            Kind::Came => {
+                let came = self.came.load(SeqCst);
+                Some((came, came))
+            }
+            Kind::Steps => Some((self.entered.load(SeqCst), self.left.load(SeqCst))),
+            Kind::Entered => Some((self.begun.load(SeqCst), self.done.load(SeqCst))),
+            Kind::Clients => Some((clients, clients)),
+            _ => None,
+        }
     }
 
-    /// How many steps were entered, and how many were left.
-    pub fn all_steps(&self) -> [u64; 2] {
-        [self.begun.load(SeqCst), self.done.load(SeqCst)]
+    // Whether what a rule wants in the end is there.
+    fn is_kept(&self, rule: &Rule, clients: u64) -> bool {
+        let [wanted, _, _, _] = rule.numbers;
+        match self.reached(rule.kind, clients) {
+            Some((first, second)) => first == wanted && second == wanted,
+            None => true,
+        }
     }
 
-    /// Whether nobody waited in vain.
-    pub fn was_kept(&self) -> bool {
-        self.late.load(SeqCst) == 0
+    /// What is wrong where so many lines of the report are those of clients: nobody may wait in vain, and each rule's end has to be there.
+    pub fn difference(&self, alloc: Global, clients: u64) -> Result<Option<String>, AllocError> {
+        if self.late.load(SeqCst) != 0 {
+            return Ok(Some(given!(String::from_str(alloc, "somebody waited in vain"))));
+        }
+        for (at, rule) in self.rules.as_slice().iter().enumerate() {
+            if !self.is_kept(rule, clients) {
+                return Ok(Some(given!(format!(in alloc; "rule {at} of the order is not kept"))));
+            }
+        }
+        Ok(None)
     }
 }
 
@@ -137,14 +149,17 @@ impl Gate for Order {
     fn before(&self, client: u8, n: u32) {
         self.begun.fetch_add(1, SeqCst);
         self.entered.fetch_add(mark_of(client, n), SeqCst);
-        if self.plan.meets != 0 && n == self.plan.step {
-            let place = u32::from(client).saturating_sub(1);
-            self.come(1u64.checked_shl(place).unwrap_or(0));
-            self.wait(self.plan.meets);
-        }
-        for (one, step, needs, _) in self.plan.rules {
-            if *one == client && *step == n {
-                self.wait(*needs);
+        for rule in self.rules.as_slice() {
+            let [first, step, needs, _] = rule.numbers;
+            match rule.kind {
+                Kind::Step if first == u64::from(client) && step == u64::from(n) => self.wait(
+                    needs,
+                ),
+                Kind::Meet if step == u64::from(n) => {
+                    self.come(power_of(client));
+                    self.wait(first);
+                }
+                _ => {}
             }
         }
     }
@@ -154,9 +169,11 @@ impl Gate for Order {
         self.done.fetch_add(1, SeqCst);
         self.left
             .fetch_add(self.entered.load(SeqCst) & mark, SeqCst);
-        for (one, step, _, done) in self.plan.rules {
-            if *one == client && *step == n {
-                self.come(*done);
+        for rule in self.rules.as_slice() {
+            let [first, step, _, done] = rule.numbers;
+            match rule.kind {
+                Kind::Step if first == u64::from(client) && step == u64::from(n) => self.come(done),
+                _ => {}
             }
         }
     }

@@ -8,10 +8,8 @@ pub fn lines<'a>(alloc: Global, text: &'a str) -> Result<Vec<Line<'a>>, AllocErr
     let mut out = Vec::new(alloc);
     for (at, text) in text.lines().enumerate() {
         if !text.is_empty() && !text.starts_with('#') {
-            out.push(Line {
-                number: at.saturating_add(1),
-                text,
-            })?;
+            let number = at.saturating_add(1);
+            given!(out.push(Line { number, text }), AllocError);
         }
     }
     Ok(out)
@@ -31,6 +29,7 @@ pub enum Head {
     File,
     Bytes,
     Link,
+    Order,
     Times,
     Fails,
     Each,
@@ -65,6 +64,7 @@ impl Head {
             "file" => Some(Head::File),
             "bytes" => Some(Head::Bytes),
             "link" => Some(Head::Link),
+            "order" => Some(Head::Order),
             "times" => Some(Head::Times),
             "fails" => Some(Head::Fails),
             "each" => Some(Head::Each),
@@ -115,7 +115,8 @@ pub fn parts<'a>(alloc: Global, lines: &'a [Line<'a>]) -> Result<Vec<Part<'a>>, 
     let mut out = Vec::new(alloc);
     for chunk in lines.chunk_by(|_, next| !is_head(next.text)) {
         if let Some((first, lines)) = chunk.split_first() {
-            out.push(part_of(*first, lines)?)?;
+            let part = given!(part_of(*first, lines));
+            given!(out.push(part), Wrong::from(AllocError));
         }
     }
     Ok(out)

@@ -7,11 +7,11 @@ use std::alloc::{AllocError, Global};
 fn push_row(alloc: Global, out: &mut String, row: usize, cells: &[Cell]) -> Result<(), AllocError> {
     let mut text = String::new(alloc);
     for cell in cells {
-        text.push(char::from(u8::try_from(cell.unit()).unwrap_or(b'?')))?;
+        given!(text.push(char::from(u8::try_from(cell.unit()).unwrap_or(b'?'))));
     }
     let text = text.as_str().trim_end_matches(' ');
     if !text.is_empty() {
-        writeln!(out, "{row}|{text}")?;
+        given!(writeln!(out, "{row}|{text}"));
     }
     Ok(())
 }
@@ -19,20 +19,20 @@ fn push_row(alloc: Global, out: &mut String, row: usize, cells: &[Cell]) -> Resu
 fn push_rows(alloc: Global, out: &mut String, view: &View) -> Result<(), AllocError> {
     let width = (view.size.w as usize).max(1);
     for (row, cells) in view.rows.as_slice().chunks(width).enumerate() {
-        push_row(alloc, out, row, cells)?;
+        given!(push_row(alloc, out, row, cells));
     }
     Ok(())
 }
 
 // `all`, or the marked rows.
 fn push_marks(out: &mut String, marks: &[bool]) -> Result<(), AllocError> {
-    out.push_str(" marks")?;
+    given!(out.push_str(" marks"));
     if marks.iter().all(|mark| *mark) {
         return out.push_str(" all\n");
     }
     for (row, mark) in marks.iter().enumerate() {
         if *mark {
-            write!(out, " {row}")?;
+            given!(write!(out, " {row}"));
         }
     }
     out.push('\n')
@@ -54,10 +54,10 @@ pub fn push_picture(alloc: Global, out: &mut String, reply: &Reply) -> Result<()
     let Reply::View(view, marks, anew) = reply else {
         return Ok(());
     };
-    push_size(out, view)?;
+    given!(push_size(out, view));
     if *anew {
-        out.push_str(" new")?;
+        given!(out.push_str(" new"));
     }
-    push_marks(out, marks.as_slice())?;
+    given!(push_marks(out, marks.as_slice()));
     push_rows(alloc, out, view)
 }

@@ -99,24 +99,34 @@ impl Setup {
     // Does what a part says of what is run.
     fn take(&mut self, alloc: Global, part: &Part<'_>) -> Result<(), Wrong> {
         match part.head {
-            Head::Words => words(alloc, part.rest, &mut self.words)?,
-            Head::File => self.file(alloc, part, text(alloc, part.lines)?)?,
-            Head::Bytes => self.file(alloc, part, all_bytes(alloc, part.lines)?)?,
-            Head::Link => link(alloc, part.lines, &mut self.link)?,
-            Head::Fails => {
-                let (end, call) = end_number(part.rest)?;
-                self.failing = self.failing.with(end, call);
+            Head::Words => words(alloc, part.rest, &mut self.words),
+            Head::File => {
+                let text = given!(text(alloc, part.lines), Wrong::from(AllocError));
+                Ok(given!(self.file(alloc, part, text), Wrong::from(AllocError)))
             }
-            Head::Takes => self.most = number(part.rest)?,
-            _ => {}
+            Head::Bytes => {
+                let text = given!(all_bytes(alloc, part.lines));
+                Ok(given!(self.file(alloc, part, text), Wrong::from(AllocError)))
+            }
+            Head::Link => link(alloc, part.lines, &mut self.link),
+            Head::Fails => {
+                let (end, call) = given!(end_number(part.rest));
+                self.failing = self.failing.with(end, call);
+                Ok(())
+            }
+            Head::Takes => {
+                self.most = given!(number::<usize>(part.rest));
+                Ok(())
+            }
+            _ => Ok(()),
         }
-        Ok(())
     }
 
     // A file of this name.
     fn file(&mut self, alloc: Global, part: &Part<'_>, text: Vec<u8>) -> Result<(), AllocError> {
-        self.names.push(String::from_str(alloc, part.rest.text)?)?;
-        self.texts.push(text)?;
+        let name = given!(String::from_str(alloc, part.rest.text));
+        given!(self.names.push(name), AllocError);
+        given!(self.texts.push(text), AllocError);
         Ok(())
     }
 
@@ -132,7 +142,7 @@ impl Setup {
     pub fn of(alloc: Global, parts: &[Part<'_>]) -> Result<Setup, Wrong> {
         let mut setup = Setup::new(alloc);
         for part in parts {
-            setup.take(alloc, part)?;
+            given!(setup.take(alloc, part));
         }
         Ok(setup)
     }
@@ -153,12 +163,12 @@ where
 fn words(alloc: Global, line: Line<'_>, out: &mut Vec<String>) -> Result<(), Wrong> {
     for word in line.text.split(' ') {
         if word.starts_with('"') {
-            let Ok(word) = String::from_utf8(bytes(alloc, line.part(word))?) else {
-                return Err(line.wrong(Fault::String));
-            };
-            out.push(word)?;
+            let bytes = given!(bytes(alloc, line.part(word)));
+            let word = given!(String::from_utf8(bytes), line.wrong(Fault::String));
+            given!(out.push(word), Wrong::from(AllocError));
         } else if !word.is_empty() {
-            out.push(String::from_str(alloc, word)?)?;
+            let word = given!(String::from_str(alloc, word), Wrong::from(AllocError));
+            given!(out.push(word), Wrong::from(AllocError));
         }
     }
     Ok(())
@@ -168,8 +178,8 @@ fn words(alloc: Global, line: Line<'_>, out: &mut Vec<String>) -> Result<(), Wro
 fn text(alloc: Global, lines: &[Line<'_>]) -> Result<Vec<u8>, AllocError> {
     let mut out = Vec::new(alloc);
     for line in lines {
-        out.extend_from_slice(line.text.as_bytes())?;
-        out.push(10)?;
+        given!(out.extend_from_slice(line.text.as_bytes()));
+        given!(out.push(10), AllocError);
     }
     Ok(out)
 }
@@ -178,7 +188,11 @@ fn text(alloc: Global, lines: &[Line<'_>]) -> Result<Vec<u8>, AllocError> {
 pub fn all_bytes(alloc: Global, lines: &[Line<'_>]) -> Result<Vec<u8>, Wrong> {
     let mut out = Vec::new(alloc);
     for line in lines {
-        out.extend_from_slice(bytes(alloc, *line)?.as_slice())?;
+        let bytes = given!(bytes(alloc, *line));
+        given!(
+            out.extend_from_slice(bytes.as_slice()),
+            Wrong::from(AllocError)
+        );
     }
     Ok(out)
 }
@@ -197,7 +211,8 @@ pub fn times(parts: &[Part<'_>]) -> Result<u32, Wrong> {
 pub fn failing_end(parts: &[Part<'_>]) -> Result<Option<(End, u64)>, Wrong> {
     for part in parts {
         if part.head == Head::Each {
-            return Ok(Some(end_number(part.rest)?));
+            let end = given!(end_number(part.rest));
+            return Ok(Some(end));
         }
     }
     Ok(None)
@@ -208,7 +223,7 @@ pub fn other_words(alloc: Global, parts: &[Part<'_>]) -> Result<Option<Vec<Strin
     for part in parts {
         if part.head == Head::Like {
             let mut out = Vec::new(alloc);
-            words(alloc, part.rest, &mut out)?;
+            given!(words(alloc, part.rest, &mut out));
             return Ok(Some(out));
         }
     }
@@ -219,7 +234,10 @@ pub fn other_words(alloc: Global, parts: &[Part<'_>]) -> Result<Option<Vec<Strin
 fn end_number(line: Line<'_>) -> Result<(End, u64), Wrong> {
     let (name, count) = first_word(line.text);
     match End::of(name) {
-        Some(end) => Ok((end, number::<u64>(line.part(count))?)),
+        Some(end) => {
+            let count = given!(number::<u64>(line.part(count)));
+            Ok((end, count))
+        }
         None => Err(line.wrong(Fault::Line)),
     }
 }
@@ -227,7 +245,7 @@ fn end_number(line: Line<'_>) -> Result<(End, u64), Wrong> {
 // What the terminal sends by lines.
 fn link(alloc: Global, lines: &[Line<'_>], out: &mut Vec<u8>) -> Result<(), Wrong> {
     for line in lines {
-        frame(alloc, *line, out)?;
+        given!(frame(alloc, *line, out));
     }
     Ok(())
 }
@@ -244,31 +262,43 @@ fn frame(alloc: Global, line: Line<'_>, out: &mut Vec<u8>) -> Result<(), Wrong> 
         "Q" => frames(0x51, rest, out),
         "P" => frames(0x50, rest, out),
         "X" => frames(0x58, rest, out),
-        "raw" => Ok(out.extend_from_slice(bytes(alloc, rest)?.as_slice())?),
+        "raw" => {
+            let bytes = given!(bytes(alloc, rest));
+            given!(
+                out.extend_from_slice(bytes.as_slice()),
+                Wrong::from(AllocError)
+            );
+            Ok(())
+        }
         _ => Err(line.wrong(Fault::Line)),
     }
 }
 
 // A frame of typed bytes.
 fn typed(alloc: Global, line: Line<'_>, out: &mut Vec<u8>) -> Result<(), Wrong> {
-    let bytes = bytes(alloc, line)?;
-    let Ok(length) = u16::try_from(bytes.len()) else {
-        return Err(line.wrong(Fault::Number));
-    };
-    out.push(0x42)?;
-    out.extend_from_slice(&length.to_be_bytes())?;
-    out.extend_from_slice(bytes.as_slice())?;
+    let bytes = given!(bytes(alloc, line));
+    let length = given!(u16::try_from(bytes.len()), line.wrong(Fault::Number));
+    let [high, low] = length.to_be_bytes();
+    given!(
+        out.extend_from_slice(&[0x42, high, low]),
+        Wrong::from(AllocError)
+    );
+    given!(
+        out.extend_from_slice(bytes.as_slice()),
+        Wrong::from(AllocError)
+    );
     Ok(())
 }
 
 // A frame of a size.
 fn size(tag: u8, line: Line<'_>, out: &mut Vec<u8>) -> Result<(), Wrong> {
     let (width, height) = first_word(line.text);
-    let width = number::<u16>(line.part(width))?;
-    let height = number::<u16>(line.part(height))?;
-    out.push(tag)?;
-    out.extend_from_slice(&width.to_be_bytes())?;
-    out.extend_from_slice(&height.to_be_bytes())?;
+    let [w, x] = given!(number::<u16>(line.part(width))).to_be_bytes();
+    let [h, y] = given!(number::<u16>(line.part(height))).to_be_bytes();
+    given!(
+        out.extend_from_slice(&[tag, w, x, h, y]),
+        Wrong::from(AllocError)
+    );
     Ok(())
 }
 
@@ -277,7 +307,7 @@ fn frames(tag: u8, line: Line<'_>, out: &mut Vec<u8>) -> Result<(), Wrong> {
     match repeated(line.text) {
         Some((times, "")) => {
             for _ in 0..times {
-                out.push(tag)?;
+                given!(out.push(tag), Wrong::from(AllocError));
             }
             Ok(())
         }

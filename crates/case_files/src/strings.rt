@@ -41,13 +41,23 @@ fn cut<'a>(alloc: Global, text: &'a str) -> Result<Vec<&'a str>, AllocError> {
     let mut escaped = false;
     for (at, c) in text.char_indices() {
         if c == '"' && !escaped {
-            out.push(text.get(from..at).unwrap_or(""))?;
+            given!(out.push(text.get(from..at).unwrap_or("")), AllocError);
             from = at.saturating_add(1);
         }
         escaped = c == '\\' && !escaped && out.len() % 2 == 1;
     }
-    out.push(text.get(from..).unwrap_or(""))?;
+    given!(out.push(text.get(from..).unwrap_or("")), AllocError);
     Ok(out)
+}
+
+// Where the digits end that a text begins with.
+fn digits_end(text: &str) -> usize {
+    for (at, byte) in text.as_bytes().iter().enumerate() {
+        if !byte.is_ascii_digit() {
+            return at;
+        }
+    }
+    text.len()
 }
 
 /// How often something comes, by what stands behind it: `* 5` or nothing; and what stands behind that.
@@ -56,19 +66,22 @@ pub fn repeated<'a>(after: &'a str) -> Option<(usize, &'a str)> {
         return Some((1, after));
     };
     let count = count.trim_start();
-    let end = count
-        .find(|c: char| !c.is_ascii_digit())
-        .unwrap_or(count.len());
-    let times = count.get(..end)?.parse::<usize>().ok()?;
-    Some((times, count.get(end..)?))
+    let (digits, rest) = count.split_at_checked(digits_end(count))?;
+    match digits.parse::<usize>() {
+        Ok(times) => Some((times, rest)),
+        Err(_) => None,
+    }
 }
 
 // The word of the cells that a string stands for, and what stands before that.
 fn cells_before<'a>(before: &'a str) -> Option<(&'a str, Kind)> {
     let at = before.len().checked_sub(5)?;
-    let digits = before.get(at..)?.strip_prefix('c')?;
-    let word = u16::from_str_radix(digits, 16).ok()?;
-    Some((before.get(..at)?, Kind::Cells(word)))
+    let (front, digits) = before.split_at_checked(at)?;
+    let digits = digits.strip_prefix('c')?;
+    match u16::from_str_radix(digits, 16) {
+        Ok(word) => Some((front, Kind::Cells(word))),
+        Err(_) => None,
+    }
 }
 
 // What a string stands for, by what stands before it, and what stands before that.
@@ -90,7 +103,7 @@ fn kind_before<'a>(before: &'a str) -> (&'a str, Kind) {
 
 /// The strings of a line.
 pub fn strings_in<'a>(alloc: Global, line: Line<'a>) -> Result<Strings<'a>, Wrong> {
-    let cut = cut(alloc, line.text)?;
+    let cut = given!(cut(alloc, line.text), Wrong::from(AllocError));
     let Some((first, others)) = cut.as_slice().split_first() else {
         return Err(line.wrong(Fault::String));
     };
@@ -104,12 +117,13 @@ pub fn strings_in<'a>(alloc: Global, line: Line<'a>) -> Result<Strings<'a>, Wron
             return Err(line.wrong(Fault::Number));
         };
         let (bare, kind) = kind_before(before);
-        quoted.push(Quoted {
+        let one = Quoted {
             before: bare,
             kind,
             text: *text,
             times,
-        })?;
+        };
+        given!(quoted.push(one), Wrong::from(AllocError));
         before = rest;
     }
     Ok(Strings {
@@ -148,8 +162,8 @@ fn escape_of(c: char) -> Option<char> {
 
 // One more digit of a number.
 fn digit(left: u8, code: u16, c: char) -> Option<(At, Option<Item>)> {
-    let digit = u16::try_from(c.to_digit(16)?).ok()?;
-    let code = (code << 4) | digit;
+    let digit = c.to_digit(16)?;
+    let code = (code << 4) | digit as u16;
     if left <= 1 {
         Some((At::Text, Some(Item::Code(code))))
     } else {
@@ -178,7 +192,7 @@ fn items(alloc: Global, line: Line<'_>, text: &str) -> Result<Vec<Item>, Wrong> 
             return Err(line.wrong(Fault::String));
         };
         if let Some(item) = item {
-            out.push(item)?;
+            given!(out.push(item), Wrong::from(AllocError));
         }
         at = then;
     }
@@ -191,17 +205,18 @@ fn items(alloc: Global, line: Line<'_>, text: &str) -> Result<Vec<Item>, Wrong> 
 /// The bytes of a string's text.
 pub fn byte_list(alloc: Global, line: Line<'_>, text: &str) -> Result<Vec<u8>, Wrong> {
     let mut out = Vec::new(alloc);
-    let items = items(alloc, line, text)?;
+    let items = given!(items(alloc, line, text));
     for item in items.as_slice() {
         match *item {
             Item::Char(c) => {
                 let mut bytes = [0u8; 4];
-                out.extend_from_slice(c.encode_utf8(&mut bytes).as_bytes())?;
+                let bytes = c.encode_utf8(&mut bytes).as_bytes();
+                given!(out.extend_from_slice(bytes), Wrong::from(AllocError));
             }
-            Item::Code(code) => match u8::try_from(code) {
-                Ok(byte) => out.push(byte)?,
-                Err(_) => return Err(line.wrong(Fault::String)),
-            },
+            Item::Code(code) => {
+                let byte = given!(u8::try_from(code), line.wrong(Fault::String));
+                given!(out.push(byte), Wrong::from(AllocError));
+            }
         }
     }
     Ok(out)
@@ -210,14 +225,15 @@ pub fn byte_list(alloc: Global, line: Line<'_>, text: &str) -> Result<Vec<u8>, W
 /// The UTF-16 units of a string's text.
 pub fn unit_list(alloc: Global, line: Line<'_>, text: &str) -> Result<Vec<u16>, Wrong> {
     let mut out = Vec::new(alloc);
-    let items = items(alloc, line, text)?;
+    let items = given!(items(alloc, line, text));
     for item in items.as_slice() {
         match *item {
             Item::Char(c) => {
                 let mut units = [0u16; 2];
-                out.extend_from_slice(c.encode_utf16(&mut units))?;
+                let units = c.encode_utf16(&mut units);
+                given!(out.extend_from_slice(units), Wrong::from(AllocError));
             }
-            Item::Code(code) => out.push(code)?,
+            Item::Code(code) => given!(out.push(code), Wrong::from(AllocError)),
         }
     }
     Ok(out)
@@ -225,15 +241,18 @@ pub fn unit_list(alloc: Global, line: Line<'_>, text: &str) -> Result<Vec<u16>, 
 
 /// The bytes of a line of strings.
 pub fn bytes(alloc: Global, line: Line<'_>) -> Result<Vec<u8>, Wrong> {
-    let strings = strings_in(alloc, line)?;
+    let strings = given!(strings_in(alloc, line));
     let mut out = Vec::new(alloc);
     for quoted in strings.quoted.as_slice() {
         if quoted.kind != Kind::Plain || !quoted.before.trim().is_empty() {
             return Err(line.wrong(Fault::Line));
         }
-        let bytes = byte_list(alloc, line, quoted.text)?;
+        let bytes = given!(byte_list(alloc, line, quoted.text));
         for _ in 0..quoted.times {
-            out.extend_from_slice(bytes.as_slice())?;
+            given!(
+                out.extend_from_slice(bytes.as_slice()),
+                Wrong::from(AllocError)
+            );
         }
     }
     if strings.end.trim().is_empty() {

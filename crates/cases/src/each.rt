@@ -1,70 +1,47 @@
 //! What a case leaves where each call of an end of its outside fails in turn, and what it leaves with other words.
-use crate::running::{Ran, host_case};
+use crate::running::host_case;
+use case_files::order::Order;
 use case_files::part::Part;
+use case_files::ran::{Ran, has_other, has_part, length};
 use case_files::setup::{End, Failing, Setup};
 use case_lines::fault::Wrong;
 use con_ending::{LINK, MIRROR, REPORT, TERMINAL};
-use con_units::Bytes;
-use std::alloc::Global;
+use std::alloc::{AllocError, Global};
 use std::sync::Wait;
 use std::thread::Threads;
 
 /// After so many runs one has to meet no failure.
 const RUNS: u64 = 10_000;
 
-// Whether these bytes begin all of some, are not all of them, and are more than there were the last time.
-fn is_further(some: &Bytes, all: &Bytes, last: Option<usize>) -> bool {
-    let (some, all) = (some.as_slice(), all.as_slice());
-    let is_more = match last {
-        Some(length) => length < some.len(),
-        None => some.is_empty(),
-    };
-    all.starts_with(some) && some.len() < all.len() && is_more
+// The status where a call of an end fails, and the last line of the report, of which nothing is known where that failed.
+fn ending(end: End) -> (u8, &'static str) {
+    match end {
+        End::Files | End::Report => (REPORT, ""),
+        End::Link => (LINK, "[\"end\",4,\"link\"]\n"),
+        End::Term => (TERMINAL, "[\"end\",5,\"term\"]\n"),
+        End::Second => (MIRROR, "[\"end\",12,\"mirror\"]\n"),
+    }
 }
 
 // Whether a run in which a call of an end failed told so, and left what it has to of a run in which none does.
 fn is_broken_off(end: End, ran: &Ran, sure: &Ran, last: Option<usize>) -> bool {
-    match end {
-        End::Files => false,
-        End::Link => {
-            ran.status == LINK
-                && ran
-                    .report
-                    .as_slice()
-                    .ends_with(b"[\"end\",4,\"link\"]\n".as_slice())
-        }
-        End::Term => {
-            ran.status == TERMINAL
-                && ran
-                    .report
-                    .as_slice()
-                    .ends_with(b"[\"end\",5,\"term\"]\n".as_slice())
-                && is_further(&ran.written, &sure.written, last)
-        }
-        End::Second => {
-            ran.status == MIRROR
-                && ran
-                    .report
-                    .as_slice()
-                    .ends_with(b"[\"end\",12,\"mirror\"]\n".as_slice())
-                && ran.written.as_slice() == sure.written.as_slice()
-                && is_further(&ran.second, &sure.second, last)
-        }
-        End::Report => {
-            ran.status == REPORT
-                && ran.written.as_slice() == sure.written.as_slice()
-                && is_further(&ran.report, &sure.report, last)
-        }
-    }
+    let (status, line) = ending(end);
+    let is_told = ran.report.as_slice().ends_with(line.as_bytes());
+    ran.status == status && is_told && has_part(end, ran, sure, last)
 }
 
-// How much an end has of a run.
-fn length(end: End, ran: &Ran) -> usize {
-    match end {
-        End::Second => ran.second.len(),
-        End::Report => ran.report.len(),
-        _ => ran.written.len(),
-    }
+// What a case leaves where a call of an end fails.
+fn failed<T: Threads + Wait + Sync>(
+    rt: &T,
+    alloc: Global,
+    parts: &[Part<'_>],
+    end: End,
+    call: u64,
+) -> Result<Ran, Wrong> {
+    let mut setup = given!(Setup::of(alloc, parts));
+    setup.failing = Failing::NONE.with(end, call);
+    let order = Order::of(Vec::new(alloc));
+    Ok(given!(host_case(rt, alloc, setup, &order), Wrong::from(AllocError)))
 }
 
 /// What differs where each call of an end fails in turn, up to a run that ends as the sure one did; so many at least have to fail.
@@ -77,26 +54,29 @@ pub fn each_difference<T: Threads + Wait + Sync>(
 ) -> Result<Option<String>, Wrong> {
     let mut last = None;
     for call in 0..RUNS {
-        let mut setup = Setup::of(alloc, parts)?;
-        setup.failing = Failing::NONE.with(end, call);
-        let ran = host_case(rt, alloc, setup)?;
+        let ran = given!(failed(rt, alloc, parts, end, call));
         let status = ran.status;
         if status == sure.status {
-            if call >= least {
-                return Ok(None);
-            }
-            return Ok(Some(format!(in alloc;
-                "{call} calls fail in turn, wanted {least} at least"
-            )?));
+            return Ok(given!(enough(alloc, call, least), Wrong::from(AllocError)));
         }
         if !is_broken_off(end, &ran, sure, last) {
-            return Ok(Some(format!(in alloc;
+            let text = format!(in alloc;
                 "where call {call} fails: status {status}, or not what it has to leave"
-            )?));
+            );
+            return Ok(Some(given!(text, Wrong::from(AllocError))));
         }
         last = Some(length(end, &ran));
     }
-    Ok(Some(String::from_str(alloc, "no run meets no failure")?))
+    let text = String::from_str(alloc, "no run meets no failure");
+    Ok(Some(given!(text, Wrong::from(AllocError))))
+}
+
+// What differs where so many calls fail in turn, and so many at least have to.
+fn enough(alloc: Global, call: u64, least: u64) -> Result<Option<String>, AllocError> {
+    if call >= least {
+        return Ok(None);
+    }
+    Ok(Some(given!(format!(in alloc; "{call} calls fail in turn, wanted {least} at least"))))
 }
 
 /// What differs where a case is run with other words: its status, the terminal's stream and the report have to be the same.
@@ -107,17 +87,15 @@ pub fn other_difference<T: Threads + Wait + Sync>(
     words: Vec<String>,
     sure: &Ran,
 ) -> Result<Option<String>, Wrong> {
-    let mut setup = Setup::of(alloc, parts)?;
+    let mut setup = given!(Setup::of(alloc, parts));
     setup.words = words;
-    let ran = host_case(rt, alloc, setup)?;
-    let what = if ran.status != sure.status {
-        "status"
-    } else if ran.written.as_slice() != sure.written.as_slice() {
-        "stream"
-    } else if ran.report.as_slice() != sure.report.as_slice() {
-        "report"
-    } else {
-        return Ok(None);
-    };
-    Ok(Some(format!(in alloc; "the {what} is another one with the other words")?))
+    let order = Order::of(Vec::new(alloc));
+    let ran = given!(host_case(rt, alloc, setup, &order), Wrong::from(AllocError));
+    match has_other(&ran, sure) {
+        Some(what) => {
+            let text = format!(in alloc; "the {what} is another one with the other words");
+            Ok(Some(given!(text, Wrong::from(AllocError))))
+        }
+        None => Ok(None),
+    }
 }

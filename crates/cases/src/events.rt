@@ -3,12 +3,11 @@ ghost use Rattle.std.specs.Prelude.{◌≡◌, true, false, IfOk, IfErr, IfSome}
 ghost use Rattle.con_machine.specs.Marks.{told, Tells};
 ghost use Rattle.con_machine.specs.Step.{is_clients, is_ready, step};
 
-use crate::judging::{compared, lines_of};
-use case_files::cells::size;
-use case_files::expanding::{dump_lines, report_lines};
-use case_files::part::{Head, Part, first_word, only};
+use case_files::comparing::lines_difference;
+use case_files::part::{Head, Part, only};
 use case_files::picture::push_picture;
-use case_files::setup::number;
+use case_files::reading::reported;
+use case_files::start::{Start, wanted_at};
 use case_lines::fault::{Fault, Wrong};
 use case_lines::line::Line;
 use case_lines::wanted::{Wanted, Way};
@@ -16,21 +15,11 @@ use con_console::Console;
 use con_events::{Entry, Event, Reply, Script, Scripts, Session, Steps};
 use con_outside::SureSink;
 use con_trace::{Trace, TraceFault, read, write_entry};
-use con_units::{Bytes, OutOfMemory, Size, Units};
+use con_units::{Bytes, OutOfMemory, Units};
 use std::alloc::{AllocError, Global};
-use std::str;
 
 /// What stands before an event that is not ready.
 const UNREADY: &str = "not ready ";
-
-/// A console that starts: its window, its number of clients, and how many handlers each client's rack has. The program of client 1
-/// is `a`, that of client 2 is `b`, and so on; its group is its number.
-#[derive(Drop)]
-struct Start {
-    size: Size,
-    clients: u8,
-    racks: Vec<u8>,
-}
 
 /// The lines of the events with the console's answers, and the pictures.
 #[derive(Drop)]
@@ -39,47 +28,42 @@ struct Answers {
     pictures: String,
 }
 
-// The console that a line says: `80x25 clients 4 racks 2 2`.
-fn start_of(alloc: Global, line: Line<'_>) -> Result<Start, Wrong> {
-    let (side, rest) = first_word(line.text);
-    let (count, after) = rest.split_once(" racks ").unwrap_or((rest, ""));
-    let Some(count) = count.strip_prefix("clients ") else {
-        return Err(line.wrong(Fault::Line));
-    };
-    let mut racks = Vec::new(alloc);
-    for rack in after.split(' ') {
-        if !rack.is_empty() {
-            racks.push(number::<u8>(line.part(rack))?)?;
-        }
-    }
-    Ok(Start {
-        size: size(line.part(side))?,
-        clients: number::<u8>(line.part(count))?,
-        racks,
+// The script of a client that calls nothing.
+fn script(alloc: Global, client: u8) -> Result<Script, AllocError> {
+    let program = given!(
+        Vec::from_slice(alloc, &[0x61 + u16::from(client)]),
+        AllocError
+    );
+    Ok(Script {
+        program: Units(program),
+        group: u32::from(client) + 1,
+        steps: Steps(Vec::new(alloc)),
     })
 }
 
-// A console that starts so; `None` where no session has so many clients.
-fn opened(alloc: Global, start: &Start) -> Result<Option<Console>, Wrong> {
+// The scripts of so many clients.
+fn scripts(alloc: Global, clients: u8) -> Result<Scripts, AllocError> {
     let mut scripts = Vec::new(alloc);
-    for client in 0..start.clients {
-        scripts.push(Script {
-            program: Units(Vec::from_slice(alloc, &[0x61 + u16::from(client)])?),
-            group: u32::from(client) + 1,
-            steps: Steps(Vec::new(alloc)),
-        })?;
+    for client in 0..clients {
+        let script = given!(script(alloc, client));
+        given!(scripts.push(script), AllocError);
     }
-    match Session::new(start.size, Scripts(scripts)) {
-        Some(session) => Ok(Some(Console::new(alloc, &session, start.racks.as_slice())?)),
-        None => Ok(None),
-    }
+    Ok(Scripts(scripts))
+}
+
+// A console that starts so; `None` where no session has so many clients.
+fn opened(alloc: Global, start: &Start) -> Result<Option<Console>, OutOfMemory> {
+    let scripts = given!(scripts(alloc, start.clients), OutOfMemory);
+    let Some(session) = Session::new(start.size, scripts) else {
+        return Ok(None);
+    };
+    let console = given!(Console::new(alloc, &session, start.racks.as_slice()));
+    Ok(Some(console))
 }
 
 // A line of a report as a report of its own.
 fn read_line(alloc: Global, line: Line<'_>, text: &str) -> Result<Trace, Wrong> {
-    let mut bytes = Vec::new(alloc);
-    bytes.extend_from_slice(text.as_bytes())?;
-    bytes.extend_from_slice(b"\n[\"end\",0]\n")?;
+    let bytes = given!(reported(alloc, b"", text), Wrong::from(AllocError));
     match read(alloc, bytes.as_slice()) {
         Ok(trace) => Ok(trace),
         Err(TraceFault::Line(_)) => Err(line.wrong(Fault::Line)),
@@ -127,10 +111,25 @@ fn push_reply(
 // Puts an event that is not ready last.
 fn push_unready(came: &mut Answers, text: &str) -> Result<(), AllocError> {
     let out = &mut came.lines.written.0;
-    out.extend_from_slice(UNREADY.as_bytes())?;
-    out.extend_from_slice(text.as_bytes())?;
-    out.push(10)?;
+    given!(out.extend_from_slice(UNREADY.as_bytes()));
+    given!(out.extend_from_slice(text.as_bytes()));
+    given!(out.push(10), AllocError);
     Ok(())
+}
+
+// Enters an event that stands in a line so.
+fn enter_entry(
+    alloc: Global,
+    console: &mut Console,
+    text: &str,
+    entry: &Entry,
+    came: &mut Answers,
+) -> Result<(), AllocError> {
+    match entered(console, entry) {
+        Ok(Some(reply)) => push_reply(alloc, came, entry, &reply),
+        Ok(None) => push_unready(came, text),
+        Err(_) => Err(AllocError),
+    }
 }
 
 // Enters the event of a line.
@@ -142,15 +141,17 @@ fn enter(
 ) -> Result<(), Wrong> {
     let text = wanted.text.as_str();
     let text = text.strip_prefix(UNREADY).unwrap_or(text);
-    let trace = read_line(alloc, wanted.line, text)?;
-    let Some(entry) = trace.entries.0.as_slice().first() else {
-        return Err(wanted.line.wrong(Fault::Line));
-    };
-    match entered(console, entry)? {
-        Some(reply) => push_reply(alloc, came, entry, &reply)?,
-        None => push_unready(came, text)?,
+    let trace = given!(read_line(alloc, wanted.line, text));
+    match trace.entries.0.as_slice().first() {
+        Some(entry) => {
+            given!(
+                enter_entry(alloc, console, text, entry, came),
+                Wrong::from(AllocError)
+            );
+            Ok(())
+        }
+        None => Err(wanted.line.wrong(Fault::Line)),
     }
-    Ok(())
 }
 
 // Enters the events of lines one after another.
@@ -161,7 +162,7 @@ fn enter_all(
     came: &mut Answers,
 ) -> Result<(), Wrong> {
     for one in wanted {
-        enter(alloc, console, one, came)?;
+        given!(enter(alloc, console, one, came));
     }
     Ok(())
 }
@@ -173,38 +174,28 @@ fn run(
     wanted: &[Wanted<'_>],
     came: &mut Answers,
 ) -> Result<(), Wrong> {
-    let start = start_of(alloc, head)?;
-    match opened(alloc, &start)? {
-        Some(console) => {
+    let start = given!(Start::of(alloc, head));
+    match opened(alloc, &start) {
+        Ok(Some(console)) => {
             let mut console = console;
             enter_all(alloc, &mut console, wanted, came)
         }
-        None => Err(head.wrong(Fault::Number)),
+        Ok(None) => Err(head.wrong(Fault::Number)),
+        Err(_) => Err(Wrong::from(AllocError)),
     }
 }
 
-// What differs of the lines that came.
-fn differing(
+// What differs of the lines and the pictures that came.
+fn came_difference(
     alloc: Global,
-    way: Way,
     wanted: &[Wanted<'_>],
-    text: &[u8],
-) -> Result<Option<String>, Wrong> {
-    let lines = lines_of(alloc, str::from_utf8(text).unwrap_or("no UTF-8"))?;
-    compared(alloc, way, wanted, lines.as_slice())
-}
-
-// What the lines of the first part of a head stand for.
-fn wanted_at<'a>(alloc: Global, parts: &[Part<'a>], head: Head) -> Result<Vec<Wanted<'a>>, Wrong> {
-    for part in parts {
-        if part.head == head {
-            return match head {
-                Head::Report => report_lines(alloc, part.lines),
-                _ => Ok(dump_lines(alloc, part.lines)?),
-            };
-        }
+    pictures: &[Wanted<'_>],
+    came: &Answers,
+) -> Result<Option<String>, AllocError> {
+    match lines_difference(alloc, Way::Report, wanted, came.lines.written.as_slice()) {
+        Ok(None) => lines_difference(alloc, Way::Picture, pictures, came.pictures.as_bytes()),
+        told => told,
     }
-    Ok(Vec::new(alloc))
 }
 
 /// What differs where the events of a wanted report are entered on the console that a line says.
@@ -213,28 +204,16 @@ pub fn events_difference(
     head: Line<'_>,
     parts: &[Part<'_>],
 ) -> Result<Option<String>, Wrong> {
-    only(parts, &[Head::Report, Head::Pictures, Head::Differs])?;
-    let wanted = wanted_at(alloc, parts, Head::Report)?;
-    let pictures = wanted_at(alloc, parts, Head::Pictures)?;
+    given!(only(parts, &[Head::Report, Head::Pictures, Head::Differs]));
+    let wanted = given!(wanted_at(alloc, parts, Head::Report));
+    let pictures = given!(wanted_at(alloc, parts, Head::Pictures));
     let mut came = Answers {
         lines: SureSink {
             written: Bytes(Vec::new(alloc)),
         },
         pictures: String::new(alloc),
     };
-    run(alloc, head, wanted.as_slice(), &mut came)?;
-    match differing(
-        alloc,
-        Way::Report,
-        wanted.as_slice(),
-        came.lines.written.as_slice(),
-    )? {
-        Some(text) => Ok(Some(text)),
-        None => differing(
-            alloc,
-            Way::Picture,
-            pictures.as_slice(),
-            came.pictures.as_bytes(),
-        ),
-    }
+    given!(run(alloc, head, wanted.as_slice(), &mut came));
+    let told = came_difference(alloc, wanted.as_slice(), pictures.as_slice(), &came);
+    Ok(given!(told, Wrong::from(AllocError)))
 }

@@ -1,35 +1,57 @@
-//! Runs cases: what sessions, texts and links show, as data. The words name files of cases; README.md says how they are written. The word
-//! `threads` stands for sessions that are no data, in an order that a gate makes. A line is printed for each. The status is 0 where all are
-//! right, 1 where one differs, and 2 where a file is none of cases.
+//! Runs cases: what sessions, texts and links show, as data. The words name files of cases; README.md says how they are written. A line is
+//! printed for each. The status is 0 where all are right, 1 where one differs, and 2 where a file is none of cases.
 #![tactic(auto)]
+
+/// What a call gave. Where it gave a fault, the function ends with that fault, or with the one that stands behind the call. A `?` calls two more
+/// functions, to be proved at each such call.
+macro_rules! given {
+    ($call:expr) => {
+        match $call {
+            Ok(value) => value,
+            Err(fault) => return Err(fault),
+        }
+    };
+    ($call:expr, $fault:expr) => {
+        match $call {
+            Ok(value) => value,
+            Err(_) => return Err($fault),
+        }
+    };
+}
 
 mod auditing;
 mod callers;
 mod each;
 mod events;
-mod hosted;
 mod judging;
 mod reads;
 mod running;
 mod showing;
+mod watched;
 
-use auditing::{audit_difference, is_session, left_difference};
+use auditing::{audit_difference, left_difference};
+use case_files::auditing::is_session;
+use case_files::came::Came;
+use case_files::comparing::judged;
+use case_files::order::Order;
 use case_files::part::{Head, Part, case_name, lines, only, parts};
+use case_files::ran::Ran;
+use case_files::rule::rules;
 use case_files::setup::{Failing, Setup, failing_end, other_words, times};
 use case_lines::fault::{Fault, Wrong};
 use case_lines::line::Line;
 use each::{each_difference, other_difference};
 use events::events_difference;
-use hosted::{HOSTED, run_hosted};
-use judging::{Came, difference, judged};
+use judging::difference;
 use reads::reads_difference;
-use running::{Ran, host_case};
-use std::alloc::Global;
+use running::host_case;
+use std::alloc::{AllocError, Global};
 use std::process::ExitCode;
 use std::rt::Files;
 use std::sync::Wait;
 use std::thread::Threads;
 use std::{env, fs, io};
+use watched::watched_case;
 
 /// All cases are right.
 const RIGHT: u8 = 0;
@@ -40,16 +62,26 @@ const DIFFERENT: u8 = 1;
 /// A file is none of cases, or could not be read.
 const NO_CASES: u8 = 2;
 
-// What differs of what came of a run.
+// What differs of what came of a run, and of the order that it kept to.
 fn came_difference(
     alloc: Global,
     parts: &[Part<'_>],
     ran: &Ran,
+    order: &Order,
     failing: Failing,
     is_played: bool,
 ) -> Result<Option<String>, Wrong> {
-    let came = Came::of(alloc, ran, is_played)?;
-    difference(alloc, &came, parts, failing)
+    let came = given!(Came::of(alloc, ran, is_played), Wrong::from(AllocError));
+    match difference(alloc, &came, parts, failing) {
+        Ok(None) => {
+            let told = given!(
+                order.difference(alloc, came.clients()),
+                Wrong::from(AllocError)
+            );
+            Ok(told)
+        }
+        told => told,
+    }
 }
 
 // What differs of what is tried with what a run left.
@@ -61,19 +93,36 @@ fn tried_difference<T: Threads + Wait + Sync>(
     is_session: bool,
 ) -> Result<Option<String>, Wrong> {
     if is_session {
-        if let Some(text) = left_difference(rt, alloc, parts, ran)? {
+        if let Some(text) = given!(left_difference(rt, alloc, parts, ran)) {
             return Ok(Some(text));
         }
     }
-    if let Some(text) = audit_difference(rt, alloc, parts, ran)? {
+    if let Some(text) = given!(audit_difference(rt, alloc, parts, ran)) {
         return Ok(Some(text));
     }
-    if let Some(words) = other_words(alloc, parts)? {
+    if let Some(words) = given!(other_words(alloc, parts)) {
         return other_difference(rt, alloc, parts, words, ran);
     }
-    match failing_end(parts)? {
+    match given!(failing_end(parts)) {
         Some(each) => each_difference(rt, alloc, parts, each, ran),
         None => Ok(None),
+    }
+}
+
+// What a case leaves in its order. Where that says what watched handlers are asked, they are watched, and nothing is left where they are asked
+// something else.
+fn ran_in<T: Threads + Wait + Sync>(
+    rt: &T,
+    alloc: Global,
+    setup: Setup,
+    order: &Order,
+) -> Result<Option<Ran>, AllocError> {
+    match order.asked() {
+        Some(asked) => watched_case(rt, alloc, setup, order, asked),
+        None => match host_case(rt, alloc, setup, order) {
+            Ok(ran) => Ok(Some(ran)),
+            Err(error) => Err(error),
+        },
     }
 }
 
@@ -83,12 +132,19 @@ fn run_difference<T: Threads + Wait + Sync>(
     alloc: Global,
     parts: &[Part<'_>],
 ) -> Result<Option<String>, Wrong> {
-    let setup = Setup::of(alloc, parts)?;
+    let setup = given!(Setup::of(alloc, parts));
     let failing = setup.failing;
     let is_played = setup.form() == "play";
     let is_session = is_session(setup.form());
-    let ran = host_case(rt, alloc, setup)?;
-    match came_difference(alloc, parts, &ran, failing, is_played) {
+    let order = Order::of(given!(rules(alloc, parts)));
+    let Some(ran) = given!(ran_in(rt, alloc, setup, &order), Wrong::from(AllocError)) else {
+        let text = String::from_str(
+            alloc,
+            "handlers were asked something else, or one was not dropped once",
+        );
+        return Ok(Some(given!(text, Wrong::from(AllocError))));
+    };
+    match came_difference(alloc, parts, &ran, &order, failing, is_played) {
         Ok(None) => tried_difference(rt, alloc, parts, &ran, is_session),
         told => told,
     }
@@ -100,9 +156,10 @@ fn case_difference<T: Threads + Wait + Sync>(
     alloc: Global,
     parts: &[Part<'_>],
 ) -> Result<Option<String>, Wrong> {
-    for _ in 0..times(parts)? {
-        if let Some(text) = run_difference(rt, alloc, parts)? {
-            return Ok(Some(text));
+    for _ in 0..given!(times(parts)) {
+        match run_difference(rt, alloc, parts) {
+            Ok(None) => {}
+            told => return told,
         }
     }
     Ok(None)
@@ -116,6 +173,7 @@ fn only_of_words(parts: &[Part<'_>]) -> Result<(), Wrong> {
             Head::File,
             Head::Bytes,
             Head::Link,
+            Head::Order,
             Head::Times,
             Head::Fails,
             Head::Each,
@@ -134,6 +192,17 @@ fn only_of_words(parts: &[Part<'_>]) -> Result<(), Wrong> {
     )
 }
 
+// What differs of a case of words, whose other parts these are.
+fn words_difference<T: Threads + Wait + Sync>(
+    rt: &T,
+    alloc: Global,
+    parts: &[Part<'_>],
+    others: &[Part<'_>],
+) -> Result<Option<String>, Wrong> {
+    given!(only_of_words(others));
+    case_difference(rt, alloc, parts)
+}
+
 // The name of the case of some lines, and what is told of it where it is run.
 fn case_run<'a, T: Threads + Wait + Sync>(
     rt: &T,
@@ -146,20 +215,34 @@ fn case_run<'a, T: Threads + Wait + Sync>(
     let Some(name) = case_name(first.text) else {
         return Err(first.wrong(Fault::Case));
     };
-    let parts = parts(alloc, lines)?;
+    let parts = given!(parts(alloc, lines));
     let Some((part, others)) = parts.as_slice().split_first() else {
         return Err(first.wrong(Fault::Case));
     };
-    let told = match part.head {
-        Head::Words => {
-            only_of_words(others)?;
-            case_difference(rt, alloc, parts.as_slice())?
-        }
-        Head::Events => events_difference(alloc, part.rest, others)?,
-        Head::Reads => reads_difference(alloc, others)?,
-        _ => return Err(first.wrong(Fault::Case)),
+    let told = given!(match part.head {
+        Head::Words => words_difference(rt, alloc, parts.as_slice(), others),
+        Head::Events => events_difference(alloc, part.rest, others),
+        Head::Reads => reads_difference(alloc, others),
+        _ => Err(first.wrong(Fault::Case)),
+    });
+    let told = given!(judged(alloc, others, told), Wrong::from(AllocError));
+    Ok((name, told))
+}
+
+// Prints the line of a case, and says whether nothing differs, and it was told.
+fn told_line<R: Print>(
+    rt: &R,
+    alloc: Global,
+    file: &str,
+    name: &str,
+    difference: Option<String>,
+) -> Result<bool, AllocError> {
+    let text = match &difference {
+        Some(text) => text.as_str(),
+        None => "ok",
     };
-    Ok((name, judged(alloc, others, told)?))
+    let line = given!(format!(in alloc; "{file}/{name}: {text}"));
+    Ok(rt.println(line.as_str()).is_ok() && difference.is_none())
 }
 
 // Runs the cases of a text, and says whether all are right, and were told.
@@ -169,21 +252,18 @@ fn run_text<R: Threads + Wait + Sync + Print>(
     file: &str,
     text: &str,
 ) -> Result<bool, Wrong> {
-    let lines = lines(alloc, text)?;
+    let lines = given!(lines(alloc, text), Wrong::from(AllocError));
     let mut right = true;
     for chunk in lines
         .as_slice()
         .chunk_by(|_, next| case_name(next.text).is_none())
     {
-        let (name, difference) = case_run(rt, alloc, chunk)?;
-        let line = match difference {
-            None => format!(in alloc; "{file}/{name}: ok")?,
-            Some(text) => {
-                right = false;
-                format!(in alloc; "{file}/{name}: {text}")?
-            }
-        };
-        right = rt.println(line.as_str()).is_ok() && right;
+        let (name, difference) = given!(case_run(rt, alloc, chunk));
+        let told = given!(
+            told_line(rt, alloc, file, name, difference),
+            Wrong::from(AllocError)
+        );
+        right = told && right;
     }
     Ok(right)
 }
@@ -211,18 +291,10 @@ fn run_file<R: Threads + Wait + Sync + Print + Files + AllocGlobal>(rt: &R, name
     status_of(rt, name, run_text(rt, rt.alloc(), file, text.as_str()))
 }
 
-// Runs what a word names, and answers the status.
-fn run_word<R: Threads + Wait + Sync + Print + Files + AllocGlobal>(rt: &R, name: &str) -> u8 {
-    if name == HOSTED {
-        return status_of(rt, name, run_hosted(rt, rt.alloc()));
-    }
-    run_file(rt, name)
-}
-
 fn main(rt: HostRuntime) -> io::Result<ExitCode> {
     let mut status = RIGHT;
     for name in env::args(&rt)?.skip(1) {
-        status = status.max(run_word(&rt, name.as_str()));
+        status = status.max(run_file(&rt, name.as_str()));
     }
     Ok(ExitCode::from(status))
 }

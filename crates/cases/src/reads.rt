@@ -1,7 +1,8 @@
 //! Texts are read as reports.
 use case_files::part::{Head, Part, only};
-use case_files::setup::{Setup, number};
-use case_lines::fault::{Fault, Wrong};
+use case_files::reading::{reported, status_difference, wrong_difference};
+use case_files::setup::Setup;
+use case_lines::fault::Wrong;
 use case_lines::line::Line;
 use con_events::Event;
 use con_outside::SureSink;
@@ -35,7 +36,7 @@ fn written(alloc: Global, trace: &Trace) -> Result<Bytes, OutOfMemory> {
 
 // Whether what is written for a report's events are its lines before the last one.
 fn comes_back(alloc: Global, trace: &Trace, bytes: &[u8]) -> Result<bool, OutOfMemory> {
-    let written = written(alloc, trace)?;
+    let written = given!(written(alloc, trace));
     match bytes.strip_prefix(written.as_slice()) {
         Some(last) => Ok(last.starts_with(b"[\"end\",")),
         None => Ok(false),
@@ -49,37 +50,11 @@ fn report_difference(
     bytes: &[u8],
     parts: &[Part<'_>],
 ) -> Result<Option<String>, Wrong> {
-    if !comes_back(alloc, trace, bytes)? {
-        return Ok(Some(String::from_str(alloc, "written again it is another text")?));
+    if given!(comes_back(alloc, trace, bytes), Wrong::from(AllocError)) {
+        return status_difference(alloc, trace.status, parts);
     }
-    for part in parts {
-        if part.head == Head::Wrong {
-            return Ok(Some(String::from_str(alloc, "it is a report")?));
-        }
-        if part.head == Head::Status && number::<u8>(part.rest)? != trace.status {
-            let status = trace.status;
-            return Ok(Some(format!(in alloc; "status {status}")?));
-        }
-    }
-    Ok(None)
-}
-
-// The line that a part says: `at line 3`.
-fn wrong_line(line: Line<'_>) -> Result<u64, Wrong> {
-    match line.text.strip_prefix("at line ") {
-        Some(count) => number::<u64>(line.part(count)),
-        None => Err(line.wrong(Fault::Line)),
-    }
-}
-
-// What differs where a line of a text, counted from 1, is its first wrong one.
-fn wrong_difference(alloc: Global, at: u64, parts: &[Part<'_>]) -> Result<Option<String>, Wrong> {
-    for part in parts {
-        if part.head == Head::Wrong && wrong_line(part.rest)? == at {
-            return Ok(None);
-        }
-    }
-    Ok(Some(format!(in alloc; "it is wrong at line {at}")?))
+    let text = String::from_str(alloc, "written again it is another text");
+    Ok(Some(given!(text, Wrong::from(AllocError))))
 }
 
 // What differs where a text is read.
@@ -95,14 +70,8 @@ fn text_difference(
     }
 }
 
-// A line between two of a report.
-fn between(alloc: Global, line: &str) -> Result<Vec<u8>, AllocError> {
-    let mut bytes = Vec::new(alloc);
-    bytes.extend_from_slice(b"[\"t\",\"quiet\",[],[\"ok\"]]\n")?;
-    bytes.extend_from_slice(line.as_bytes())?;
-    bytes.extend_from_slice(b"\n[\"end\",0]\n")?;
-    Ok(bytes)
-}
+/// A line of a report that stands before another one.
+const BEFORE: &[u8] = b"[\"t\",\"quiet\",[],[\"ok\"]]\n";
 
 // Whether the second line of a text is its first wrong one.
 fn is_wrong_second(alloc: Global, bytes: &[u8]) -> bool {
@@ -113,19 +82,48 @@ fn is_wrong_second(alloc: Global, bytes: &[u8]) -> bool {
 }
 
 // The first of some lines that is not wrong between two lines of a report.
-fn taken(alloc: Global, lines: &[Line<'_>]) -> Result<Option<String>, Wrong> {
+fn taken(alloc: Global, lines: &[Line<'_>]) -> Result<Option<String>, AllocError> {
     for line in lines {
-        let bytes = between(alloc, line.text)?;
+        let bytes = given!(reported(alloc, BEFORE, line.text));
         if !is_wrong_second(alloc, bytes.as_slice()) {
             let number = line.number;
-            return Ok(Some(format!(in alloc; "line {number} of the file is not refused")?));
+            let text = format!(in alloc; "line {number} of the file is not refused");
+            return Ok(Some(given!(text)));
         }
     }
     Ok(None)
 }
 
-/// What differs where the texts of a case, and lines that are to be refused, are read.
-pub fn reads_difference(alloc: Global, parts: &[Part<'_>]) -> Result<Option<String>, Wrong> {
+// What differs of the first text of a case that does.
+fn texts_difference(
+    alloc: Global,
+    texts: &[Vec<u8>],
+    parts: &[Part<'_>],
+) -> Result<Option<String>, Wrong> {
+    for text in texts {
+        match text_difference(alloc, text.as_slice(), parts) {
+            Ok(None) => {}
+            told => return told,
+        }
+    }
+    Ok(None)
+}
+
+// What differs of the first lines that are to be refused and are not.
+fn unread_difference(alloc: Global, parts: &[Part<'_>]) -> Result<Option<String>, AllocError> {
+    for part in parts {
+        if part.head == Head::Unread {
+            match taken(alloc, part.lines) {
+                Ok(None) => {}
+                told => return told,
+            }
+        }
+    }
+    Ok(None)
+}
+
+// That each part says something of texts.
+fn only_of_texts(parts: &[Part<'_>]) -> Result<(), Wrong> {
     only(
         parts,
         &[
@@ -136,19 +134,18 @@ pub fn reads_difference(alloc: Global, parts: &[Part<'_>]) -> Result<Option<Stri
             Head::Unread,
             Head::Differs,
         ],
-    )?;
-    let setup = Setup::of(alloc, parts)?;
-    for text in setup.texts.as_slice() {
-        if let Some(text) = text_difference(alloc, text.as_slice(), parts)? {
-            return Ok(Some(text));
+    )
+}
+
+/// What differs where the texts of a case, and lines that are to be refused, are read.
+pub fn reads_difference(alloc: Global, parts: &[Part<'_>]) -> Result<Option<String>, Wrong> {
+    given!(only_of_texts(parts));
+    let setup = given!(Setup::of(alloc, parts));
+    match texts_difference(alloc, setup.texts.as_slice(), parts) {
+        Ok(None) => {
+            let told = unread_difference(alloc, parts);
+            Ok(given!(told, Wrong::from(AllocError)))
         }
+        told => told,
     }
-    for part in parts {
-        if part.head == Head::Unread {
-            if let Some(text) = taken(alloc, part.lines)? {
-                return Ok(Some(text));
-            }
-        }
-    }
-    Ok(None)
 }

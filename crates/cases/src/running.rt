@@ -3,7 +3,8 @@ ghost use Rattle.std.specs.Prelude.{◌≤◌, All, length};
 
 use crate::callers::status;
 use case_files::ends::{OrderedSink, OrderedSource};
-use case_files::order::{Order, Plan};
+use case_files::order::Order;
+use case_files::ran::Ran;
 use case_files::setup::{Failing, Setup};
 use con_handlers::{CtrlHandler, Note, Once, Swallow, Tally};
 use con_outside::{MemoryFiles, MemorySink, MemorySource};
@@ -18,15 +19,6 @@ const CLIENTS: usize = 64;
 /// The handlers of each client.
 pub type Racks = Vec<Vec<Box<dyn CtrlHandler + Send>>>;
 
-/// What a case answered, wrote to the terminal and to the second one, and reported.
-#[derive(Drop)]
-pub struct Ran {
-    pub status: u8,
-    pub written: Bytes,
-    pub second: Bytes,
-    pub report: Bytes,
-}
-
 // The calls that fail, as each end has them.
 #[derive(Drop)]
 struct FailLists {
@@ -38,16 +30,17 @@ struct FailLists {
 }
 
 fn listed(alloc: Global, failing: Failing) -> Result<FailLists, AllocError> {
-    let files = Vec::from_elem(alloc, failing.files, 1)?;
-    let link = Vec::from_elem(alloc, failing.link, 1)?;
-    let term = Vec::from_elem(alloc, failing.term, 1)?;
-    let second = Vec::from_elem(alloc, failing.second, 1)?;
+    let files = given!(Vec::from_elem(alloc, failing.files, 1), AllocError);
+    let link = given!(Vec::from_elem(alloc, failing.link, 1), AllocError);
+    let term = given!(Vec::from_elem(alloc, failing.term, 1), AllocError);
+    let second = given!(Vec::from_elem(alloc, failing.second, 1), AllocError);
+    let report = given!(Vec::from_elem(alloc, failing.report, 1), AllocError);
     Ok(FailLists {
         files,
         link,
         term,
         second,
-        report: Vec::from_elem(alloc, failing.report, 1)?,
+        report,
     })
 }
 
@@ -62,11 +55,12 @@ fn sink(alloc: Global, most: usize, fail: Vec<u64>) -> MemorySink {
     }
 }
 
-/// Runs what a case says, once, with a rack of the four handlers for each client.
+/// Runs what a case says, once, with a rack of the four handlers for each client, in an order.
 pub fn host_case<T: Threads + Wait + Sync>(
     rt: &T,
     alloc: Global,
     setup: Setup,
+    order: &Order,
 ) -> Result<Ran, AllocError> {
     let mut racks = Vec::new(alloc);
     for _ in 0..CLIENTS {
@@ -77,11 +71,11 @@ pub fn host_case<T: Threads + Wait + Sync>(
         rack.push(Box::new(alloc, Tally::new())?)?;
         racks.push(rack)?;
     }
-    host_ordered(rt, alloc, setup, racks, &Order::of(Plan::NONE))
+    host_racks(rt, alloc, setup, racks, order)
 }
 
 /// Runs what a case says, once, with these handlers, of which no rack has more than 255, in an order.
-pub fn host_ordered<T: Threads + Wait + Sync>(
+pub fn host_racks<T: Threads + Wait + Sync>(
     rt: &T,
     alloc: Global,
     setup: Setup,
@@ -90,7 +84,7 @@ pub fn host_ordered<T: Threads + Wait + Sync>(
 ) -> Result<Ran, AllocError>
     requires { All (λ rack. length rack.items ≤ 255) racks.items }
 {
-    let fails = listed(alloc, setup.failing)?;
+    let fails = given!(listed(alloc, setup.failing));
     let mut files = MemoryFiles {
         names: setup.names,
         texts: setup.texts,
