@@ -12,7 +12,7 @@ use con_book::{Book, Closed, Counted, EntryRoom, Machine, OfLogged, Pass};
 use con_units::OutOfMemory;
 
 /// A line of a report: who entered an event.
-#[derive(Clone, Copy, Debug, PartialEq, Eq, Drop)]
+#[derive(Drop)]
 pub struct Line {
     pub actor: u32,
 }

@@ -12,3 +12,14 @@ pub struct Outcome {
     pub sum: u64,
     pub ready: u32,
 }
+
+/// How many entries of a log are an actor's.
+pub fn entries_of(log: &[Logged<Tick>], actor: u32) -> usize {
+    let mut count = 0usize;
+    for entry in log {
+        if entry.actor == actor {
+            count = count.saturating_add(1);
+        }
+    }
+    count
+}
