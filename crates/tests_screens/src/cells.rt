@@ -1,3 +1,4 @@
-//! Cells and grids: callers, and what no session shows of grids.
+//! Cells and grids: callers, the numbers of rows, which no session shows, and cells that move past the place where a block ends.
 mod callers;
 mod grids;
+mod rows;

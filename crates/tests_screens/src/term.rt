@@ -1,4 +1,3 @@
-//! The specified terminal: a caller, its dumps, and units.
+//! The specified terminal: callers, and rows of dumps and of units.
 mod callers;
-mod dumps;
-mod units;
+mod rows;

@@ -1,24 +1,90 @@
-//! Values of con_units: tables of units and colours, words, rectangles, bytes and lists.
+//! Values of con_units: rows of colours, words and bytes, worked out by hand; callers of lists; and what is run: tables of units and rectangles, and how much
+//! memory a value takes.
+ghost use Rattle.std.specs.Prelude.{◌≡◌, ◌++◌, ◌∷◌, [], true, map, length, IfOk, option_to_list};
+ghost use Rattle.std.specs.List.{range_with_len};
+ghost use Rattle.con_units.specs.Attr.{plain};
+ghost use Rattle.con_units.specs.Code.{number_of};
+ghost use Rattle.con_units.specs.Glyph.{cell_of, plain_cell};
+ghost use Rattle.con_units.specs.Shade.{near};
+ghost use Rattle.con_units.specs.Split.{next, split};
+ghost use Rattle.con_units.specs.Utf8.{utf8};
+ghost use Rattle.con_units.specs.Words.Shade.{shade_of};
+ghost use Rattle.con_units.specs.declared.code.Code.TheVariants.{Limit, Aborted};
+ghost use Rattle.con_units.specs.declared.shade.Shade.TheVariants.{Index};
+ghost use Rattle.tests_screens.specs.Values.{nearest};
 
 use con_units::{
-    Attr, Bytes, Cell, Code, Decoded, Marks, Past, Rect, Rows, Shade, Units, Utf8, clip, index_of,
-    is_inverse_of_encoding, is_near_by_parts, is_read_by_cases, is_read_however_cut, near, stored,
+    Attr, Bytes, Cell, Marks, OutOfMemory, Past, Rect, Rows, Shade, Units, Utf8, clip, stored,
 };
-use std::alloc::Global;
-use std::test::Fail;
 
-// The colours that stand for the indices 16 to 255: for each red of 0 to 5 and each green a line by blue, then the greys.
-const NEAREST: [u8; 240] = [
-    0, 0, 0, 1, 1, 9, 0, 0, 0, 1, 1, 9, 0, 0, 0, 1, 1, 9, 2, 2, 2, 3, 3, 11, 2, 2, 2, 3, 3, 11, 10,
-    10, 10, 11, 11, 11, 0, 0, 0, 1, 1, 9, 0, 0, 0, 1, 1, 9, 0, 0, 0, 1, 1, 9, 2, 2, 2, 3, 3, 11, 2,
-    2, 2, 3, 3, 11, 10, 10, 10, 11, 11, 11, 0, 0, 0, 1, 1, 9, 0, 0, 0, 1, 1, 9, 0, 0, 0, 1, 1, 9,
-    2, 2, 2, 3, 3, 11, 2, 2, 2, 3, 3, 11, 10, 10, 10, 11, 11, 11, 4, 4, 4, 5, 5, 13, 4, 4, 4, 5, 5,
-    13, 4, 4, 4, 5, 5, 13, 6, 6, 6, 7, 7, 15, 6, 6, 6, 7, 7, 15, 14, 14, 14, 15, 15, 15, 4, 4, 4,
-    5, 5, 13, 4, 4, 4, 5, 5, 13, 4, 4, 4, 5, 5, 13, 6, 6, 6, 7, 7, 15, 6, 6, 6, 7, 7, 15, 14, 14,
-    14, 15, 15, 15, 12, 12, 12, 13, 13, 13, 12, 12, 12, 13, 13, 13, 12, 12, 12, 13, 13, 13, 14, 14,
-    14, 15, 15, 15, 14, 14, 14, 15, 15, 15, 14, 14, 14, 15, 15, 15, 0, 0, 0, 0, 0, 0, 8, 8, 8, 8,
-    8, 8, 7, 7, 7, 7, 7, 7, 15, 15, 15, 15, 15, 15,
-];
+/// The colours that stand for the indices 16 to 255.
+pub fn colours_are_the_nearest()
+    ensures { map near (range_with_len 16 240) ≡ nearest }
+{}
+
+/// Words, a unit and codes.
+pub fn numbers_are_those_of_the_table()
+    ensures word { (plain 0xFFFF).word ≡ 0xC0FF }
+    ensures unit { (cell_of 7 (plain 0x4031)).unit ≡ 0xFFFD }
+    ensures attr { (cell_of 7 (plain 0x4031)).attr.word ≡ 0x4031 }
+    ensures limit { number_of Limit ≡ 1816 }
+    ensures aborted { number_of Aborted ≡ 995 }
+{}
+
+/// A character of three bytes comes whole, and ill-formed bytes give one replacement for each part.
+pub fn characters_come_whole()
+    ensures first { split utf8 (0xE2 ∷ []) ≡ record { items = []; tail = 0xE2 ∷ [] } }
+    ensures second { next utf8 (0xE2 ∷ []) 0x82 ≡ record { items = []; tail = 0xE2 ∷ 0x82 ∷ [] } }
+    ensures euro { next utf8 (0xE2 ∷ 0x82 ∷ []) 0xAC ≡ record { items = 0x20AC ∷ []; tail = [] } }
+    ensures broken { next utf8 (0xF0 ∷ 0x90 ∷ []) 0x41 ≡ record { items = 0xFFFD ∷ 0x41 ∷ []; tail = [] } }
+    ensures held { split utf8 (0xF0 ∷ 0x90 ∷ []) ≡ record { items = []; tail = 0xF0 ∷ 0x90 ∷ [] } }
+{}
+
+/// How many bytes a decoder holds that is cleared behind a byte.
+pub fn held_behind(decoder: &mut Utf8, byte: u8) -> u8
+    ensures { result ≡ 0 }
+{
+    decoder.feed(byte);
+    decoder.clear();
+    decoder.held()
+}
+
+/// A cell keeps its shades, and has none as it is read.
+#[tactic(auto, unfolding(con_units::specs::Shade::near))]
+pub fn shaded_cell() -> Cell
+    ensures fore { result.attr.fore ≡ Index 196 }
+    ensures back { result.attr.back ≡ shade_of 21 }
+    ensures plain { plain_cell result ≡ cell_of 0x41 (plain 0xC09C) }
+{
+    Cell::new(
+        0x41,
+        Attr::shaded(0xC09C, Shade::Index(196), Shade::Index(21)),
+    )
+}
+
+/// How many units are the same in memory of their own.
+pub fn copied_count(units: &Units) -> Result<usize, OutOfMemory>
+    ensures { IfOk result (λ n. n ≡ length units.now) }
+{
+    let copy = units.copied()?;
+    Ok(copy.len())
+}
+
+/// Whether there are no bytes, and how many marks and cells there are.
+pub fn lengths(bytes: &Bytes, marks: &Marks, rows: &Rows) -> (bool, usize, usize)
+    ensures none { bytes.now ≡ [] → result.0 ≡ true }
+    ensures marks { result.1 ≡ length marks.now }
+    ensures rows { result.2 ≡ length rows.now }
+{
+    (bytes.is_empty(), marks.len(), rows.len())
+}
+
+/// A unit more in a list that is in proofs alone.
+pub fn grown(past: &mut Past<u16>, unit: u16)
+    ensures { past.new ≡ past.old ++ unit ∷ [] }
+{
+    past.push(unit);
+}
 
 // Units, and what a cell stores of each.
 const STORED: [(u16, u16); 12] = [
@@ -45,29 +111,6 @@ fn first_wrong_unit() -> usize {
         }
     }
     STORED.len()
-}
-
-// The first index whose nearest colour is another one, or 256.
-fn first_wrong_index() -> usize {
-    is_near_by_parts();
-    for at in 0..NEAREST.len() {
-        if near(at as u8 + 16) != NEAREST[at] {
-            return at + 16;
-        }
-    }
-    NEAREST.len() + 16
-}
-
-// Words, a unit and codes.
-fn numbers() -> [u32; 5] {
-    let cell = Cell::new(7, Attr::of(0x4031));
-    [
-        Attr::of(0xFFFF).bits() as u32,
-        cell.unit() as u32,
-        cell.attr().bits() as u32,
-        Code::Limit.number(),
-        Code::Aborted.number(),
-    ]
 }
 
 // Whether rectangles meet in their common cells, and those that have none do not.
@@ -99,95 +142,8 @@ fn rectangles_meet() -> bool {
     clip(screen, over) == Some(corner) && clip(corner, beside) == None
 }
 
-// What comes of bytes, and how many are held after the second and at the end.
-fn decoded() -> ([Decoded; 4], [u8; 2]) {
-    is_read_by_cases();
-    is_read_however_cut();
-    is_inverse_of_encoding();
-    let mut decoder = Utf8::new();
-    let first = decoder.feed(0xE2);
-    let second = decoder.feed(0x82);
-    let held = decoder.held();
-    let euro = decoder.feed(0xAC);
-    decoder.feed(0xF0);
-    decoder.feed(0x90);
-    let broken = decoder.feed(0x41);
-    decoder.feed(0xC3);
-    decoder.clear();
-    ([first, second, euro, broken], [held, decoder.held()])
-}
-
-// Whether a character of three bytes comes whole, and ill-formed bytes give one replacement for each part.
-fn characters_are_decoded() -> bool {
-    let (found, held) = decoded();
-    let nothing = Decoded {
-        first: None,
-        second: None,
-    };
-    let euro = Decoded {
-        first: Some('\u{20AC}'),
-        second: None,
-    };
-    let broken = Decoded {
-        first: Some('\u{FFFD}'),
-        second: Some('A'),
-    };
-    found == [nothing, nothing, euro, broken] && held == [2, 0]
-}
-
-// Whether units are the same in memory of their own.
-fn units_are_copied(alloc: Global) -> Result<bool, Fail> {
-    let units = Units(Vec::from_array(alloc, [0x61, 0x62])?);
-    let copy = units.copied()?;
-    Ok(units.len() == 2 && copy.as_slice() == [0x61, 0x62].as_slice())
-}
-
-// How many bytes, marks and cells lists of none, one and one hold, and what a list in proofs alone takes.
-fn lengths(alloc: Global) -> Result<[usize; 5], Fail> {
-    let mut past = Past::new();
-    past.push(7u16);
-    let marks = Marks(Vec::from_array(alloc, [true])?);
-    let rows = Rows(Vec::from_array(alloc, [Cell::new(0x61, Attr::of(7))])?);
-    let empty = Bytes(Vec::new(alloc)).is_empty() as usize;
-    Ok([
-        empty,
-        marks.len(),
-        rows.len(),
-        size_of::<Past<u16>>(),
-        index_of(3),
-    ])
-}
-
-// Whether a cell keeps its shades.
-#[tactic(auto, unfolding(con_units::specs::Shade::near))]
-fn shades_are_kept() -> bool {
-    let cell = Cell::new(
-        0x41,
-        Attr::shaded(0xC09C, Shade::Index(196), Shade::Index(21)),
-    );
-    cell.attr().fore() == Shade::Index(196)
-        && cell.attr().back() == Shade::of(21)
-        && cell.plain() == Cell::new(0x41, Attr::of(0xC09C))
-}
-
 #[test]
-fn values_are_those_of_the_tables(rt: HostRuntime) {
-    assert_eq!(rt; [first_wrong_unit(), first_wrong_index()], [12, 256]);
-    assert_eq!(rt; numbers(), [0xC0FF, 0xFFFD, 0x4031, 1816, 995]);
-    assert_eq!(rt;
-        [
-            rectangles_meet(),
-            characters_are_decoded(),
-            shades_are_kept()
-        ],
-        [true; 3]
-    );
-}
-
-#[test]
-fn lists_have_their_lengths(rt: HostRuntime) -> Result<(), Fail> {
-    let copied = units_are_copied(rt.alloc())?;
-    let lengths = lengths(rt.alloc())?;
-    assert!(rt; copied && lengths == [1, 1, 1, 0, 3] && size_of::<Cell>() == 8);
-    Ok(())
+fn units_are_stored_and_rectangles_meet(rt: HostRuntime) {
+    let sizes = [size_of::<Past<u16>>(), size_of::<Cell>()];
+    assert!(rt; first_wrong_unit() == 12 && rectangles_meet() && sizes == [0, 8]);
 }

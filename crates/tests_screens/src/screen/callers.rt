@@ -1,5 +1,8 @@
 //! Callers that use the clauses and laws of con_screen at every value.
-ghost use Rattle.std.specs.Prelude.{◌≡◌, ◌+◌, ◌*◌, ◌<◌, ◌≤◌, ◌^◌, OnOk, OnErr, length, take};
+ghost use Rattle.std.specs.Prelude.{◌≡◌, ◌+◌, ◌*◌, ◌<◌, ◌≤◌, ◌^◌, [], true, OnOk, OnErr, length, take, option_to_list};
+ghost use Rattle.con_units.specs.Split.{next};
+ghost use Rattle.con_vtgram.specs.Text.{grammar};
+ghost use Rattle.con_vtgram.specs.State.{item_of};
 ghost use Rattle.con_page.specs.Sides.{sides};
 ghost use Rattle.con_page.specs.Words.Page.{IsPage};
 ghost use Rattle.con_screen.specs.Told.{nothing_told};
@@ -9,6 +12,7 @@ ghost use Rattle.con_screen.specs.Written.{written};
 use con_page::Origin;
 use con_screen::{Answers, Screen, is_told_within};
 use con_units::{Code, Coord, OutOfMemory};
+use con_vtgram::{Found, Splitter};
 
 /// Sets the pen and the mode.
 pub fn restyle(screen: &mut Screen, word: u16, mode: u32) -> Result<(), Code>
@@ -95,4 +99,21 @@ pub fn write_anew(screen: &mut Screen, units: &[u16], answers: &mut Answers) -> 
 {
     answers.forget();
     screen.write(units, answers)
+}
+
+/// Forgets an unfinished text: the next unit comes as behind none.
+pub fn begin_anew(splitter: &mut Splitter, unit: u16) -> Found
+    ensures items { option_to_list (item_of result unit splitter.new.sequence) ≡ (next grammar [] unit).items }
+    ensures tail { splitter.new.tail ≡ (next grammar [] unit).tail }
+{
+    splitter.clear();
+    splitter.advance(unit)
+}
+
+/// Whether an unfinished text is forgotten.
+pub fn is_forgotten(splitter: &mut Splitter) -> bool
+    ensures { result ≡ true }
+{
+    splitter.clear();
+    splitter.is_clear()
 }
