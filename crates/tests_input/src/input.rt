@@ -1,5 +1,4 @@
 //! The outside, keys, mouse reports and link frames: callers, and what no session shows.
 mod callers;
-mod keys;
-mod mouse;
 mod outside;
+mod rows;

@@ -1,5 +1,4 @@
 //! Handles, processes and handlers: callers, and what no session shows.
 mod callers;
 mod chains;
-mod handles;
-mod processes;
+mod rows;

@@ -2,6 +2,6 @@
 //! data of `cases`.
 mod callers;
 mod drawn;
-mod limits;
 mod reports;
+mod rows;
 mod values;

@@ -102,27 +102,35 @@ fn write_failing_at(alloc: Global, call: u64, out: &mut Vec<u8>) -> Result<u64, 
     Ok(if answer.is_err() { sink.faults } else { 0 })
 }
 
+// What is read where each read fails in turn, and then what is written, each with whether it failed, up to the first one that did not.
+fn put_failing(alloc: Global, seen: &mut Vec<u8>) -> Result<(), Fail> {
+    for call in 0..8 {
+        let faults = read_failing_at(alloc, call, seen)?;
+        seen.push(if faults == 0 { 0x30 } else { 0x31 })?;
+        if faults == 0 {
+            break;
+        }
+    }
+    for call in 0..8 {
+        let faults = write_failing_at(alloc, call, seen)?;
+        seen.push(if faults == 0 { 0x30 } else { 0x31 })?;
+        if faults == 0 {
+            break;
+        }
+    }
+    Ok(())
+}
+
+fn is_failing_in_turn(alloc: Global) -> Result<bool, Fail> {
+    let mut seen = Vec::new(alloc);
+    put_failing(alloc, &mut seen)?;
+    Ok(seen.as_slice() == b"1ab1abcd1abcde1abcde01ab1abcd1abcde0".as_slice())
+}
+
 #[test]
 fn each_read_and_each_write_fails_in_turn(rt: HostRuntime) -> Result<(), Fail> {
-    let mut seen = Vec::new(rt.alloc());
-    for call in 0..8 {
-        let faults = read_failing_at(rt.alloc(), call, &mut seen)?;
-        seen.push(if faults == 0 { 0x30 } else { 0x31 })?;
-        if faults == 0 {
-            break;
-        }
-    }
-    for call in 0..8 {
-        let faults = write_failing_at(rt.alloc(), call, &mut seen)?;
-        seen.push(if faults == 0 { 0x30 } else { 0x31 })?;
-        if faults == 0 {
-            break;
-        }
-    }
-    assert_eq!(rt;
-        seen.as_slice(),
-        b"1ab1abcd1abcde1abcde01ab1abcd1abcde0".as_slice()
-    );
+    let failing = is_failing_in_turn(rt.alloc())?;
+    assert!(rt; failing);
     Ok(())
 }
 
@@ -134,37 +142,80 @@ fn counts_stay_at_the_greatest_number(rt: HostRuntime) {
     assert!(rt; fails(&[u64::MAX], &mut calls) && calls == u64::MAX && faults == u64::MAX);
 }
 
-#[test]
-fn files_in_memory_are_found_by_name(rt: HostRuntime) -> Result<(), Fail> {
-    let mut files = MemoryFiles {
-        names: vec![in rt.alloc();
-            String::from_str(rt.alloc(), "a")?,
-            String::from_str(rt.alloc(), "ab")?,
-        ]?,
-        texts: vec![in rt.alloc(); Vec::from_array(rt.alloc(), *b"one")?]?,
-        fail: Vec::from_array(rt.alloc(), [1])?,
+// What a file's name is answered.
+fn answer<F: Files>(alloc: Global, files: &mut F, name: &str) -> Result<Found, Fault> {
+    let mut out = Vec::new(alloc);
+    files.read_all(name, &mut out)
+}
+
+// Whether a file is found whole, with this text.
+fn has<F: Files>(alloc: Global, files: &mut F, name: &str, text: &[u8]) -> bool {
+    let mut out = Vec::new(alloc);
+    files.read_all(name, &mut out) == Ok(Found::Whole) && out.as_slice() == text
+}
+
+// The names of two files.
+fn names(alloc: Global) -> Result<Vec<String>, Fail> {
+    let mut names = Vec::new(alloc);
+    names.push(String::from_str(alloc, "a")?)?;
+    names.push(String::from_str(alloc, "ab")?)?;
+    Ok(names)
+}
+
+// The text of the first one.
+fn texts(alloc: Global) -> Result<Vec<Vec<u8>>, Fail> {
+    let mut texts = Vec::new(alloc);
+    texts.push(Vec::from_array(alloc, *b"one")?)?;
+    Ok(texts)
+}
+
+// Files in memory of which the second read fails.
+fn memory_files(alloc: Global) -> Result<MemoryFiles, Fail> {
+    let names = names(alloc)?;
+    let texts = texts(alloc)?;
+    let fail = Vec::from_array(alloc, [1])?;
+    Ok(MemoryFiles {
+        names,
+        texts,
+        fail,
         calls: 0,
         faults: 0,
-    };
-    let mut first = Vec::new(rt.alloc());
-    let mut none = Vec::new(rt.alloc());
-    let mut missing = Vec::new(rt.alloc());
-    let answers = [
-        files.read_all("a", &mut first),
-        files.read_all("a", &mut none),
-        files.read_all("ab", &mut missing),
-    ];
-    let mut sure = SureFiles {
-        names: files.names,
-        texts: files.texts,
-    };
-    let mut last = Vec::new(rt.alloc());
-    let whole = sure.read_all("a", &mut last) == Ok(Found::Whole);
-    let read = first.as_slice() == b"one".as_slice() && last.as_slice() == b"one".as_slice();
-    assert!(rt;
-        whole && read && answers == [Ok(Found::Whole), Err(Fault::Failed), Ok(Found::Missing)]
-    );
+    })
+}
+
+fn are_found(alloc: Global, files: &mut MemoryFiles) -> bool {
+    has(alloc, files, "a", b"one")
+        && answer(alloc, files, "a") == Err(Fault::Failed)
+        && answer(alloc, files, "ab") == Ok(Found::Missing)
+}
+
+fn are_found_in_memory(alloc: Global) -> Result<bool, Fail> {
+    let mut files = memory_files(alloc)?;
+    Ok(are_found(alloc, &mut files))
+}
+
+fn is_surely_found(alloc: Global) -> Result<bool, Fail> {
+    let names = names(alloc)?;
+    let texts = texts(alloc)?;
+    let mut files = SureFiles { names, texts };
+    Ok(has(alloc, &mut files, "a", b"one"))
+}
+
+#[test]
+fn files_in_memory_are_found_by_name(rt: HostRuntime) -> Result<(), Fail> {
+    let found = are_found_in_memory(rt.alloc())?;
+    let surely = is_surely_found(rt.alloc())?;
+    assert!(rt; found && surely);
     Ok(())
+}
+
+// Whether files of the system are read whole, and only the one that cannot be read counts as a failure.
+fn are_read(alloc: Global, files: &mut DiskFiles<HostRuntime>) -> bool {
+    has(alloc, files, "/proc/sys/kernel/ostype", b"Linux\n")
+        && answer(alloc, files, "/no/such/file") == Ok(Found::Missing)
+        && answer(alloc, files, "/dev/zero") == Ok(Found::TooLong)
+        && answer(alloc, files, "/") == Err(Fault::Failed)
+        && files.faults == 1
 }
 
 #[test]
@@ -173,27 +224,29 @@ fn files_of_the_system_are_read_whole(rt: HostRuntime) -> Result<(), Fail> {
         rt: rt.clone()?,
         faults: 0,
     };
-    let mut kind = Vec::new(rt.alloc());
-    let mut none = Vec::new(rt.alloc());
-    let mut long = Vec::new(rt.alloc());
-    let mut folder = Vec::new(rt.alloc());
-    let answers = [
-        files.read_all("/proc/sys/kernel/ostype", &mut kind),
-        files.read_all("/no/such/file", &mut none),
-        files.read_all("/dev/zero", &mut long),
-        files.read_all("/", &mut folder),
-    ];
-    let wanted = [
-        Ok(Found::Whole),
-        Ok(Found::Missing),
-        Ok(Found::TooLong),
-        Err(Fault::Failed),
-    ];
-    assert!(rt; answers == wanted && kind.as_slice() == b"Linux\n".as_slice() && files.faults == 1);
+    let read = are_read(rt.alloc(), &mut files);
+    assert!(rt; read);
     let gate = NoGate;
     gate.before(1, 0);
     gate.after(1, 0);
     Ok(())
+}
+
+// Whether a write fails while the file's name is a folder's.
+fn is_refused(rt: &HostRuntime, sink: &mut DiskSink<HostRuntime>) -> Result<bool, Fail> {
+    fs::create_dir(rt, MIRROR_FILE)?;
+    let refused = sink.write(b"x") == Err(Fault::Failed) && sink.faults == 1;
+    fs::remove_dir(rt, MIRROR_FILE)?;
+    Ok(refused)
+}
+
+// Whether the file has what was written, and nothing of an older one.
+fn is_written(rt: &HostRuntime, sink: &mut DiskSink<HostRuntime>) -> Result<bool, Fail> {
+    fs::write(rt, MIRROR_FILE, "older")?;
+    let answers = [write_whole(sink, b"ab"), write_whole(sink, b"c")];
+    let text = fs::read(rt, MIRROR_FILE)?;
+    fs::remove_file(rt, MIRROR_FILE)?;
+    Ok(answers == [Ok(()), Ok(())] && text.as_slice() == b"abc".as_slice())
 }
 
 #[test]
@@ -205,13 +258,8 @@ fn a_file_of_the_system_is_made_at_the_first_write_that_it_takes(
         file: None,
         faults: 0,
     };
-    fs::create_dir(&rt, MIRROR_FILE)?;
-    let refused = sink.write(b"x") == Err(Fault::Failed) && sink.faults == 1;
-    fs::remove_dir(&rt, MIRROR_FILE)?;
-    fs::write(&rt, MIRROR_FILE, "older")?;
-    let answers = [write_whole(&mut sink, b"ab"), write_whole(&mut sink, b"c")];
-    let text = fs::read(&rt, MIRROR_FILE)?;
-    fs::remove_file(&rt, MIRROR_FILE)?;
-    assert!(rt; refused && answers == [Ok(()), Ok(())] && text.as_slice() == b"abc".as_slice());
+    let refused = is_refused(&rt, &mut sink)?;
+    let written = is_written(&rt, &mut sink)?;
+    assert!(rt; refused && written);
     Ok(())
 }
