@@ -14,7 +14,7 @@ use Rattle.con_text.specs.Typing.{Typed}
 use Rattle.con_inspect.specs.Auditing.{Audits, HasAudited}
 use Rattle.con_inspect.specs.Four.{Four, four_of}
 use Rattle.con_words.specs.Words.{Asked, typing, playing, running, solo, mirroring, generating, auditing}
-use Rattle.con_sessions.specs.Laws.{no_memory as no_generating, no_memory as no_running, no_mirror, no_turns}
+use Rattle.con_sessions.specs.Laws.{no_generating, no_mirror, no_running, no_turns}
 use Rattle.con_ending.specs.Laws.{nothing_yet}
 
 pub no_form : (s : ℕ) (asked : Option Asked) (files : Option (List ℕ → Option (List ℕ))) (files_failed : Type 0) (racks : List (List ℕ)) (before old second before_report report : Option (List ℕ)) (failed second_failed : Type 0) → None ≡ asked → Tells s (worded 2 (codes "usage")) before_report report failed
