@@ -34,6 +34,14 @@ fn mark_of(client: u8, n: u32) -> u64 {
     1u64.checked_shl(place.saturating_mul(4)).unwrap_or(0)
 }
 
+// Whether a letter of this code is among some bytes.
+fn has_letter(bytes: &[u8], code: u64) -> bool {
+    match u8::try_from(code) {
+        Ok(letter) => bytes.contains(&letter),
+        Err(_) => false,
+    }
+}
+
 // The power of a client's place.
 fn power_of(client: u8) -> u64 {
     let place = u32::from(client).saturating_sub(1);
@@ -87,7 +95,7 @@ impl Order {
         for rule in self.rules.as_slice() {
             let [first, second, _, _] = rule.numbers;
             match rule.kind {
-                Kind::Letter if bytes.contains(&(first as u8)) => self.come(second),
+                Kind::Letter if has_letter(bytes, first) => self.come(second),
                 Kind::Term => {
                     self.come(first);
                     self.wait(second);

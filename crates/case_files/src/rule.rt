@@ -41,7 +41,7 @@ pub struct Rule {
 fn kind_of(word: &str) -> Option<(Kind, usize)> {
     match word {
         "step" => Some((Kind::Step, 4)),
-        "link" => Some((Kind::Link, 2)),
+        "from" => Some((Kind::Link, 2)),
         "letter" => Some((Kind::Letter, 2)),
         "term" => Some((Kind::Term, 2)),
         "meet" => Some((Kind::Meet, 2)),

@@ -162,8 +162,8 @@ fn escape_of(c: char) -> Option<char> {
 
 // One more digit of a number.
 fn digit(left: u8, code: u16, c: char) -> Option<(At, Option<Item>)> {
-    let digit = c.to_digit(16)?;
-    let code = (code << 4) | digit as u16;
+    let digit = u16::try_from(c.to_digit(16)?).ok()?;
+    let code = (code << 4) | digit;
     if left <= 1 {
         Some((At::Text, Some(Item::Code(code))))
     } else {
